@@ -1,0 +1,4 @@
+pub mod Opened
+pub mod ComputedExamples
+pub mod GeneralExamples
+pub mod Examples

@@ -1,0 +1,5 @@
+pub mod WordLaws
+pub mod ReceiverLaws
+pub mod FrameLaws
+pub mod RecordLaws
+pub mod RulesLaws

@@ -1,0 +1,91 @@
+-- The link record, as the rules see it and as the serial loop lends it, and when it is in range.
+use Prim.Native.Nat.{ℕ, _≤_}
+use mathlib.Core.Path.{_≡_}
+use mathlib.Core.Bool.{Bool, true, false, _&&_}
+use mathlib.Core.List.{List, []}
+use lib.ListN.{length, getD, take}
+use lib.Dec.{leb, eqb}
+use Rattle.link.specs.declared.record.Link.{Link}
+use Rattle.link.specs.Words.{if_then_else_, isEmpty, pad, zeroFrom}
+use Rattle.link.specs.Frame.{Begins, Whole, isWhole}
+use Rattle.link.specs.Receiver.{isBeginning}
+
+-- "receiver bytes, expected bit, send bit, outstanding frame, count of resends", and whether the receiver drops.
+-- A bit is true where it is odd; no outstanding bytes: nothing is outstanding.
+pub record Line : Type 0 where
+  pub gathered : List ℕ
+  pub dropping : Bool
+  pub expected : Bool
+  pub send : Bool
+  pub outstanding : List ℕ
+  pub resends : ℕ
+
+-- what the record holds
+unfoldable pub lineOf : Link → Line
+lineOf k =
+    record {
+      gathered = take (k .received) (k .receiver);
+      dropping = k .dropping;
+      expected = k .expected;
+      send = k .send;
+      outstanding = take (k .held) (k .outstanding);
+      resends = k .resends;
+    }
+
+-- how the record holds it: unused bytes are 0
+unfoldable pub linkOf : Line → Link
+linkOf l =
+    record {
+      receiver = pad 260 (l .gathered);
+      received = length (l .gathered);
+      dropping = l .dropping;
+      expected = l .expected;
+      send = l .send;
+      outstanding = pad 261 (l .outstanding);
+      held = length (l .outstanding);
+      resends = l .resends;
+    }
+
+-- "Control from host: 73 (count bit odd) or 53 (even); from server: F3 or D3."
+unfoldable pub hostControl : Bool → ℕ
+hostControl odd = if odd then 0x73 else 0x53
+
+unfoldable pub serverControl : Bool → ℕ
+serverControl odd = if odd then 0xF3 else 0xD3
+
+-- "It is in range when the receiver bytes are a beginning, not the whole, of some sound frame, or none while the receiver drops"
+unfoldable pub receiverOk : Line → Bool
+receiverOk l = if l .dropping then isEmpty (l .gathered) else isBeginning (l .gathered)
+
+-- "either nothing is outstanding and the count is 0, or a whole server data frame is, under the send bit, with a count of 0 to 3"
+unfoldable pub outstandingOk : Line → Bool
+outstandingOk l =
+    if isEmpty (l .outstanding) then eqb (l .resends) 0
+    else isWhole (serverControl (l .send)) (l .outstanding) && leb (l .resends) 3
+
+unfoldable pub lineOk : Line → Bool
+lineOk l = receiverOk l && outstandingOk l
+
+-- the lengths are within the memory, "and [..] its unused bytes are 0"
+unfoldable pub unusedOk : Link → Bool
+unusedOk k = leb (k .received) 260 && leb (k .held) 261 && zeroFrom (k .received) (k .receiver) && zeroFrom (k .held) (k .outstanding)
+
+unfoldable pub inRange : Link → Bool
+inRange k = unusedOk k && lineOk (lineOf k)
+
+-- ---- the same in the paper's words
+pub data ReceiverInRange (l : Line) : Type 0 where
+  beginning : l .dropping ≡ false → Begins (l .gathered) → ReceiverInRange l
+  drops : l .dropping ≡ true → l .gathered ≡ [] → ReceiverInRange l
+
+pub data OutstandingInRange (l : Line) : Type 0 where
+  holds-nothing : l .outstanding ≡ [] → l .resends ≡ 0 → OutstandingInRange l
+  holds-frame : Whole (serverControl (l .send)) (l .outstanding) → l .resends ≤ 3 → OutstandingInRange l
+
+pub record InRange (k : Link) : Type 0 where
+  pub receivedFits : k .received ≤ 260
+  pub heldFits : k .held ≤ 261
+  pub receiverUnused : (i : ℕ) → k .received ≤ i → getD (k .receiver) i 0 ≡ 0
+  pub outstandingUnused : (i : ℕ) → k .held ≤ i → getD (k .outstanding) i 0 ≡ 0
+  pub receiverInRange : ReceiverInRange (lineOf k)
+  pub outstandingInRange : OutstandingInRange (lineOf k)

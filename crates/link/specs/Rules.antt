@@ -1,0 +1,115 @@
+-- The link rules of the server end. "The link rules know nothing of datapoints: the link hands up a message and takes one back." It also tells
+-- when the outstanding frame was acknowledged and when the host asked for a reset; neither touches a table.
+use Prim.Native.Nat.{ℕ, _+_}
+use mathlib.Core.Bool.{Bool, true, false, not, _||_}
+use mathlib.Core.List.{List, [], _∷_, _++_}
+use lib.ListN.{length}
+use lib.Dec.{ltb, eqb}
+use Rattle.link.specs.declared.receiver.Judgement.{Judgement}
+use Rattle.link.specs.declared.receiver.Judgement.the-variants.{More, Damage, Acknowledgement, Fixed, Data}
+use Rattle.link.specs.Words.{if_then_else_, isEmpty}
+use Rattle.link.specs.Frame.{acknowledgement, fixedFrame, dataFrame, longestMessage, messageOf}
+use Rattle.link.specs.Receiver.{judged}
+use Rattle.link.specs.Record.{Line, hostControl, serverControl}
+
+-- what the link hands up: nothing, that the outstanding frame was acknowledged, that the host asked for a reset, or a message to be carried out
+pub data Up : Type 0 where
+  nothing : Up
+  acknowledged : Up
+  reset : Up
+  message : List ℕ → Up
+
+-- what a rule does: the bytes sent, what is handed up, and the line after it
+pub record Moved : Type 0 where
+  pub sent : List ℕ
+  pub up : Up
+  pub line : Line
+
+abbrev pub still : Line → Moved
+still l = record { sent = []; up = nothing; line = l }
+
+-- the line with another receiver
+abbrev pub receiving : List ℕ → Bool → Line → Line
+receiving g d l = record { gathered = g; dropping = d; expected = l .expected; send = l .send; outstanding = l .outstanding; resends = l .resends }
+
+-- the receiver at a frame start
+unfoldable pub atStart : Line → Line
+atStart l = receiving [] false l
+
+-- "the rest is dropped up to the next idle mark"
+unfoldable pub startDropping : Line → Line
+startDropping l = receiving [] true l
+
+unfoldable pub gathering : List ℕ → Line → Line
+gathering g l = receiving g false l
+
+-- nothing outstanding any more, and this send bit: "one that is cleared or dropped leaves count 0 and none of its bytes"
+unfoldable pub cleared : Bool → Line → Line
+cleared send l = record { gathered = l .gathered; dropping = l .dropping; expected = l .expected; send = send; outstanding = []; resends = 0 }
+
+-- this frame outstanding, sent again so often
+unfoldable pub holding : List ℕ → ℕ → Line → Line
+holding f n l = record { gathered = l .gathered; dropping = l .dropping; expected = l .expected; send = l .send; outstanding = f; resends = n }
+
+unfoldable pub expecting : Bool → Line → Line
+expecting odd l = record { gathered = l .gathered; dropping = l .dropping; expected = odd; send = l .send; outstanding = l .outstanding; resends = l .resends }
+
+-- "Clears the outstanding frame and flips the send bit; with nothing outstanding it is ignored."
+unfoldable pub onAcknowledgement : Line → Moved
+onAcknowledgement l =
+    if isEmpty (l .outstanding) then still l
+    else record { sent = []; up = acknowledged; line = cleared (not (l .send)) l }
+
+-- "C = 40 is the reset request: answered E5, both bits become odd, the outstanding frame is dropped, tables stay. Other C: whole frame ignored, unanswered."
+unfoldable pub onFixedFrame : ℕ → Line → Moved
+onFixedFrame c l =
+    if eqb c 0x40 then record { sent = acknowledgement; up = reset; line = expecting true (cleared true l) }
+    else still l
+
+-- "Expected count bit, nothing outstanding: E5, bit flips, message carried out [..]. Expected bit, something outstanding: dropped, unanswered, bit kept (build)."
+unfoldable pub onExpected : List ℕ → Line → Moved
+onExpected m l =
+    if isEmpty (l .outstanding) then record { sent = acknowledgement; up = message m; line = expecting (not (l .expected)) l }
+    else still l
+
+-- "Other bit: E5, message dropped."
+unfoldable pub onRepeat : Line → Moved
+onRepeat l = record { sent = acknowledgement; up = nothing; line = l }
+
+-- "A sound frame with another control byte is ignored, unanswered."
+unfoldable pub onDataFrame : ℕ → List ℕ → Line → Moved
+onDataFrame c m l =
+    if eqb c (hostControl (l .expected)) then onExpected m l
+    else if eqb c (hostControl (not (l .expected))) then onRepeat l
+    else still l
+
+-- "After every idle mark, whole frame or acknowledgement the receiver is at a frame start"; damage: "the rest is dropped up to the next idle mark"
+unfoldable pub onJudged : Judgement → ℕ → Line → Moved
+onJudged More b l = still (gathering (l .gathered ++ b ∷ []) l)
+onJudged Damage b l = still (startDropping l)
+onJudged Acknowledgement b l = onAcknowledgement (atStart l)
+onJudged (Fixed c) b l = onFixedFrame c (atStart l)
+onJudged (Data c n) b l = onDataFrame c (messageOf (l .gathered ++ b ∷ [])) (atStart l)
+
+-- a host byte
+unfoldable pub onHostByte : ℕ → Line → Moved
+onHostByte b l = if l .dropping then still l else onJudged (judged (l .gathered) b) b l
+
+-- "An idle mark in mid-frame drops what was gathered. After every idle mark [..] the receiver is at a frame start; the mark alters nothing else."
+unfoldable pub onIdleMark : Line → Moved
+onIdleMark l = still (atStart l)
+
+-- "outstanding frame sent again unaltered, three times at most. The fourth wait drops it, sends 10 C0 C0 16 and makes the send bit odd (build).
+-- With nothing outstanding: nothing."
+unfoldable pub onAckWaitOver : Line → Moved
+onAckWaitOver l =
+    if isEmpty (l .outstanding) then still l
+    else if ltb (l .resends) 3 then record { sent = l .outstanding; up = nothing; line = holding (l .outstanding) (l .resends + 1) l }
+    else record { sent = fixedFrame 0xC0; up = nothing; line = cleared true l }
+
+-- A message is taken back: framed, sent and held as outstanding; "a new frame starts with count 0". No message is empty, and none is taken that is
+-- above 254 bytes or comes while something is outstanding: nothing sent, nothing changed. The services and the server meet neither of the two.
+unfoldable pub onMessage : List ℕ → Line → Moved
+onMessage m l =
+    if isEmpty m || ltb longestMessage (length m) || not (isEmpty (l .outstanding)) then still l
+    else record { sent = dataFrame (serverControl (l .send)) m; up = nothing; line = holding (dataFrame (serverControl (l .send)) m) 0 l }

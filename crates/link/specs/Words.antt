@@ -1,0 +1,55 @@
+-- Words that all definitions share: a choice, two-byte numbers, padding, tests on lists. The library's own tests on lists do not compute
+-- (`all`) or ask for proofs (`filter`), so these have names of their own.
+use Prim.Native.Nat.{ℕ, _+_, _-_, _*_, _/_, _%_}
+use mathlib.Core.Bool.{Bool, true, false, _&&_}
+use mathlib.Core.List.{List, [], _∷_, _++_}
+use lib.ListN.{length, drop, replicate}
+use lib.Dec.{ltb, eqb}
+
+infixr 10 if_then_else_
+abbrev pub if_then_else_ {ℓ} : {A : Type ℓ} → Bool → A → A → A
+if_then_else_ true a b = a
+if_then_else_ false a b = b
+
+-- "Numbers of two bytes are big-endian."
+abbrev pub twoBytes : ℕ → List ℕ
+twoBytes n = n / 256 ∷ n % 256 ∷ []
+
+abbrev pub ofTwoBytes : ℕ → ℕ → ℕ
+ofTwoBytes high low = high * 256 + low
+
+-- the bytes s in an array of n places, with 0 behind them
+abbrev pub pad : ℕ → List ℕ → List ℕ
+pad n s = s ++ replicate (n - length s) 0
+
+abbrev pub isEmpty {ℓ} : {A : Type ℓ} → List A → Bool
+isEmpty [] = true
+isEmpty (x ∷ xs) = false
+
+-- each element passes the test
+abbrev pub every {ℓ} : {A : Type ℓ} → (A → Bool) → List A → Bool
+every p [] = true
+every p (x ∷ xs) = p x && every p xs
+
+-- the elements that pass the test, in their order
+abbrev pub keep {ℓ} : {A : Type ℓ} → (A → Bool) → List A → List A
+keep p [] = []
+keep p (x ∷ xs) = let rest = keep p xs in if p x then x ∷ rest else rest
+
+-- the two lists are the same, by a test of their elements
+abbrev pub sameBy {ℓ} : {A : Type ℓ} → (A → A → Bool) → List A → List A → Bool
+sameBy eq [] [] = true
+sameBy eq [] (y ∷ ys) = false
+sameBy eq (x ∷ xs) [] = false
+sameBy eq (x ∷ xs) (y ∷ ys) = eq x y && sameBy eq xs ys
+
+abbrev pub same : List ℕ → List ℕ → Bool
+same = sameBy eqb
+
+-- all places of the array a from place n on hold 0
+unfoldable pub zeroFrom : ℕ → List ℕ → Bool
+zeroFrom n a = every (λ x. eqb x 0) (drop n a)
+
+-- every number is a byte
+unfoldable pub areBytes : List ℕ → Bool
+areBytes s = every (λ x. ltb x 256) s

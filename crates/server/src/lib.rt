@@ -1,0 +1,3 @@
+// The server: one call takes an event and answers with the bytes to send.
+pub mod event;
+pub mod reply;

@@ -1,0 +1,5 @@
+pub mod TableLaws
+pub mod DatapointLaws
+pub mod AnswerLaws
+pub mod KeepLaws
+pub mod ServiceExamples
