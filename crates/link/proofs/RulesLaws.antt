@@ -164,3 +164,48 @@ message-ok m l t = go (isEmpty m || ltb 254 (length m)) (isEmpty (l .outstanding
     go false true e d =
         simp (e, d)
         (both (receiverOk (holding (dataFrame c m) 0 l)) _ (unfold receiverOk holding in (unfold receiverOk in left (receiverOk l) (outstandingOk l) t)) (framed (short e)))
+
+-- ---- a message is handed up only with nothing outstanding, so that its answer is never kept back
+acknowledgement-up : (l : Line) (m : List ℕ) → onAcknowledgement l .up ≡ message m → ⊥
+unfolding onAcknowledgement
+acknowledgement-up l m h = go (isEmpty (l .outstanding)) refl
+  where
+    go : (u : Bool) → isEmpty (l .outstanding) ≡ u → ⊥
+    go true e = let z : _≡_ {A = ℕ} 0 1 = cc (simp e at h) in omega arith
+    go false e = let z : _≡_ {A = ℕ} 0 1 = cc (simp e at h) in omega arith
+
+fixed-up : (c : ℕ) (l : Line) (m : List ℕ) → onFixedFrame c l .up ≡ message m → ⊥
+unfolding onFixedFrame
+fixed-up c l m h = go (eqb c 0x40) refl
+  where
+    go : (u : Bool) → eqb c 0x40 ≡ u → ⊥
+    go true e = let z : _≡_ {A = ℕ} 0 1 = cc (simp e at h) in omega arith
+    go false e = let z : _≡_ {A = ℕ} 0 1 = cc (simp e at h) in omega arith
+
+data-up : (c : ℕ) (s : List ℕ) (l : Line) (m : List ℕ) → onDataFrame c s l .up ≡ message m → isEmpty (onDataFrame c s l .line .outstanding) ≡ true
+unfolding onDataFrame onExpected onRepeat expecting
+data-up c s l m h = go (eqb c (hostControl (l .expected))) (isEmpty (l .outstanding)) (eqb c (hostControl (not (l .expected)))) refl refl refl
+  where
+    go : (u v w : Bool) → eqb c (hostControl (l .expected)) ≡ u → isEmpty (l .outstanding) ≡ v → eqb c (hostControl (not (l .expected))) ≡ w → isEmpty (onDataFrame c s l .line .outstanding) ≡ true
+    go true true w e d f = simp (e, d)
+    go true false w e d f = let z : _≡_ {A = ℕ} 0 1 = cc (simp (e, d) at h) in absurd (omega arith)
+    go false v true e d f = let z : _≡_ {A = ℕ} 0 1 = cc (simp (e, f) at h) in absurd (omega arith)
+    go false v false e d f = let z : _≡_ {A = ℕ} 0 1 = cc (simp (e, f) at h) in absurd (omega arith)
+
+pub message-free : (b : ℕ) (l : Line) (m : List ℕ) → onHostByte b l .up ≡ message m → isEmpty (onHostByte b l .line .outstanding) ≡ true
+unfolding onHostByte
+message-free b l m h = go (l .dropping) refl
+  where
+    still-up : nothing ≡ message m → ⊥
+    still-up e = let z : _≡_ {A = ℕ} 0 1 = cc in omega arith
+
+    of-judged : (j : Judgement) → onJudged j b l .up ≡ message m → isEmpty (onJudged j b l .line .outstanding) ≡ true
+    of-judged More e = absurd (still-up (unfold onJudged in e))
+    of-judged Damage e = absurd (still-up (unfold onJudged in e))
+    of-judged Acknowledgement e = absurd (acknowledgement-up (atStart l) m (unfold onJudged in e))
+    of-judged (Fixed c) e = absurd (fixed-up c (atStart l) m (unfold onJudged in e))
+    of-judged (Data c n) e = unfold onJudged in data-up c (messageOf (l .gathered ++ b ∷ [])) (atStart l) m (unfold onJudged in e)
+
+    go : (u : Bool) → l .dropping ≡ u → isEmpty (onHostByte b l .line .outstanding) ≡ true
+    go true e = let z : _≡_ {A = ℕ} 0 1 = cc (simp e at h) in absurd (omega arith)
+    go false e = simp e (of-judged (judged (l .gathered) b) (simp e at h))
