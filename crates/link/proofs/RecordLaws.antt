@@ -6,15 +6,14 @@ use mathlib.Core.Bool.{Bool, true, false, _&&_}
 use mathlib.Core.List.{List, [], _∷_, _++_}
 use native.Mathlib.Omega.{arith}
 use lib.ListN.{length, getD, take}
-use lib.Seq.{length-take-le}
 use lib.Dec.{T, leb, eqb, leb→le, le→leb, eqb→eq}
 use borrow.Author.Tests.{eq-eqb}
 use Rattle.link.specs.declared.record.Link.{Link}
-use Rattle.link.specs.Words.{if_then_else_, isEmpty, pad, zeroFrom, areBytes}
+use Rattle.link.specs.Words.{if_then_else_, isEmpty, pad, isPadded, areBytes}
 use Rattle.link.specs.Frame.{Begins, Whole, isWhole, dataFrame}
 use Rattle.link.specs.Receiver.{isBeginning}
-use Rattle.link.specs.Record.{Line, lineOf, linkOf, serverControl, receiverOk, outstandingOk, lineOk, unusedOk, inRange, ReceiverInRange, beginning, drops, OutstandingInRange, holds-nothing, holds-frame, InRange}
-use Rattle.link.proofs.WordLaws.{left, right, both, parts4, join4, T-true, true-T, take-pad, pad-take, zero-pad, zero-decided, bytes-take, empty-eq}
+use Rattle.link.specs.Record.{Line, lineOf, linkOf, serverControl, receiverOk, outstandingOk, lineOk, memoryOk, inRange, ReceiverInRange, beginning, drops, OutstandingInRange, holds-nothing, holds-frame, InRange}
+use Rattle.link.proofs.WordLaws.{left, right, both, T-true, take-pad, pad-take, pad-padded, padded-length, padded-decided, bytes-take, empty-eq}
 use Rattle.link.proofs.ReceiverLaws.{beginning-short}
 use Rattle.link.proofs.FrameLaws.{tested-begins, begins-tested, tested-whole, whole-tested}
 
@@ -24,17 +23,16 @@ unfolding lineOf linkOf
 lineOf-linkOf l =
     λ i. record { gathered = take-pad 260 (l .gathered) i; dropping = l .dropping; expected = l .expected; send = l .send; outstanding = take-pad 261 (l .outstanding) i; resends = l .resends }
 
--- a record of 260 and 261 places whose unused bytes are 0 holds nothing beside what it holds
-pub linkOf-lineOf : (k : Link) → length (k .receiver) ≡ 260 → length (k .outstanding) ≡ 261 → T (unusedOk k) → linkOf (lineOf k) ≡ k
-unfolding lineOf linkOf unusedOk
-linkOf-lineOf k e d t =
-    let t4 = parts4 (leb (k .received) 260) (leb (k .held) 261) (zeroFrom (k .received) (k .receiver)) (zeroFrom (k .held) (k .outstanding)) t in
-    let n : k .received ≤ 260 = leb→le (k .received) 260 (t4 .0) in
-    let h : k .held ≤ 261 = leb→le (k .held) 261 (t4 .1) in
-    let p : pad 260 (take (k .received) (k .receiver)) ≡ k .receiver = pad-take 260 (k .received) (k .receiver) e n (t4 .2) in
-    let q : pad 261 (take (k .held) (k .outstanding)) ≡ k .outstanding = pad-take 261 (k .held) (k .outstanding) d h (t4 .3) in
-    let u : length (take (k .received) (k .receiver)) ≡ k .received = length-take-le (k .received) (k .receiver) (omega arith) in
-    let v : length (take (k .held) (k .outstanding)) ≡ k .held = length-take-le (k .held) (k .outstanding) (omega arith) in
+-- a record whose unused bytes are 0 holds nothing beside what it holds
+pub linkOf-lineOf : (k : Link) → T (memoryOk k) → linkOf (lineOf k) ≡ k
+unfolding lineOf linkOf memoryOk
+linkOf-lineOf k t =
+    let r = left (isPadded 260 (k .received) (k .receiver)) (isPadded 261 (k .held) (k .outstanding)) t in
+    let o = right (isPadded 260 (k .received) (k .receiver)) (isPadded 261 (k .held) (k .outstanding)) t in
+    let p = pad-take 260 (k .received) (k .receiver) r in
+    let q = pad-take 261 (k .held) (k .outstanding) o in
+    let u = padded-length 260 (k .received) (k .receiver) r in
+    let v = padded-length 261 (k .held) (k .outstanding) o in
     λ i. record { receiver = p i; received = u i; dropping = k .dropping; expected = k .expected; send = k .send; outstanding = q i; held = v i; resends = k .resends }
 
 -- ---- a line that is in order fits its record
@@ -58,13 +56,11 @@ outstanding-short l t = go (l .outstanding) refl
 pub line-in-range : (l : Line) → T (lineOk l) → T (inRange (linkOf l))
 unfolding inRange lineOk
 line-in-range l t =
-    both (unusedOk (linkOf l)) (receiverOk (lineOf (linkOf l)) && outstandingOk (lineOf (linkOf l)))
-    (unfold unusedOk linkOf in
-    join4 (leb (length (l .gathered)) 260) (leb (length (l .outstanding)) 261) (zeroFrom (length (l .gathered)) (pad 260 (l .gathered))) (zeroFrom (length (l .outstanding)) (pad 261 (l .outstanding)))
-    (le→leb (length (l .gathered)) 260 (gathered-short l (left (receiverOk l) (outstandingOk l) t)))
-    (le→leb (length (l .outstanding)) 261 (outstanding-short l (right (receiverOk l) (outstandingOk l) t)))
-    (zero-pad 260 (length (l .gathered)) (l .gathered) refl)
-    (zero-pad 261 (length (l .outstanding)) (l .outstanding) refl))
+    both (memoryOk (linkOf l)) (receiverOk (lineOf (linkOf l)) && outstandingOk (lineOf (linkOf l)))
+    (unfold memoryOk linkOf in
+    both (isPadded 260 (length (l .gathered)) (pad 260 (l .gathered))) (isPadded 261 (length (l .outstanding)) (pad 261 (l .outstanding)))
+    (pad-padded 260 (length (l .gathered)) (l .gathered) refl (gathered-short l (left (receiverOk l) (outstandingOk l) t)))
+    (pad-padded 261 (length (l .outstanding)) (l .outstanding) refl (outstanding-short l (right (receiverOk l) (outstandingOk l) t))))
     (rw lineOf-linkOf t)
 
 -- ---- the range test decides the paper's words
@@ -105,42 +101,34 @@ outstanding-decided l = (to (isEmpty (l .outstanding)) refl, from)
 
 -- "It is in range when ..": the test decides it, for a record whose receiver holds bytes
 pub in-range-decided : (k : Link) → T (areBytes (k .receiver)) → T (inRange k) ↔ InRange k
-unfolding inRange lineOk unusedOk
+unfolding inRange lineOk memoryOk
 in-range-decided k bytes = (to, from)
   where
     l : Line
     l = lineOf k
 
     a : Bool
-    a = leb (k .received) 260
+    a = isPadded 260 (k .received) (k .receiver)
 
     b : Bool
-    b = leb (k .held) 261
-
-    c : Bool
-    c = zeroFrom (k .received) (k .receiver)
-
-    d : Bool
-    d = zeroFrom (k .held) (k .outstanding)
+    b = isPadded 261 (k .held) (k .outstanding)
 
     gathered-bytes : T (areBytes (l .gathered))
     gathered-bytes = unfold lineOf in bytes-take (k .received) (k .receiver) bytes
 
     to : T (inRange k) → InRange k
     to t =
-        let u = parts4 a b c d (left (a && b && c && d) (receiverOk l && outstandingOk l) t) in
-        let o = right (a && b && c && d) (receiverOk l && outstandingOk l) t in
+        let m = left (a && b) (receiverOk l && outstandingOk l) t in
+        let o = right (a && b) (receiverOk l && outstandingOk l) t in
         record {
-          receivedFits = leb→le (k .received) 260 (u .0);
-          heldFits = leb→le (k .held) 261 (u .1);
-          receiverUnused = zero-decided (k .received) (k .receiver) .0 (u .2);
-          outstandingUnused = zero-decided (k .held) (k .outstanding) .0 (u .3);
+          receiverPadded = padded-decided 260 (k .received) (k .receiver) .0 (left a b m);
+          outstandingPadded = padded-decided 261 (k .held) (k .outstanding) .0 (right a b m);
           receiverInRange = receiver-decided l gathered-bytes .0 (left (receiverOk l) (outstandingOk l) o);
           outstandingInRange = outstanding-decided l .0 (right (receiverOk l) (outstandingOk l) o);
         }
 
     from : InRange k → T (inRange k)
     from r =
-        both (a && b && c && d) (receiverOk l && outstandingOk l)
-        (join4 a b c d (le→leb (k .received) 260 (r .receivedFits)) (le→leb (k .held) 261 (r .heldFits)) (zero-decided (k .received) (k .receiver) .1 (r .receiverUnused)) (zero-decided (k .held) (k .outstanding) .1 (r .outstandingUnused)))
+        both (a && b) (receiverOk l && outstandingOk l)
+        (both a b (padded-decided 260 (k .received) (k .receiver) .1 (r .receiverPadded)) (padded-decided 261 (k .held) (k .outstanding) .1 (r .outstandingPadded)))
         (both (receiverOk l) (outstandingOk l) (receiver-decided l gathered-bytes .1 (r .receiverInRange)) (outstanding-decided l .1 (r .outstandingInRange)))

@@ -6,11 +6,11 @@ use mathlib.Core.Bool.{Bool, true, false, not, _&&_, _||_, Bool·beq}
 use mathlib.Core.List.{List, [], _∷_, _++_, map}
 use native.Mathlib.Omega.{arith}
 use native.Mathlib.Nat.{not-suc-le-zero, le-of-suc-le-suc}
-use lib.ListN.{length, getD, take, drop, replicate, length-drop, take-append-drop}
+use lib.ListN.{length, getD, take, drop, replicate, length-append, length-drop, length-replicate, take-append-drop}
 use lib.Seq.{take-append-seam, drop-append-seam, getD-drop, length-take-le}
-use lib.Dec.{T, eqb, ltb, eqb→eq, eqb-refl, ltb→lt, lt→ltb}
+use lib.Dec.{T, eqb, leb, ltb, eqb→eq, eqb-refl, leb→le, le→leb, ltb→lt, lt→ltb}
 use borrow.Author.Tests.{eq-eqb}
-use Rattle.link.specs.Words.{if_then_else_, isEmpty, every, keep, pad, same, sameBy, zeroFrom, areBytes}
+use Rattle.link.specs.Words.{if_then_else_, isEmpty, every, keep, pad, same, sameBy, areZero, isPadded, Padded, areBytes}
 
 -- ---- tests
 pub left : (a b : Bool) → T (a && b) → T a
@@ -121,13 +121,21 @@ eq→same xs ys e = rw e (same-refl ys)
 pub take-pad : (n : ℕ) (s : List ℕ) → take (length s) (pad n s) ≡ s
 take-pad n s = take-append-seam s (replicate (n - length s) 0)
 
-zeros : (k : ℕ) → T (every (λ x. eqb x 0) (replicate k 0))
+zeros : (k : ℕ) → T (areZero (replicate k 0))
+unfolding areZero
 zeros zero = tt
 zeros (suc k) = zeros k
 
-pub zero-pad : (n k : ℕ) (s : List ℕ) → length s ≡ k → T (zeroFrom k (pad n s))
-unfolding zeroFrom
-zero-pad n k s e = rw (← e) (rw (drop-append-seam s (replicate (n - length s) 0)) (zeros (n - length s)))
+length-pad : (n : ℕ) (s : List ℕ) → length s ≤ n → length (pad n s) ≡ n
+length-pad n s h = omega (arith, length-append s (replicate (n - length s) 0), length-replicate {A = ℕ} (n - length s) 0)
+
+pub pad-padded : (places n : ℕ) (s : List ℕ) → length s ≡ n → n ≤ places → T (isPadded places n (pad places s))
+unfolding isPadded
+pad-padded places n s e h =
+    join3 (eqb (length (pad places s)) places) (leb n places) (areZero (drop n (pad places s)))
+    (true-T (eq-eqb (length (pad places s)) places (length-pad places s (omega arith))))
+    (le→leb n places h)
+    (rw (← e) (rw (drop-append-seam s (replicate (places - length s) 0)) (zeros (places - length s))))
 
 -- ---- bytes
 pub bytes-at : (s : List ℕ) (i : ℕ) → T (areBytes s) → i < length s → getD s i 0 < 256
@@ -140,35 +148,59 @@ pub bytes-take : (n : ℕ) (s : List ℕ) → T (areBytes s) → T (areBytes (ta
 unfolding areBytes
 bytes-take n s t = every-prefix (λ x. ltb x 256) (take n s) (drop n s) (rw (take-append-drop n s) t)
 
--- ---- an array whose places from n on hold 0
-zeros-at : (s : List ℕ) (i : ℕ) → T (every (λ x. eqb x 0) s) → getD s i 0 ≡ 0
+-- ---- a padded array
+zeros-at : (s : List ℕ) (i : ℕ) → T (areZero s) → getD s i 0 ≡ 0
+unfolding areZero
 zeros-at [] i t = refl
-zeros-at (x ∷ s) zero t = eqb→eq x 0 (left (eqb x 0) (every (λ y. eqb y 0) s) t)
-zeros-at (x ∷ s) (suc i) t = zeros-at s i (right (eqb x 0) (every (λ y. eqb y 0) s) t)
+zeros-at (x ∷ s) zero t = eqb→eq x 0 (left (eqb x 0) (areZero s) t)
+zeros-at (x ∷ s) (suc i) t = zeros-at s i (right (eqb x 0) (areZero s) t)
 
-at-zeros : (s : List ℕ) → ((i : ℕ) → getD s i 0 ≡ 0) → T (every (λ x. eqb x 0) s)
+at-zeros : (s : List ℕ) → ((i : ℕ) → getD s i 0 ≡ 0) → T (areZero s)
+unfolding areZero
 at-zeros [] h = tt
-at-zeros (x ∷ s) h = both (eqb x 0) (every (λ y. eqb y 0) s) (true-T (eq-eqb x 0 (h 0))) (at-zeros s (λ i. h (suc i)))
+at-zeros (x ∷ s) h = both (eqb x 0) (areZero s) (true-T (eq-eqb x 0 (h 0))) (at-zeros s (λ i. h (suc i)))
 
-pub zero-decided : (n : ℕ) (a : List ℕ) → T (zeroFrom n a) ↔ ((i : ℕ) → n ≤ i → getD a i 0 ≡ 0)
-unfolding zeroFrom
-zero-decided n a = (
-  λ t i h. ap (λ (k : ℕ). getD a k 0) (omega arith) ∙ sym (getD-drop n a (i - n) 0) ∙ zeros-at (drop n a) (i - n) t,
-  λ h. at-zeros (drop n a) (λ i. getD-drop n a i 0 ∙ h (n + i) (omega arith)),
-)
+pub padded-decided : (places n : ℕ) (a : List ℕ) → T (isPadded places n a) ↔ Padded places n a
+unfolding isPadded
+padded-decided places n a = (to, from)
+  where
+    to : T (isPadded places n a) → Padded places n a
+    to t =
+        let p = parts3 (eqb (length a) places) (leb n places) (areZero (drop n a)) t in
+        record {
+          memory = eqb→eq (length a) places (p .0);
+          within = leb→le n places (p .1);
+          unused = λ i h. ap (λ (k : ℕ). getD a k 0) (omega arith) ∙ sym (getD-drop n a (i - n) 0) ∙ zeros-at (drop n a) (i - n) (p .2);
+        }
 
-zeros-are : (s : List ℕ) → T (every (λ x. eqb x 0) s) → s ≡ replicate (length s) 0
+    from : Padded places n a → T (isPadded places n a)
+    from p =
+        join3 (eqb (length a) places) (leb n places) (areZero (drop n a)) (true-T (eq-eqb (length a) places (p .memory))) (le→leb n places (p .within))
+        (at-zeros (drop n a) (λ i. getD-drop n a i 0 ∙ p .unused (n + i) (omega arith)))
+
+pub zeros-are : (s : List ℕ) → T (areZero s) → s ≡ replicate (length s) 0
+unfolding areZero
 zeros-are [] t = refl
 zeros-are (x ∷ s) t =
-    let p : x ≡ 0 = eqb→eq x 0 (left (eqb x 0) (every (λ y. eqb y 0) s) t) in
-    let q : s ≡ replicate (length s) 0 = zeros-are s (right (eqb x 0) (every (λ y. eqb y 0) s) t) in
+    let p : x ≡ 0 = eqb→eq x 0 (left (eqb x 0) (areZero s) t) in
+    let q : s ≡ replicate (length s) 0 = zeros-are s (right (eqb x 0) (areZero s) t) in
     λ i. p i ∷ q i
 
--- such an array is its used bytes, padded
-pub pad-take : (places n : ℕ) (a : List ℕ) → length a ≡ places → n ≤ places → T (zeroFrom n a) → pad places (take n a) ≡ a
-unfolding zeroFrom
-pad-take places n a e h t =
+-- a padded array is its used bytes, padded
+pub pad-take : (places n : ℕ) (a : List ℕ) → T (isPadded places n a) → pad places (take n a) ≡ a
+unfolding isPadded
+pad-take places n a t =
+    let p = parts3 (eqb (length a) places) (leb n places) (areZero (drop n a)) t in
+    let e : length a ≡ places = eqb→eq (length a) places (p .0) in
+    let h : n ≤ places = leb→le n places (p .1) in
     let k : length (take n a) ≡ n = length-take-le n a (omega arith) in
     let j : length (drop n a) ≡ places - length (take n a) = omega (arith, length-drop n a) in
-    let z : drop n a ≡ replicate (places - length (take n a)) 0 = zeros-are (drop n a) t ∙ ap {B = List ℕ} (λ (i : ℕ). replicate i 0) j in
+    let z : drop n a ≡ replicate (places - length (take n a)) 0 = zeros-are (drop n a) (p .2) ∙ ap {B = List ℕ} (λ (i : ℕ). replicate i 0) j in
     ap {B = List ℕ} (λ (r : List ℕ). take n a ++ r) (sym z) ∙ take-append-drop n a
+
+-- how many bytes of it are in use
+pub padded-length : (places n : ℕ) (a : List ℕ) → T (isPadded places n a) → length (take n a) ≡ n
+unfolding isPadded
+padded-length places n a t =
+    let p = parts3 (eqb (length a) places) (leb n places) (areZero (drop n a)) t in
+    length-take-le n a (omega (arith, eqb→eq (length a) places (p .0), leb→le n places (p .1)))

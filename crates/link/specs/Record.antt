@@ -3,10 +3,10 @@ use Prim.Native.Nat.{ℕ, _≤_}
 use mathlib.Core.Path.{_≡_}
 use mathlib.Core.Bool.{Bool, true, false, _&&_}
 use mathlib.Core.List.{List, []}
-use lib.ListN.{length, getD, take}
+use lib.ListN.{length, take}
 use lib.Dec.{leb, eqb}
 use Rattle.link.specs.declared.record.Link.{Link}
-use Rattle.link.specs.Words.{if_then_else_, isEmpty, pad, zeroFrom}
+use Rattle.link.specs.Words.{if_then_else_, isEmpty, pad, isPadded, Padded}
 use Rattle.link.specs.Frame.{Begins, Whole, isWhole}
 use Rattle.link.specs.Receiver.{isBeginning}
 
@@ -67,11 +67,11 @@ unfoldable pub lineOk : Line → Bool
 lineOk l = receiverOk l && outstandingOk l
 
 -- the lengths are within the memory, "and [..] its unused bytes are 0"
-unfoldable pub unusedOk : Link → Bool
-unusedOk k = leb (k .received) 260 && leb (k .held) 261 && zeroFrom (k .received) (k .receiver) && zeroFrom (k .held) (k .outstanding)
+unfoldable pub memoryOk : Link → Bool
+memoryOk k = isPadded 260 (k .received) (k .receiver) && isPadded 261 (k .held) (k .outstanding)
 
 unfoldable pub inRange : Link → Bool
-inRange k = unusedOk k && lineOk (lineOf k)
+inRange k = memoryOk k && lineOk (lineOf k)
 
 -- ---- the same in the paper's words
 pub data ReceiverInRange (l : Line) : Type 0 where
@@ -83,9 +83,7 @@ pub data OutstandingInRange (l : Line) : Type 0 where
   holds-frame : Whole (serverControl (l .send)) (l .outstanding) → l .resends ≤ 3 → OutstandingInRange l
 
 pub record InRange (k : Link) : Type 0 where
-  pub receivedFits : k .received ≤ 260
-  pub heldFits : k .held ≤ 261
-  pub receiverUnused : (i : ℕ) → k .received ≤ i → getD (k .receiver) i 0 ≡ 0
-  pub outstandingUnused : (i : ℕ) → k .held ≤ i → getD (k .outstanding) i 0 ≡ 0
+  pub receiverPadded : Padded 260 (k .received) (k .receiver)
+  pub outstandingPadded : Padded 261 (k .held) (k .outstanding)
   pub receiverInRange : ReceiverInRange (lineOf k)
   pub outstandingInRange : OutstandingInRange (lineOf k)

@@ -1,10 +1,11 @@
 -- Words that all definitions share: a choice, two-byte numbers, padding, tests on lists. The library's own tests on lists do not compute
 -- (`all`) or ask for proofs (`filter`), so these have names of their own.
-use Prim.Native.Nat.{ℕ, _+_, _-_, _*_, _/_, _%_}
+use Prim.Native.Nat.{ℕ, _+_, _-_, _*_, _/_, _%_, _≤_}
+use mathlib.Core.Path.{_≡_}
 use mathlib.Core.Bool.{Bool, true, false, _&&_}
 use mathlib.Core.List.{List, [], _∷_, _++_}
-use lib.ListN.{length, drop, replicate}
-use lib.Dec.{ltb, eqb}
+use lib.ListN.{length, getD, drop, replicate}
+use lib.Dec.{leb, ltb, eqb}
 
 infixr 10 if_then_else_
 abbrev pub if_then_else_ {ℓ} : {A : Type ℓ} → Bool → A → A → A
@@ -46,9 +47,18 @@ sameBy eq (x ∷ xs) (y ∷ ys) = eq x y && sameBy eq xs ys
 abbrev pub same : List ℕ → List ℕ → Bool
 same = sameBy eqb
 
--- all places of the array a from place n on hold 0
-unfoldable pub zeroFrom : ℕ → List ℕ → Bool
-zeroFrom n a = every (λ x. eqb x 0) (drop n a)
+unfoldable pub areZero : List ℕ → Bool
+areZero s = every (λ x. eqb x 0) s
+
+-- the array a of so many places has n bytes in use, and its unused bytes are 0
+unfoldable pub isPadded : ℕ → ℕ → List ℕ → Bool
+isPadded places n a = eqb (length a) places && leb n places && areZero (drop n a)
+
+-- the same as a statement
+pub record Padded (places n : ℕ) (a : List ℕ) : Type 0 where
+  pub memory : length a ≡ places
+  pub within : n ≤ places
+  pub unused : (i : ℕ) → n ≤ i → getD a i 0 ≡ 0
 
 -- every number is a byte
 unfoldable pub areBytes : List ℕ → Bool

@@ -11,7 +11,7 @@ use borrow.Author.Tests.{ltb-true, ltb-false, lt-ltb, le-ltb, ne-eqb, eqb-true}
 use Rattle.link.specs.Words.{if_then_else_, isEmpty, every}
 use Rattle.link.specs.declared.record.Link.{Link}
 use Rattle.link.specs.Frame.{longestMessage}
-use Rattle.link.specs.Record.{Line, lineOf, linkOf, lineOk, unusedOk, inRange}
+use Rattle.link.specs.Record.{Line, lineOf, linkOf, lineOk, memoryOk, inRange}
 use Rattle.link.specs.Rules.{Up, nothing, acknowledged, reset, message, Moved, onHostByte, onIdleMark, onAckWaitOver, onMessage}
 use Rattle.link.proofs.WordLaws.{left, right, both, T-true, true-T, T-false}
 use Rattle.link.proofs.RecordLaws.{line-in-range}
@@ -170,7 +170,7 @@ pub record NotRefused (c : Called) : Type 0 where
 
 line-of-ok : (k : Link) → T (inRange k) → T (lineOk (lineOf k))
 unfolding inRange
-line-of-ok k t = right (unusedOk k) (lineOk (lineOf k)) t
+line-of-ok k t = right (memoryOk k) (lineOk (lineOf k)) t
 
 pub call-lasts : (e : Event) (v : List ℕ) (t : Tables) (k : Link) (out : List ℕ) → refusal e v t k (length out) ≡ 0 → NotRefused (call e v t k out)
 unfolding call accepted

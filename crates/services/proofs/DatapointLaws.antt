@@ -6,9 +6,9 @@ use mathlib.Core.List.{List, [], _∷_, _++_}
 use native.Mathlib.Omega.{arith}
 use lib.ListN.{length, getD, take, replicate}
 use lib.Seq.{take-at}
-use lib.Dec.{T, leb, ltb, eqb, ltb→lt, lt→ltb, eqb→eq}
-use Rattle.link.specs.Words.{if_then_else_, pad, zeroFrom}
-use Rattle.link.proofs.WordLaws.{left, right, both, parts3, parts4, join3, join4, zero-pad}
+use lib.Dec.{T, leb, ltb, eqb, leb→le, ltb→lt, lt→ltb, eqb→eq}
+use Rattle.link.specs.Words.{if_then_else_, pad, every, isPadded}
+use Rattle.link.proofs.WordLaws.{left, right, both, parts4, join4, pad-padded, padded-decided}
 use Rattle.services.specs.declared.datapoint.Datapoint.{Datapoint}
 use Rattle.services.specs.declared.item.Item.{Item}
 use Rattle.services.specs.Datapoint.{sizeOf, limitOf, unusedBitsOk, isValue, valueOf, datapointOk, withValid, withoutUpdated, withRequest, withStatus, fromBus, withState, withValue, withMark, handedOut, busValue, outcome, commanded}
@@ -51,18 +51,18 @@ pub record Parts (d : Datapoint) : Type 0 where
   pub typecode : T (leb (d .typecode) 14)
   pub state : d .state < 32
   pub bits : T (unusedBitsOk (d .typecode) (valueOf d))
-  pub unused : T (zeroFrom (sizeOf (d .typecode)) (d .value))
+  pub unused : T (isPadded 14 (sizeOf (d .typecode)) (d .value))
 
 pub parts : (d : Datapoint) → T (datapointOk d) → Parts d
 unfolding datapointOk
 parts d t =
-    let p = parts4 (leb (d .typecode) 14) (ltb (d .state) 32) (unusedBitsOk (d .typecode) (valueOf d)) (zeroFrom (sizeOf (d .typecode)) (d .value)) t in
+    let p = parts4 (leb (d .typecode) 14) (ltb (d .state) 32) (unusedBitsOk (d .typecode) (valueOf d)) (isPadded 14 (sizeOf (d .typecode)) (d .value)) t in
     record { typecode = p .0; state = ltb→lt (d .state) 32 (p .1); bits = p .2; unused = p .3 }
 
 pub whole : (d : Datapoint) → Parts d → T (datapointOk d)
 unfolding datapointOk
 whole d p =
-    join4 (leb (d .typecode) 14) (ltb (d .state) 32) (unusedBitsOk (d .typecode) (valueOf d)) (zeroFrom (sizeOf (d .typecode)) (d .value))
+    join4 (leb (d .typecode) 14) (ltb (d .state) 32) (unusedBitsOk (d .typecode) (valueOf d)) (isPadded 14 (sizeOf (d .typecode)) (d .value))
     (p .typecode) (lt→ltb (d .state) 32 (p .state)) (p .bits) (p .unused)
 
 -- ---- changes
@@ -84,6 +84,16 @@ value-bits : (k : ℕ) (v : List ℕ) → T (isValue k v) → T (unusedBitsOk k 
 unfolding isValue
 value-bits k v t = right (eqb (length v) (sizeOf k)) (unusedBitsOk k v) t
 
+at-most : (n : ℕ) (xs : List ℕ) (k : ℕ) → T (every (λ x. leb x n) xs) → getD xs k 0 ≤ n
+at-most n [] k t = omega arith
+at-most n (x ∷ xs) zero t = leb→le x n (left (leb x n) (every (λ y. leb y n) xs) t)
+at-most n (x ∷ xs) (suc k) t = at-most n xs k (right (leb x n) (every (λ y. leb y n) xs) t)
+
+-- no value is longer than its memory
+pub size-fits : (typecode : ℕ) → sizeOf typecode ≤ 14
+unfolding sizeOf
+size-fits typecode = at-most 14 (1 ∷ 1 ∷ 1 ∷ 1 ∷ 1 ∷ 1 ∷ 1 ∷ 1 ∷ 2 ∷ 3 ∷ 4 ∷ 6 ∷ 8 ∷ 10 ∷ 14 ∷ []) typecode tt
+
 -- the bytes that a value takes of the record that holds it
 value-held : (v : List ℕ) (s : ℕ) (d : Datapoint) → T (isValue (d .typecode) v) → valueOf (withValue v s d) ≡ v
 unfolding valueOf withValue
@@ -99,7 +109,7 @@ value-ok v s d h i t = go (parts d t) (value-held v s d i) (whole (withValue v s
           typecode = unfold withValue in p .typecode;
           state = unfold withValue in h;
           bits = rw e (unfold withValue in value-bits (d .typecode) v i);
-          unused = unfold withValue in zero-pad 14 (sizeOf (d .typecode)) v (value-length (d .typecode) v i);
+          unused = unfold withValue in pad-padded 14 (sizeOf (d .typecode)) v (value-length (d .typecode) v i) (size-fits (d .typecode));
         })
 
 pub handed-out-ok : (d : Datapoint) → T (datapointOk d) → T (datapointOk (handedOut d))
@@ -155,5 +165,6 @@ command-same c v d = go (eqb c 1) (eqb c 2) (eqb c 3) (eqb c 4) (eqb c 5) refl r
 pub bytes-ok : (s : List ℕ) (i : Item) → length s ≡ i .size → T (itemOk i) → T (itemOk (withBytes s i))
 unfolding itemOk withBytes
 bytes-ok s i e t =
-    let p = parts3 (leb 1 (i .size)) (leb (i .size) 16) (zeroFrom (i .size) (i .bytes)) t in
-    join3 (leb 1 (i .size)) (leb (i .size) 16) (zeroFrom (i .size) (pad 16 s)) (p .0) (p .1) (zero-pad 16 (i .size) s e)
+    let p = left (leb 1 (i .size)) (isPadded 16 (i .size) (i .bytes)) t in
+    let q = padded-decided 16 (i .size) (i .bytes) .0 (right (leb 1 (i .size)) (isPadded 16 (i .size) (i .bytes)) t) in
+    both (leb 1 (i .size)) (isPadded 16 (i .size) (pad 16 s)) p (pad-padded 16 (i .size) s e (q .within))

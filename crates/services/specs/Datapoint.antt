@@ -4,7 +4,7 @@ use mathlib.Core.Bool.{Bool, true, _&&_}
 use mathlib.Core.List.{List, [], _∷_}
 use lib.ListN.{length, getD, take}
 use lib.Dec.{leb, ltb, eqb}
-use Rattle.link.specs.Words.{if_then_else_, pad, zeroFrom}
+use Rattle.link.specs.Words.{if_then_else_, pad, isPadded}
 use Rattle.services.specs.declared.datapoint.Datapoint.{Datapoint}
 
 -- "Type codes: 0 to 6 are 1 to 7 bits in the low bits of one byte; 7 is 1 byte; 8, 9, 10, 11, 12, 13, 14 are 2, 3, 4, 6, 8, 10, 14 bytes."
@@ -30,7 +30,7 @@ valueOf d = take (sizeOf (d .typecode)) (d .value)
 -- "type codes are 0 to 14, state bits 7 to 5 are 0, [..] value bits and bytes beyond the type's size [..] are 0"
 unfoldable pub datapointOk : Datapoint → Bool
 datapointOk d =
-    leb (d .typecode) 14 && ltb (d .state) 32 && unusedBitsOk (d .typecode) (valueOf d) && zeroFrom (sizeOf (d .typecode)) (d .value)
+    leb (d .typecode) 14 && ltb (d .state) 32 && unusedBitsOk (d .typecode) (valueOf d) && isPadded 14 (sizeOf (d .typecode)) (d .value)
 
 abbrev pub datapointId : Datapoint → ℕ
 datapointId d = d .id

@@ -4,12 +4,12 @@ use mathlib.Core.Bool.{Bool, _&&_}
 use mathlib.Core.List.{List}
 use lib.ListN.{take}
 use lib.Dec.{leb}
-use Rattle.link.specs.Words.{pad, zeroFrom}
+use Rattle.link.specs.Words.{pad, isPadded}
 use Rattle.services.specs.declared.item.Item.{Item}
 
 -- "length 1 to 16", "bytes beyond [..] the item's length are 0"
 unfoldable pub itemOk : Item → Bool
-itemOk i = leb 1 (i .size) && leb (i .size) 16 && zeroFrom (i .size) (i .bytes)
+itemOk i = leb 1 (i .size) && isPadded 16 (i .size) (i .bytes)
 
 abbrev pub itemId : Item → ℕ
 itemId i = i .id
