@@ -5,7 +5,7 @@ use Rattle.link.specs.Words.{areZero, isPadded, areBytes}
 use Rattle.link.specs.Frame.{fixedFrame, total, checksum, dataFrame, messageOf, isWhole}
 use Rattle.link.specs.Receiver.{judgedFirst, judgedFixed, judgedData, judged, isMore, gathers, isBeginning}
 use Rattle.link.specs.Record.{lineOf, linkOf, hostControl, serverControl, receiverOk, outstandingOk, lineOk, memoryOk, inRange}
-use Rattle.link.specs.Rules.{atStart, startDropping, gathering, cleared, holding, expecting, onAcknowledgement, onFixedFrame, onExpected, onRepeat, onDataFrame, onJudged, onHostByte, onIdleMark, onAckWaitOver, onMessage}
+use Rattle.link.specs.Rules.{atStart, startDropping, gathering, cleared, holding, expecting, caseOfAcknowledgement, caseOfFixed, caseOfData, caseOf, heardAt, onHeard, onHostByte, onIdleMark, onAckWaitOver, onMessage}
 use Rattle.services.specs.Datapoint.{sizeOf, limitOf, unusedBitsOk, isValue, valueOf, datapointOk, withState, withValue, withMark, handedOut, busValue, outcome, commanded}
 use Rattle.services.specs.Item.{itemOk, bytesOf, withBytes}
 use Rattle.services.specs.Table.{rising, tableOk, wellFormed, found, changed}
@@ -19,5 +19,5 @@ use Rattle.server.specs.Call.{saying, handedUp, onMoved, onPoll, happens, refus
 use Rattle.demands.specs.Run.{sentOf, before, run}
 
 unfoldable pub opened : Bool
-unfolding flatten areZero isPadded areBytes fixedFrame total checksum dataFrame messageOf isWhole judgedFirst judgedFixed judgedData judged isMore gathers isBeginning lineOf linkOf hostControl serverControl receiverOk outstandingOk lineOk memoryOk inRange atStart startDropping gathering cleared holding expecting onAcknowledgement onFixedFrame onExpected onRepeat onDataFrame onJudged onHostByte onIdleMark onAckWaitOver onMessage sizeOf limitOf unusedBitsOk isValue valueOf datapointOk withState withValue withMark handedOut busValue outcome commanded itemOk bytesOf withBytes rising tableOk wellFormed found changed mainService subService startOf numberOf filterOf coded answerOf afterOf served inRequest overflow listing getFinding getting itemEntry getServerItem descriptionEntry getDatapointDescription valueEntry passes asked handingOut getDatapointValue parameterEntries getParameterByte firstItemEntry firstDatapointEntry span fills setEntries judgedItem judgedDatapoint firstBad setFinding applied setting setItem setServerItem setDatapoint setDatapointValue service unanswered carriedOut needs goes roomAfter choices reported afterReport indicationOf indication statusOf atDatapoint valueFits busOk saying handedUp onMoved onPoll happens refusal refused accepted call sentOf before run
+unfolding flatten areZero isPadded areBytes fixedFrame total checksum dataFrame messageOf isWhole judgedFirst judgedFixed judgedData judged isMore gathers isBeginning lineOf linkOf hostControl serverControl receiverOk outstandingOk lineOk memoryOk inRange atStart startDropping gathering cleared holding expecting caseOfAcknowledgement caseOfFixed caseOfData caseOf heardAt onHeard onHostByte onIdleMark onAckWaitOver onMessage sizeOf limitOf unusedBitsOk isValue valueOf datapointOk withState withValue withMark handedOut busValue outcome commanded itemOk bytesOf withBytes rising tableOk wellFormed found changed mainService subService startOf numberOf filterOf coded answerOf afterOf served inRequest overflow listing getFinding getting itemEntry getServerItem descriptionEntry getDatapointDescription valueEntry passes asked handingOut getDatapointValue parameterEntries getParameterByte firstItemEntry firstDatapointEntry span fills setEntries judgedItem judgedDatapoint firstBad setFinding applied setting setItem setServerItem setDatapoint setDatapointValue service unanswered carriedOut needs goes roomAfter choices reported afterReport indicationOf indication statusOf atDatapoint valueFits busOk saying handedUp onMoved onPoll happens refusal refused accepted call sentOf before run
 opened = true

@@ -6,32 +6,39 @@ use mathlib.Core.List.{List, [], _∷_, _++_}
 use native.Mathlib.Omega.{arith}
 use lib.ListN.{length, getD, take, drop}
 use lib.Dec.{T, leb, ltb, eqb, le→leb}
-use borrow.Author.Tests.{ltb-true, ltb-false, le-leb, le-ltb, eq-eqb}
+use borrow.Author.Tests.{ltb-true, ltb-false, eqb-true}
 use Rattle.link.specs.declared.receiver.Judgement.{Judgement}
 use Rattle.link.specs.declared.receiver.Judgement.the-variants.{More, Damage, Acknowledgement, Fixed, Data}
+use Rattle.link.specs.declared.rules.Heard.{Heard}
+use Rattle.link.specs.declared.rules.Heard.the-variants.{Gathered, Dropped, Ignored, Acknowledged, Reset, Repeat, Request}
 use Rattle.link.specs.Words.{if_then_else_, isEmpty}
 use Rattle.link.specs.Frame.{acknowledgement, fixedFrame, dataFrame, Whole, messageOf, isWhole}
 use Rattle.link.specs.Receiver.{judged, isMore, gathers, isBeginning}
 use Rattle.link.specs.Record.{Line, hostControl, serverControl, receiverOk, outstandingOk, lineOk}
-use Rattle.link.specs.Rules.{Up, nothing, acknowledged, reset, message, Moved, still, receiving, atStart, startDropping, gathering, cleared, holding, expecting, onAcknowledgement, onFixedFrame, onExpected, onRepeat, onDataFrame, onJudged, onHostByte, onIdleMark, onAckWaitOver, onMessage}
+use Rattle.link.specs.Rules.{Up, nothing, acknowledged, reset, message, Moved, still, receiving, atStart, startDropping, gathering, cleared, holding, expecting, caseOfAcknowledgement, caseOfFixed, caseOfData, caseOf, heardAt, onHeard, onHostByte, onIdleMark, onAckWaitOver, onMessage}
 use Rattle.link.proofs.WordLaws.{left, right, both, T-true, true-T}
 use Rattle.link.proofs.ReceiverLaws.{beginning-on}
 use Rattle.link.proofs.FrameLaws.{whole-tested}
 
 -- ---- what no rule does
 -- damage: nothing is sent or handed up, and neither bit moves
-pub damage-keeps : (b : ℕ) (l : Line) → l .dropping ≡ false → judged (l .gathered) b ≡ Damage → onHostByte b l ≡ still (receiving [] true l)
-unfolding onHostByte onJudged startDropping
-damage-keeps b l e d = simp (e, d)
+pub damage-keeps : (b : ℕ) (l : Line) → judged (l .gathered) b ≡ Damage → onHostByte b l ≡ still (receiving [] true l)
+unfolding onHostByte heardAt onHeard caseOf startDropping
+damage-keeps b l d = go (l .dropping) refl
+  where
+    go : (u : Bool) → l .dropping ≡ u → onHostByte b l ≡ still (receiving [] true l)
+    go true e = simp (e, onHostByte)
+    go false e = simp (e, d, onHostByte)
 
 -- a repeat draws one acknowledgement, and nothing else happens
-pub repeat-acknowledged : (m : List ℕ) (l : Line) → onDataFrame (hostControl (not (l .expected))) m l ≡ record { sent = acknowledgement; up = nothing; line = l }
-unfolding onDataFrame onRepeat hostControl
-repeat-acknowledged m l = go (l .expected) refl
+pub repeat-acknowledged : (n b : ℕ) (l : Line) → l .dropping ≡ false → judged (l .gathered) b ≡ Data (hostControl (not (l .expected))) n
+    → onHostByte b l ≡ record { sent = acknowledgement; up = nothing; line = receiving [] false l }
+unfolding onHostByte heardAt onHeard caseOf caseOfData hostControl atStart
+repeat-acknowledged n b l p d = go (l .expected) refl
   where
-    go : (u : Bool) → l .expected ≡ u → onDataFrame (hostControl (not (l .expected))) m l ≡ record { sent = acknowledgement; up = nothing; line = l }
-    go true e = simp (e, onDataFrame)
-    go false e = simp (e, onDataFrame)
+    go : (u : Bool) → l .expected ≡ u → onHostByte b l ≡ record { sent = acknowledgement; up = nothing; line = receiving [] false l }
+    go true e = simp (p, d, e, onHostByte)
+    go false e = simp (p, d, e, onHostByte)
 
 -- with something outstanding a message is not taken back
 pub message-waits : (m : List ℕ) (l : Line) → isEmpty (l .outstanding) ≡ false → onMessage m l ≡ still l
@@ -47,52 +54,79 @@ pub dropping-ok : (l : Line) → T (outstandingOk l) → T (lineOk (startDroppin
 unfolding lineOk receiverOk outstandingOk startDropping
 dropping-ok l t = t
 
--- ---- whole frames, at a frame start
-module _ (l : Line) (t : T (outstandingOk l)) where
-  cleared-ok : (b : Bool) → T (lineOk (cleared b (atStart l)))
-  unfolding lineOk receiverOk outstandingOk atStart cleared isBeginning gathers
-  cleared-ok b = tt
+-- ---- a host byte: what it tells that it was heard so
+isGathered : Heard → Bool
+isGathered Gathered = true
+isGathered Dropped = false
+isGathered Ignored = false
+isGathered Acknowledged = false
+isGathered Reset = false
+isGathered Repeat = false
+isGathered (Request n) = false
 
-  acknowledgement-ok : T (lineOk (onAcknowledgement (atStart l) .line))
-  unfolding onAcknowledgement
-  acknowledgement-ok = go (isEmpty (l .outstanding)) refl
-    where
-      go : (b : Bool) → isEmpty (l .outstanding) ≡ b → T (lineOk (onAcknowledgement (atStart l) .line))
-      go true e = unfold atStart in simp e (unfold atStart in start-ok l t)
-      go false e = unfold atStart in simp e (unfold atStart in cleared-ok (not (l .send)))
+isRequest : Heard → Bool
+isRequest Gathered = false
+isRequest Dropped = false
+isRequest Ignored = false
+isRequest Acknowledged = false
+isRequest Reset = false
+isRequest Repeat = false
+isRequest (Request n) = true
 
-  fixed-ok : (c : ℕ) → T (lineOk (onFixedFrame c (atStart l) .line))
-  unfolding onFixedFrame
-  fixed-ok c = go (eqb c 0x40) refl
-    where
-      go : (b : Bool) → eqb c 0x40 ≡ b → T (lineOk (onFixedFrame c (atStart l) .line))
-      go true e = simp e (unfold lineOk receiverOk outstandingOk atStart cleared expecting isBeginning gathers in tt)
-      go false e = simp e (start-ok l t)
+neither : (p : Heard → Bool) (u : Bool) (x y : Heard) → p x ≡ false → p y ≡ false → p (if u then x else y) ≡ false
+neither p true x y e d = e
+neither p false x y e d = d
 
-  expected-ok : (m : List ℕ) → T (lineOk (onExpected m (atStart l) .line))
-  unfolding onExpected atStart
-  expected-ok m = go (isEmpty (l .outstanding)) refl
-    where
-      same-line : (b : Bool) → T (lineOk (atStart l)) → T (lineOk (expecting b (atStart l)))
-      same-line b u = unfold lineOk receiverOk outstandingOk atStart expecting isBeginning gathers in u
+-- only a byte that asks for more is gathered
+case-gathered : (j : Judgement) (expected free : Bool) → T (isGathered (caseOf j expected free)) → T (isMore j)
+unfolding caseOf isGathered isMore caseOfAcknowledgement caseOfFixed caseOfData
+case-gathered More expected free t = tt
+case-gathered Damage expected free t = t
+case-gathered Acknowledgement expected free t = rw (neither isGathered free Ignored Acknowledged refl refl) at t
+case-gathered (Fixed c) expected free t = rw (neither isGathered (eqb c 0x40) Reset Ignored refl refl) at t
+case-gathered (Data c n) expected free t =
+    rw (neither isGathered (eqb c (hostControl expected)) (if free then Request n else Ignored) (if eqb c (hostControl (not expected)) then Repeat else Ignored)
+    (neither isGathered free (Request n) Ignored refl refl) (neither isGathered (eqb c (hostControl (not expected))) Repeat Ignored refl refl)) at t
 
-      go : (b : Bool) → isEmpty (l .outstanding) ≡ b → T (lineOk (onExpected m (atStart l) .line))
-      go true e = simp e (same-line (not (l .expected)) (start-ok l t))
-      go false e = simp e (start-ok l t)
+-- a request comes with nothing outstanding, in a data frame with the expected count bit
+pub record Requested (j : Judgement) (expected free : Bool) : Type 0 where
+  pub length : ℕ
+  pub judgement : j ≡ Data (hostControl expected) length
+  pub nothing-outstanding : free ≡ true
 
-  data-ok : (c : ℕ) (m : List ℕ) → T (lineOk (onDataFrame c m (atStart l) .line))
-  unfolding onDataFrame atStart
-  data-ok c m = go (eqb c (hostControl (l .expected))) (eqb c (hostControl (not (l .expected)))) refl refl
-    where
-      go : (u v : Bool) → eqb c (hostControl (l .expected)) ≡ u → eqb c (hostControl (not (l .expected))) ≡ v → T (lineOk (onDataFrame c m (atStart l) .line))
-      go true v e d = simp e (unfold atStart in expected-ok m)
-      go false true e d = simp (e, d) (unfold onRepeat atStart in start-ok l t)
-      go false false e d = simp (e, d) (start-ok l t)
+case-request : (j : Judgement) (expected free : Bool) → T (isRequest (caseOf j expected free)) → Requested j expected free
+unfolding caseOf isRequest caseOfAcknowledgement caseOfFixed caseOfData
+case-request More expected free t = absurd t
+case-request Damage expected free t = absurd t
+case-request Acknowledgement expected free t = absurd (rw (neither isRequest free Ignored Acknowledged refl refl) at t)
+case-request (Fixed c) expected free t = absurd (rw (neither isRequest (eqb c 0x40) Reset Ignored refl refl) at t)
+case-request (Data c n) expected free t = go (eqb c (hostControl expected)) free refl refl
+  where
+    go : (u v : Bool) → eqb c (hostControl expected) ≡ u → free ≡ v → Requested (Data c n) expected free
+    go true true e d = record { length = n; judgement = ap (λ (x : ℕ). Data x n) (eqb-true c (hostControl expected) e); nothing-outstanding = d }
+    go true false e d = absurd (simp (e, d) at t)
+    go false v e d = absurd (rw (neither isRequest (eqb c (hostControl (not expected))) Repeat Ignored refl refl) at (simp e at t))
 
--- ---- each event
+-- ---- each case leaves a line that is in order in order
+heard-ok : (h : Heard) (b : ℕ) (l : Line) → (T (isGathered h) → T (isBeginning (l .gathered ++ b ∷ []))) → T (outstandingOk l) → T (lineOk (onHeard h b l .line))
+unfolding onHeard
+heard-ok Gathered b l g o = more (g (unfold isGathered in tt))
+  where
+    more : T (isBeginning (l .gathered ++ b ∷ [])) → T (lineOk (gathering (l .gathered ++ b ∷ []) l))
+    more u = unfold lineOk receiverOk outstandingOk gathering in both (isBeginning (l .gathered ++ b ∷ [])) _ u (unfold outstandingOk in o)
+heard-ok Dropped b l g o = dropping-ok l o
+heard-ok Ignored b l g o = start-ok l o
+heard-ok Acknowledged b l g o = unfold lineOk receiverOk outstandingOk atStart cleared isBeginning gathers in tt
+heard-ok Reset b l g o = unfold lineOk receiverOk outstandingOk atStart cleared expecting isBeginning gathers in tt
+heard-ok Repeat b l g o = start-ok l o
+heard-ok (Request n) b l g o = same-line (start-ok l o)
+  where
+    same-line : T (lineOk (atStart l)) → T (lineOk (expecting (not (l .expected)) (atStart l)))
+    same-line u = unfold lineOk receiverOk outstandingOk atStart expecting isBeginning gathers in u
+
 pub host-byte-ok : (b : ℕ) (l : Line) → T (lineOk l) → T (lineOk (onHostByte b l .line))
-unfolding onHostByte
-host-byte-ok b l t = go (l .dropping) refl
+unfolding onHostByte heardAt isGathered
+host-byte-ok b l t = heard-ok (heardAt b l) b l (go (l .dropping) refl) o
   where
     r : T (receiverOk l)
     r = unfold lineOk in left (receiverOk l) (outstandingOk l) t
@@ -100,19 +134,28 @@ host-byte-ok b l t = go (l .dropping) refl
     o : T (outstandingOk l)
     o = unfold lineOk in right (receiverOk l) (outstandingOk l) t
 
-    judged-ok : (j : Judgement) → l .dropping ≡ false → judged (l .gathered) b ≡ j → T (lineOk (onJudged j b l .line))
-    judged-ok More e d = unfold onJudged in more (beginning-on (l .gathered) b (unfold receiverOk in simp e at r) (unfold isMore in rw d tt))
-      where
-        more : T (isBeginning (l .gathered ++ b ∷ [])) → T (lineOk (gathering (l .gathered ++ b ∷ []) l))
-        more u = unfold lineOk receiverOk outstandingOk gathering in both (isBeginning (l .gathered ++ b ∷ [])) _ u (unfold outstandingOk in o)
-    judged-ok Damage e d = unfold onJudged in dropping-ok l o
-    judged-ok Acknowledgement e d = unfold onJudged in acknowledgement-ok l o
-    judged-ok (Fixed c) e d = unfold onJudged in fixed-ok l o c
-    judged-ok (Data c n) e d = unfold onJudged in data-ok l o c (messageOf (l .gathered ++ b ∷ []))
+    go : (u : Bool) → l .dropping ≡ u → T (isGathered (heardAt b l)) → T (isBeginning (l .gathered ++ b ∷ []))
+    go true e g = absurd (simp e at g)
+    go false e g = beginning-on (l .gathered) b (unfold receiverOk in simp e at r) (case-gathered (judged (l .gathered) b) (l .expected) (isEmpty (l .outstanding)) (simp e at g))
 
-    go : (u : Bool) → l .dropping ≡ u → T (lineOk (onHostByte b l .line))
-    go true e = simp e t
-    go false e = simp e (judged-ok (judged (l .gathered) b) e refl)
+-- a message is handed up only with nothing outstanding, so that its answer is never kept back
+request-up : (h : Heard) (b : ℕ) (l : Line) (m : List ℕ) → onHeard h b l .up ≡ message m → T (isRequest h)
+unfolding onHeard isRequest
+request-up Gathered b l m e = absurd (let z : _≡_ {A = ℕ} 0 1 = cc in omega arith)
+request-up Dropped b l m e = absurd (let z : _≡_ {A = ℕ} 0 1 = cc in omega arith)
+request-up Ignored b l m e = absurd (let z : _≡_ {A = ℕ} 0 1 = cc in omega arith)
+request-up Acknowledged b l m e = absurd (let z : _≡_ {A = ℕ} 0 1 = cc in omega arith)
+request-up Reset b l m e = absurd (let z : _≡_ {A = ℕ} 0 1 = cc in omega arith)
+request-up Repeat b l m e = absurd (let z : _≡_ {A = ℕ} 0 1 = cc in omega arith)
+request-up (Request n) b l m e = tt
+
+pub message-free : (b : ℕ) (l : Line) (m : List ℕ) → onHostByte b l .up ≡ message m → isEmpty (l .outstanding) ≡ true
+unfolding onHostByte heardAt isRequest
+message-free b l m h = go (l .dropping) refl (request-up (heardAt b l) b l m h)
+  where
+    go : (u : Bool) → l .dropping ≡ u → T (isRequest (heardAt b l)) → isEmpty (l .outstanding) ≡ true
+    go true e g = absurd (simp e at g)
+    go false e g = case-request (judged (l .gathered) b) (l .expected) (isEmpty (l .outstanding)) (simp e at g) .nothing-outstanding
 
 pub idle-mark-ok : (l : Line) → T (lineOk l) → T (lineOk (onIdleMark l .line))
 unfolding onIdleMark
@@ -164,48 +207,3 @@ message-ok m l t = go (isEmpty m || ltb 254 (length m)) (isEmpty (l .outstanding
     go false true e d =
         simp (e, d)
         (both (receiverOk (holding (dataFrame c m) 0 l)) _ (unfold receiverOk holding in (unfold receiverOk in left (receiverOk l) (outstandingOk l) t)) (framed (short e)))
-
--- ---- a message is handed up only with nothing outstanding, so that its answer is never kept back
-acknowledgement-up : (l : Line) (m : List ℕ) → onAcknowledgement l .up ≡ message m → ⊥
-unfolding onAcknowledgement
-acknowledgement-up l m h = go (isEmpty (l .outstanding)) refl
-  where
-    go : (u : Bool) → isEmpty (l .outstanding) ≡ u → ⊥
-    go true e = let z : _≡_ {A = ℕ} 0 1 = cc (simp e at h) in omega arith
-    go false e = let z : _≡_ {A = ℕ} 0 1 = cc (simp e at h) in omega arith
-
-fixed-up : (c : ℕ) (l : Line) (m : List ℕ) → onFixedFrame c l .up ≡ message m → ⊥
-unfolding onFixedFrame
-fixed-up c l m h = go (eqb c 0x40) refl
-  where
-    go : (u : Bool) → eqb c 0x40 ≡ u → ⊥
-    go true e = let z : _≡_ {A = ℕ} 0 1 = cc (simp e at h) in omega arith
-    go false e = let z : _≡_ {A = ℕ} 0 1 = cc (simp e at h) in omega arith
-
-data-up : (c : ℕ) (s : List ℕ) (l : Line) (m : List ℕ) → onDataFrame c s l .up ≡ message m → isEmpty (onDataFrame c s l .line .outstanding) ≡ true
-unfolding onDataFrame onExpected onRepeat expecting
-data-up c s l m h = go (eqb c (hostControl (l .expected))) (isEmpty (l .outstanding)) (eqb c (hostControl (not (l .expected)))) refl refl refl
-  where
-    go : (u v w : Bool) → eqb c (hostControl (l .expected)) ≡ u → isEmpty (l .outstanding) ≡ v → eqb c (hostControl (not (l .expected))) ≡ w → isEmpty (onDataFrame c s l .line .outstanding) ≡ true
-    go true true w e d f = simp (e, d)
-    go true false w e d f = let z : _≡_ {A = ℕ} 0 1 = cc (simp (e, d) at h) in absurd (omega arith)
-    go false v true e d f = let z : _≡_ {A = ℕ} 0 1 = cc (simp (e, f) at h) in absurd (omega arith)
-    go false v false e d f = let z : _≡_ {A = ℕ} 0 1 = cc (simp (e, f) at h) in absurd (omega arith)
-
-pub message-free : (b : ℕ) (l : Line) (m : List ℕ) → onHostByte b l .up ≡ message m → isEmpty (onHostByte b l .line .outstanding) ≡ true
-unfolding onHostByte
-message-free b l m h = go (l .dropping) refl
-  where
-    still-up : nothing ≡ message m → ⊥
-    still-up e = let z : _≡_ {A = ℕ} 0 1 = cc in omega arith
-
-    of-judged : (j : Judgement) → onJudged j b l .up ≡ message m → isEmpty (onJudged j b l .line .outstanding) ≡ true
-    of-judged More e = absurd (still-up (unfold onJudged in e))
-    of-judged Damage e = absurd (still-up (unfold onJudged in e))
-    of-judged Acknowledgement e = absurd (acknowledgement-up (atStart l) m (unfold onJudged in e))
-    of-judged (Fixed c) e = absurd (fixed-up c (atStart l) m (unfold onJudged in e))
-    of-judged (Data c n) e = unfold onJudged in data-up c (messageOf (l .gathered ++ b ∷ [])) (atStart l) m (unfold onJudged in e)
-
-    go : (u : Bool) → l .dropping ≡ u → isEmpty (onHostByte b l .line .outstanding) ≡ true
-    go true e = let z : _≡_ {A = ℕ} 0 1 = cc (simp e at h) in absurd (omega arith)
-    go false e = simp e (of-judged (judged (l .gathered) b) (simp e at h))

@@ -7,6 +7,8 @@ use lib.ListN.{length}
 use lib.Dec.{ltb, eqb}
 use Rattle.link.specs.declared.receiver.Judgement.{Judgement}
 use Rattle.link.specs.declared.receiver.Judgement.the-variants.{More, Damage, Acknowledgement, Fixed, Data}
+use Rattle.link.specs.declared.rules.Heard.{Heard}
+use Rattle.link.specs.declared.rules.Heard.the-variants.{Gathered, Dropped, Ignored, Acknowledged, Reset, Repeat, Request}
 use Rattle.link.specs.Words.{if_then_else_, isEmpty}
 use Rattle.link.specs.Frame.{acknowledgement, fixedFrame, dataFrame, longestMessage, messageOf}
 use Rattle.link.specs.Receiver.{judged}
@@ -54,46 +56,50 @@ holding f n l = record { gathered = l .gathered; dropping = l .dropping; expecte
 unfoldable pub expecting : Bool → Line → Line
 expecting odd l = record { gathered = l .gathered; dropping = l .dropping; expected = odd; send = l .send; outstanding = l .outstanding; resends = l .resends }
 
--- "Clears the outstanding frame and flips the send bit; with nothing outstanding it is ignored."
-unfoldable pub onAcknowledgement : Line → Moved
-onAcknowledgement l =
-    if isEmpty (l .outstanding) then still l
-    else record { sent = []; up = acknowledged; line = cleared (not (l .send)) l }
+-- ---- a host byte: what it is to the link, by its judgement, the expected bit and whether nothing is outstanding
 
--- "C = 40 is the reset request: answered E5, both bits become odd, the outstanding frame is dropped, tables stay. Other C: whole frame ignored, unanswered."
-unfoldable pub onFixedFrame : ℕ → Line → Moved
-onFixedFrame c l =
-    if eqb c 0x40 then record { sent = acknowledgement; up = reset; line = expecting true (cleared true l) }
-    else still l
+-- "with nothing outstanding it is ignored"
+unfoldable pub caseOfAcknowledgement : Bool → Heard
+caseOfAcknowledgement free = if free then Ignored else Acknowledged
 
--- "Expected count bit, nothing outstanding: E5, bit flips, message carried out [..]. Expected bit, something outstanding: dropped, unanswered, bit kept (build)."
-unfoldable pub onExpected : List ℕ → Line → Moved
-onExpected m l =
-    if isEmpty (l .outstanding) then record { sent = acknowledgement; up = message m; line = expecting (not (l .expected)) l }
-    else still l
+-- "C = 40 is the reset request [..]. Other C: whole frame ignored, unanswered."
+unfoldable pub caseOfFixed : ℕ → Heard
+caseOfFixed c = if eqb c 0x40 then Reset else Ignored
 
--- "Other bit: E5, message dropped."
-unfoldable pub onRepeat : Line → Moved
-onRepeat l = record { sent = acknowledgement; up = nothing; line = l }
+-- "Expected count bit, nothing outstanding: [..] carried out [..]. Expected bit, something outstanding: dropped, unanswered, bit kept (build).
+-- Other bit: E5, message dropped." "A sound frame with another control byte is ignored, unanswered."
+unfoldable pub caseOfData : ℕ → ℕ → Bool → Bool → Heard
+caseOfData c n expected free =
+    if eqb c (hostControl expected) then (if free then Request n else Ignored)
+    else if eqb c (hostControl (not expected)) then Repeat
+    else Ignored
 
--- "A sound frame with another control byte is ignored, unanswered."
-unfoldable pub onDataFrame : ℕ → List ℕ → Line → Moved
-onDataFrame c m l =
-    if eqb c (hostControl (l .expected)) then onExpected m l
-    else if eqb c (hostControl (not (l .expected))) then onRepeat l
-    else still l
+unfoldable pub caseOf : Judgement → Bool → Bool → Heard
+caseOf More expected free = Gathered
+caseOf Damage expected free = Dropped
+caseOf Acknowledgement expected free = caseOfAcknowledgement free
+caseOf (Fixed c) expected free = caseOfFixed c
+caseOf (Data c n) expected free = caseOfData c n expected free
 
--- "After every idle mark, whole frame or acknowledgement the receiver is at a frame start"; damage: "the rest is dropped up to the next idle mark"
-unfoldable pub onJudged : Judgement → ℕ → Line → Moved
-onJudged More b l = still (gathering (l .gathered ++ b ∷ []) l)
-onJudged Damage b l = still (startDropping l)
-onJudged Acknowledgement b l = onAcknowledgement (atStart l)
-onJudged (Fixed c) b l = onFixedFrame c (atStart l)
-onJudged (Data c n) b l = onDataFrame c (messageOf (l .gathered ++ b ∷ [])) (atStart l)
+unfoldable pub heardAt : ℕ → Line → Heard
+heardAt b l = if l .dropping then Dropped else caseOf (judged (l .gathered) b) (l .expected) (isEmpty (l .outstanding))
 
--- a host byte
+-- What each does. "After every idle mark, whole frame or acknowledgement the receiver is at a frame start"; damage: "the rest is dropped up to the next
+-- idle mark". Acknowledgement: "Clears the outstanding frame and flips the send bit". Reset: "answered E5, both bits become odd, the outstanding frame is
+-- dropped". A request: "E5, bit flips, message carried out".
+unfoldable pub onHeard : Heard → ℕ → Line → Moved
+onHeard Gathered b l = still (gathering (l .gathered ++ b ∷ []) l)
+onHeard Dropped b l = still (startDropping l)
+onHeard Ignored b l = still (atStart l)
+onHeard Acknowledged b l = record { sent = []; up = acknowledged; line = cleared (not (l .send)) (atStart l) }
+onHeard Reset b l = record { sent = acknowledgement; up = reset; line = expecting true (cleared true (atStart l)) }
+onHeard Repeat b l = record { sent = acknowledgement; up = nothing; line = atStart l }
+onHeard (Request n) b l = record { sent = acknowledgement; up = message (messageOf (l .gathered ++ b ∷ [])); line = expecting (not (l .expected)) (atStart l) }
+
 unfoldable pub onHostByte : ℕ → Line → Moved
-onHostByte b l = if l .dropping then still l else onJudged (judged (l .gathered) b) b l
+onHostByte b l = onHeard (heardAt b l) b l
+
+-- ---- the other events
 
 -- "An idle mark in mid-frame drops what was gathered. After every idle mark [..] the receiver is at a frame start; the mark alters nothing else."
 unfoldable pub onIdleMark : Line → Moved
