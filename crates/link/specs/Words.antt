@@ -4,7 +4,7 @@ use Prim.Native.Nat.{ℕ, _+_, _-_, _*_, _/_, _%_, _≤_}
 use mathlib.Core.Path.{_≡_}
 use mathlib.Core.Bool.{Bool, true, false, _&&_}
 use mathlib.Core.List.{List, [], _∷_, _++_}
-use lib.ListN.{length, getD, drop, replicate}
+use lib.ListN.{length, getD, take, drop, replicate}
 use lib.Dec.{leb, ltb, eqb}
 
 infixr 10 if_then_else_
@@ -22,6 +22,10 @@ ofTwoBytes high low = high * 256 + low
 -- the bytes s in an array of n places, with 0 behind them
 abbrev pub pad : ℕ → List ℕ → List ℕ
 pad n s = s ++ replicate (n - length s) 0
+
+-- the buffer l with vs written over what stands from place `at` on, and as it was to its end
+unfoldable pub put : List ℕ → ℕ → List ℕ → List ℕ
+put l at vs = take at l ++ vs ++ drop (at + length vs) l
 
 abbrev pub isEmpty {ℓ} : {A : Type ℓ} → List A → Bool
 isEmpty [] = true
