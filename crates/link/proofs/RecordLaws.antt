@@ -36,43 +36,46 @@ linkOf-lineOf k t =
     λ i. record { receiver = p i; received = u i; dropping = k .dropping; expected = k .expected; send = k .send; outstanding = q i; held = v i; resends = k .resends }
 
 -- ---- a line that is in order fits its record
-gathered-short : (l : Line) → T (receiverOk l) → length (l .gathered) ≤ 260
+gathered-short : (dropping : Bool) (g : List ℕ) → T (receiverOk dropping g) → length g ≤ 260
 unfolding receiverOk
-gathered-short l t = go (l .dropping) (l .gathered) refl refl
-  where
-    go : (b : Bool) (g : List ℕ) → l .dropping ≡ b → l .gathered ≡ g → length g ≤ 260
-    go true [] e d = omega arith
-    go true (x ∷ g) e d = absurd (simp (e, d) at t)
-    go false g e d = beginning-short g (simp (e, d) at t)
+gathered-short true [] t = omega arith
+gathered-short true (x ∷ g) t = absurd t
+gathered-short false g t = beginning-short g t
 
-outstanding-short : (l : Line) → T (outstandingOk l) → length (l .outstanding) ≤ 261
+outstanding-short : (send : Bool) (resends : ℕ) (f : List ℕ) → T (outstandingOk send resends f) → length f ≤ 261
 unfolding outstandingOk isWhole
-outstanding-short l t = go (l .outstanding) refl
-  where
-    go : (f : List ℕ) → l .outstanding ≡ f → length f ≤ 261
-    go [] d = omega arith
-    go (x ∷ f) d = leb→le (length (x ∷ f)) 261 (left (leb (length (x ∷ f)) 261) _ (left (isWhole (serverControl (l .send)) (x ∷ f)) (leb (l .resends) 3) (simp d at t)))
+outstanding-short send resends [] t = omega arith
+outstanding-short send resends (x ∷ f) t =
+    leb→le (length (x ∷ f)) 261 (left (leb (length (x ∷ f)) 261) _ (left (isWhole (serverControl send) (x ∷ f)) (leb resends 3) t))
 
 pub line-in-range : (l : Line) → T (lineOk l) → T (inRange (linkOf l))
-unfolding inRange lineOk
+unfolding inRange
 line-in-range l t =
-    both (memoryOk (linkOf l)) (receiverOk (lineOf (linkOf l)) && outstandingOk (lineOf (linkOf l)))
-    (unfold memoryOk linkOf in
-    both (isPadded 260 (length (l .gathered)) (pad 260 (l .gathered))) (isPadded 261 (length (l .outstanding)) (pad 261 (l .outstanding)))
-    (pad-padded 260 (length (l .gathered)) (l .gathered) refl (gathered-short l (left (receiverOk l) (outstandingOk l) t)))
-    (pad-padded 261 (length (l .outstanding)) (l .outstanding) refl (outstanding-short l (right (receiverOk l) (outstandingOk l) t))))
-    (rw lineOf-linkOf t)
+    both (memoryOk (linkOf l)) (lineOk (lineOf (linkOf l))) memory (rw lineOf-linkOf t)
+  where
+    r : Bool
+    r = receiverOk (l .dropping) (l .gathered)
+
+    o : Bool
+    o = outstandingOk (l .send) (l .resends) (l .outstanding)
+
+    memory : T (memoryOk (linkOf l))
+    memory =
+        unfold memoryOk linkOf in
+        both (isPadded 260 (length (l .gathered)) (pad 260 (l .gathered))) (isPadded 261 (length (l .outstanding)) (pad 261 (l .outstanding)))
+        (pad-padded 260 (length (l .gathered)) (l .gathered) refl (gathered-short (l .dropping) (l .gathered) (unfold lineOk in left r o t)))
+        (pad-padded 261 (length (l .outstanding)) (l .outstanding) refl (outstanding-short (l .send) (l .resends) (l .outstanding) (unfold lineOk in right r o t)))
 
 -- ---- the range test decides the paper's words
-pub receiver-decided : (l : Line) → T (areBytes (l .gathered)) → T (receiverOk l) ↔ ReceiverInRange l
+pub receiver-decided : (l : Line) → T (areBytes (l .gathered)) → T (receiverOk (l .dropping) (l .gathered)) ↔ ReceiverInRange l
 unfolding receiverOk
 receiver-decided l bytes = (to (l .dropping) refl, from)
   where
-    to : (b : Bool) → l .dropping ≡ b → T (receiverOk l) → ReceiverInRange l
+    to : (b : Bool) → l .dropping ≡ b → T (receiverOk (l .dropping) (l .gathered)) → ReceiverInRange l
     to true e t = drops e (empty-eq (l .gathered) (T-true (isEmpty (l .gathered)) (simp e at t)))
     to false e t = beginning e (tested-begins (l .gathered) bytes (simp e at t))
 
-    from : ReceiverInRange l → T (receiverOk l)
+    from : ReceiverInRange l → T (receiverOk (l .dropping) (l .gathered))
     from (beginning e b) = simp e (begins-tested (l .gathered) b)
     from (drops e d) = simp (e, d) tt
 
@@ -80,20 +83,20 @@ whole-some : (c : ℕ) (f : List ℕ) → Whole c f → isEmpty f ≡ false
 unfolding dataFrame
 whole-some c f w = rw (w .frame)
 
-pub outstanding-decided : (l : Line) → T (outstandingOk l) ↔ OutstandingInRange l
+pub outstanding-decided : (l : Line) → T (outstandingOk (l .send) (l .resends) (l .outstanding)) ↔ OutstandingInRange l
 unfolding outstandingOk
 outstanding-decided l = (to (isEmpty (l .outstanding)) refl, from)
   where
     c : ℕ
     c = serverControl (l .send)
 
-    to : (b : Bool) → isEmpty (l .outstanding) ≡ b → T (outstandingOk l) → OutstandingInRange l
+    to : (b : Bool) → isEmpty (l .outstanding) ≡ b → T (outstandingOk (l .send) (l .resends) (l .outstanding)) → OutstandingInRange l
     to true e t = holds-nothing (empty-eq (l .outstanding) e) (eqb→eq (l .resends) 0 (simp e at t))
     to false e t =
         holds-frame (tested-whole c (l .outstanding) (left (isWhole c (l .outstanding)) (leb (l .resends) 3) (simp e at t)))
         (leb→le (l .resends) 3 (right (isWhole c (l .outstanding)) (leb (l .resends) 3) (simp e at t)))
 
-    from : OutstandingInRange l → T (outstandingOk l)
+    from : OutstandingInRange l → T (outstandingOk (l .send) (l .resends) (l .outstanding))
     from (holds-nothing e d) = simp (e, d) tt
     from (holds-frame w h) =
         simp (whole-some c (l .outstanding) w)
@@ -113,22 +116,28 @@ in-range-decided k bytes = (to, from)
     b : Bool
     b = isPadded 261 (k .held) (k .outstanding)
 
+    r : Bool
+    r = receiverOk (l .dropping) (l .gathered)
+
+    o : Bool
+    o = outstandingOk (l .send) (l .resends) (l .outstanding)
+
     gathered-bytes : T (areBytes (l .gathered))
     gathered-bytes = unfold lineOf in bytes-take (k .received) (k .receiver) bytes
 
     to : T (inRange k) → InRange k
     to t =
-        let m = left (a && b) (receiverOk l && outstandingOk l) t in
-        let o = right (a && b) (receiverOk l && outstandingOk l) t in
+        let m = left (a && b) (r && o) t in
+        let n = right (a && b) (r && o) t in
         record {
           receiverPadded = padded-decided 260 (k .received) (k .receiver) .0 (left a b m);
           outstandingPadded = padded-decided 261 (k .held) (k .outstanding) .0 (right a b m);
-          receiverInRange = receiver-decided l gathered-bytes .0 (left (receiverOk l) (outstandingOk l) o);
-          outstandingInRange = outstanding-decided l .0 (right (receiverOk l) (outstandingOk l) o);
+          receiverInRange = receiver-decided l gathered-bytes .0 (left r o n);
+          outstandingInRange = outstanding-decided l .0 (right r o n);
         }
 
     from : InRange k → T (inRange k)
-    from r =
-        both (a && b) (receiverOk l && outstandingOk l)
-        (both a b (padded-decided 260 (k .received) (k .receiver) .1 (r .receiverPadded)) (padded-decided 261 (k .held) (k .outstanding) .1 (r .outstandingPadded)))
-        (both (receiverOk l) (outstandingOk l) (receiver-decided l gathered-bytes .1 (r .receiverInRange)) (outstanding-decided l .1 (r .outstandingInRange)))
+    from i =
+        both (a && b) (r && o)
+        (both a b (padded-decided 260 (k .received) (k .receiver) .1 (i .receiverPadded)) (padded-decided 261 (k .held) (k .outstanding) .1 (i .outstandingPadded)))
+        (both r o (receiver-decided l gathered-bytes .1 (i .receiverInRange)) (outstanding-decided l .1 (i .outstandingInRange)))

@@ -45,14 +45,36 @@ pub message-waits : (m : List ℕ) (l : Line) → isEmpty (l .outstanding) ≡ f
 unfolding onMessage
 message-waits m l e = simp (e, or-true)
 
--- ---- the receiver at a frame start, or dropping
-pub start-ok : (l : Line) → T (outstandingOk l) → T (lineOk (atStart l))
-unfolding lineOk receiverOk outstandingOk atStart isBeginning gathers
-start-ok l t = t
+-- ---- lines that are in order
+abbrev outstandingFits : Line → Bool
+outstandingFits l = outstandingOk (l .send) (l .resends) (l .outstanding)
 
-pub dropping-ok : (l : Line) → T (outstandingOk l) → T (lineOk (startDropping l))
-unfolding lineOk receiverOk outstandingOk startDropping
+outstanding-of : (l : Line) → T (lineOk l) → T (outstandingFits l)
+unfolding lineOk
+outstanding-of l t = right (receiverOk (l .dropping) (l .gathered)) (outstandingFits l) t
+
+receiver-of : (l : Line) → T (lineOk l) → T (receiverOk (l .dropping) (l .gathered))
+unfolding lineOk
+receiver-of l t = left (receiverOk (l .dropping) (l .gathered)) (outstandingFits l) t
+
+-- the receiver at a frame start, or dropping
+start-receiver : T (receiverOk false [])
+unfolding receiverOk isBeginning gathers
+start-receiver = tt
+
+pub start-ok : (l : Line) → T (outstandingFits l) → T (lineOk (atStart l))
+unfolding lineOk atStart
+start-ok l t = both (receiverOk false []) (outstandingFits l) start-receiver t
+
+pub dropping-ok : (l : Line) → T (outstandingFits l) → T (lineOk (startDropping l))
+unfolding lineOk startDropping receiverOk
 dropping-ok l t = t
+
+-- nothing outstanding
+cleared-ok : (send : Bool) (dropping : Bool) (g : List ℕ) (expected : Bool) → T (receiverOk dropping g)
+    → T (lineOk (record { gathered = g; dropping = dropping; expected = expected; send = send; outstanding = []; resends = 0 }))
+unfolding lineOk outstandingOk
+cleared-ok send dropping g expected t = both (receiverOk dropping g) true t tt
 
 -- ---- a host byte: what it tells that it was heard so
 isGathered : Heard → Bool
@@ -108,35 +130,25 @@ case-request (Data c n) expected free t = go (eqb c (hostControl expected)) free
     go false v e d = absurd (rw (neither isRequest (eqb c (hostControl (not expected))) Repeat Ignored refl refl) at (simp e at t))
 
 -- ---- each case leaves a line that is in order in order
-heard-ok : (h : Heard) (b : ℕ) (l : Line) → (T (isGathered h) → T (isBeginning (l .gathered ++ b ∷ []))) → T (outstandingOk l) → T (lineOk (onHeard h b l .line))
+heard-ok : (h : Heard) (b : ℕ) (l : Line) → (T (isGathered h) → T (isBeginning (l .gathered ++ b ∷ []))) → T (outstandingFits l) → T (lineOk (onHeard h b l .line))
 unfolding onHeard
-heard-ok Gathered b l g o = more (g (unfold isGathered in tt))
-  where
-    more : T (isBeginning (l .gathered ++ b ∷ [])) → T (lineOk (gathering (l .gathered ++ b ∷ []) l))
-    more u = unfold lineOk receiverOk outstandingOk gathering in both (isBeginning (l .gathered ++ b ∷ [])) _ u (unfold outstandingOk in o)
+heard-ok Gathered b l g o = unfold lineOk gathering receiverOk in both (isBeginning (l .gathered ++ b ∷ [])) (outstandingFits l) (g (unfold isGathered in tt)) o
 heard-ok Dropped b l g o = dropping-ok l o
 heard-ok Ignored b l g o = start-ok l o
-heard-ok Acknowledged b l g o = unfold lineOk receiverOk outstandingOk atStart cleared isBeginning gathers in tt
-heard-ok Reset b l g o = unfold lineOk receiverOk outstandingOk atStart cleared expecting isBeginning gathers in tt
+heard-ok Acknowledged b l g o = unfold atStart cleared in cleared-ok (not (l .send)) false [] (l .expected) start-receiver
+heard-ok Reset b l g o = unfold atStart cleared expecting in cleared-ok true false [] true start-receiver
 heard-ok Repeat b l g o = start-ok l o
-heard-ok (Request n) b l g o = same-line (start-ok l o)
-  where
-    same-line : T (lineOk (atStart l)) → T (lineOk (expecting (not (l .expected)) (atStart l)))
-    same-line u = unfold lineOk receiverOk outstandingOk atStart expecting isBeginning gathers in u
+heard-ok (Request n) b l g o = unfold lineOk atStart expecting in both (receiverOk false []) (outstandingFits l) start-receiver o
 
 pub host-byte-ok : (b : ℕ) (l : Line) → T (lineOk l) → T (lineOk (onHostByte b l .line))
 unfolding onHostByte heardAt isGathered
-host-byte-ok b l t = heard-ok (heardAt b l) b l (go (l .dropping) refl) o
+host-byte-ok b l t = heard-ok (heardAt b l) b l (go (l .dropping) refl) (outstanding-of l t)
   where
-    r : T (receiverOk l)
-    r = unfold lineOk in left (receiverOk l) (outstandingOk l) t
-
-    o : T (outstandingOk l)
-    o = unfold lineOk in right (receiverOk l) (outstandingOk l) t
-
     go : (u : Bool) → l .dropping ≡ u → T (isGathered (heardAt b l)) → T (isBeginning (l .gathered ++ b ∷ []))
     go true e g = absurd (simp e at g)
-    go false e g = beginning-on (l .gathered) b (unfold receiverOk in simp e at r) (case-gathered (judged (l .gathered) b) (l .expected) (isEmpty (l .outstanding)) (simp e at g))
+    go false e g =
+        beginning-on (l .gathered) b (unfold receiverOk in simp e at (receiver-of l t))
+        (case-gathered (judged (l .gathered) b) (l .expected) (isEmpty (l .outstanding)) (simp e at g))
 
 -- a message is handed up only with nothing outstanding, so that its answer is never kept back
 request-up : (h : Heard) (b : ℕ) (l : Line) (m : List ℕ) → onHeard h b l .up ≡ message m → T (isRequest h)
@@ -157,41 +169,41 @@ message-free b l m h = go (l .dropping) refl (request-up (heardAt b l) b l m h)
     go true e g = absurd (simp e at g)
     go false e g = case-request (judged (l .gathered) b) (l .expected) (isEmpty (l .outstanding)) (simp e at g) .nothing-outstanding
 
+-- ---- the other events
 pub idle-mark-ok : (l : Line) → T (lineOk l) → T (lineOk (onIdleMark l .line))
 unfolding onIdleMark
-idle-mark-ok l t = start-ok l (unfold lineOk in right (receiverOk l) (outstandingOk l) t)
+idle-mark-ok l t = start-ok l (outstanding-of l t)
+
+-- the receiver stays, and this is outstanding
+holding-ok : (f : List ℕ) (n : ℕ) (l : Line) → T (lineOk l) → T (outstandingOk (l .send) n f) → T (lineOk (holding f n l))
+unfolding lineOk holding
+holding-ok f n l t o = both (receiverOk (l .dropping) (l .gathered)) (outstandingOk (l .send) n f) (receiver-of l t) o
 
 pub ack-wait-ok : (l : Line) → T (lineOk l) → T (lineOk (onAckWaitOver l .line))
-unfolding onAckWaitOver lineOk
+unfolding onAckWaitOver
 ack-wait-ok l t = go (isEmpty (l .outstanding)) (ltb (l .resends) 3) refl refl
   where
-    r : T (receiverOk l)
-    r = left (receiverOk l) (outstandingOk l) t
-
-    o : T (outstandingOk l)
-    o = right (receiverOk l) (outstandingOk l) t
-
     w : Bool
     w = isWhole (serverControl (l .send)) (l .outstanding)
 
-    again : isEmpty (l .outstanding) ≡ false → l .resends < 3 → T (outstandingOk (holding (l .outstanding) (l .resends + 1) l))
-    again e h = unfold outstandingOk holding in simp e (both w (leb (l .resends + 1) 3) (left w (leb (l .resends) 3) (unfold outstandingOk in simp e at o)) (le→leb (l .resends + 1) 3 (omega arith)))
+    again : isEmpty (l .outstanding) ≡ false → l .resends < 3 → T (outstandingOk (l .send) (l .resends + 1) (l .outstanding))
+    again e h = unfold outstandingOk in simp e (both w (leb (l .resends + 1) 3) (left w (leb (l .resends) 3) (unfold outstandingOk in simp e at (outstanding-of l t))) (le→leb (l .resends + 1) 3 (omega arith)))
 
     go : (u v : Bool) → isEmpty (l .outstanding) ≡ u → ltb (l .resends) 3 ≡ v → T (lineOk (onAckWaitOver l .line))
     go true v e d = simp e t
-    go false true e d = simp (e, d) (both (receiverOk (holding (l .outstanding) (l .resends + 1) l)) _ (unfold receiverOk holding in (unfold receiverOk in r)) (again e (ltb-true (l .resends) 3 d)))
-    go false false e d = simp (e, d) (both (receiverOk (cleared true l)) _ (unfold receiverOk cleared in (unfold receiverOk in r)) (unfold outstandingOk cleared in tt))
+    go false true e d = simp (e, d) (holding-ok (l .outstanding) (l .resends + 1) l t (again e (ltb-true (l .resends) 3 d)))
+    go false false e d = simp (e, d) (unfold cleared in cleared-ok true (l .dropping) (l .gathered) (l .expected) (receiver-of l t))
 
 pub message-ok : (m : List ℕ) (l : Line) → T (lineOk l) → T (lineOk (onMessage m l .line))
-unfolding onMessage lineOk
+unfolding onMessage
 message-ok m l t = go (isEmpty m || ltb 254 (length m)) (isEmpty (l .outstanding)) refl refl
   where
     c : ℕ
     c = serverControl (l .send)
 
-    framed : length m ≤ 254 → T (outstandingOk (holding (dataFrame c m) 0 l))
+    framed : length m ≤ 254 → T (outstandingOk (l .send) 0 (dataFrame c m))
     framed h =
-        unfold outstandingOk holding dataFrame in
+        unfold outstandingOk dataFrame in
         both (isWhole c (dataFrame c m)) true (whole-tested c (dataFrame c m) (record { carried = m; short = h; frame = refl })) tt
 
     short : (isEmpty m || ltb 254 (length m)) ≡ false → length m ≤ 254
@@ -204,6 +216,4 @@ message-ok m l t = go (isEmpty m || ltb 254 (length m)) (isEmpty (l .outstanding
     go : (u v : Bool) → (isEmpty m || ltb 254 (length m)) ≡ u → isEmpty (l .outstanding) ≡ v → T (lineOk (onMessage m l .line))
     go true v e d = simp e t
     go false false e d = simp (e, d) t
-    go false true e d =
-        simp (e, d)
-        (both (receiverOk (holding (dataFrame c m) 0 l)) _ (unfold receiverOk holding in (unfold receiverOk in left (receiverOk l) (outstandingOk l) t)) (framed (short e)))
+    go false true e d = simp (e, d) (holding-ok (dataFrame c m) 0 l t (framed (short e)))

@@ -20,6 +20,20 @@ pub record Line : Type 0 where
   pub outstanding : List ℕ
   pub resends : ℕ
 
+-- the record of these parts
+abbrev pub linkWith : List ℕ → ℕ → Bool → Bool → Bool → List ℕ → ℕ → ℕ → Link
+linkWith receiver received dropping expected send outstanding held resends =
+    record {
+      receiver = receiver;
+      received = received;
+      dropping = dropping;
+      expected = expected;
+      send = send;
+      outstanding = outstanding;
+      held = held;
+      resends = resends;
+    }
+
 -- what the record holds
 unfoldable pub lineOf : Link → Line
 lineOf k =
@@ -54,17 +68,17 @@ unfoldable pub serverControl : Bool → ℕ
 serverControl odd = if odd then 0xF3 else 0xD3
 
 -- "It is in range when the receiver bytes are a beginning, not the whole, of some sound frame, or none while the receiver drops"
-unfoldable pub receiverOk : Line → Bool
-receiverOk l = if l .dropping then isEmpty (l .gathered) else isBeginning (l .gathered)
+unfoldable pub receiverOk : Bool → List ℕ → Bool
+receiverOk dropping gathered = if dropping then isEmpty gathered else isBeginning gathered
 
 -- "either nothing is outstanding and the count is 0, or a whole server data frame is, under the send bit, with a count of 0 to 3"
-unfoldable pub outstandingOk : Line → Bool
-outstandingOk l =
-    if isEmpty (l .outstanding) then eqb (l .resends) 0
-    else isWhole (serverControl (l .send)) (l .outstanding) && leb (l .resends) 3
+unfoldable pub outstandingOk : Bool → ℕ → List ℕ → Bool
+outstandingOk send resends outstanding =
+    if isEmpty outstanding then eqb resends 0
+    else isWhole (serverControl send) outstanding && leb resends 3
 
 unfoldable pub lineOk : Line → Bool
-lineOk l = receiverOk l && outstandingOk l
+lineOk l = receiverOk (l .dropping) (l .gathered) && outstandingOk (l .send) (l .resends) (l .outstanding)
 
 -- the lengths are within the memory, "and [..] its unused bytes are 0"
 unfoldable pub memoryOk : Link → Bool
