@@ -1,7 +1,9 @@
 pub mod WordLaws
 pub mod ByteLaws
 pub mod ReceiverLaws
+pub mod JudgedLaws
 pub mod FrameLaws
+pub mod BeginningLaws
 pub mod BuildLaws
 pub mod RecordLaws
 pub mod RulesLaws

@@ -7,7 +7,7 @@ use mathlib.Core.List.{List, [], _∷_, _++_, map}
 use native.Mathlib.Omega.{arith}
 use native.Mathlib.Nat.{not-suc-le-zero, le-of-suc-le-suc}
 use lib.ListN.{length, getD, take, drop, replicate, length-append, length-drop, length-replicate, take-append-drop}
-use lib.Seq.{take-append-seam, drop-append-seam, getD-drop, length-take-le}
+use lib.Seq.{take-all, take-append-seam, drop-append-seam, getD-drop, length-take-le}
 use lib.Dec.{T, eqb, leb, ltb, eqb→eq, eqb-refl, leb→le, le→leb, ltb→lt, lt→ltb}
 use borrow.Author.Tests.{eq-eqb}
 use Rattle.link.specs.Words.{if_then_else_, isEmpty, every, keep, pad, same, sameBy, areZero, isPadded, Padded, areBytes}
@@ -116,6 +116,10 @@ same-refl (x ∷ s) = both (eqb x x) (same s s) (eqb-refl x) (same-refl s)
 
 pub eq→same : (xs ys : List ℕ) → xs ≡ ys → T (same xs ys)
 eq→same xs ys e = rw e (same-refl ys)
+
+-- what a call with the part of a slice from place k on is lent
+pub rest-whole : (k : ℕ) (s : List ℕ) → take (length s - k) (drop k s) ≡ drop k s
+rest-whole k s = take-all (length s - k) (drop k s) (omega (arith, length-drop k s))
 
 -- ---- padding
 pub take-pad : (n : ℕ) (s : List ℕ) → take (length s) (pad n s) ≡ s
