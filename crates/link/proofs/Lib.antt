@@ -7,3 +7,6 @@ pub mod BeginningLaws
 pub mod BuildLaws
 pub mod RecordLaws
 pub mod RulesLaws
+pub mod CaseLaws
+pub mod RangeLaws
+pub mod PlaceLaws

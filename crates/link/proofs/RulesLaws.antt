@@ -217,3 +217,14 @@ message-ok m l t = go (isEmpty m || ltb 254 (length m)) (isEmpty (l .outstanding
     go true v e d = simp e t
     go false false e d = simp (e, d) t
     go false true e d = simp (e, d) (holding-ok (dataFrame c m) 0 l t (framed (short e)))
+
+-- what the code learns of the byte from its case
+pub gathered-is-more : (j : Judgement) (expected free : Bool) → caseOf j expected free ≡ Gathered → j ≡ More
+gathered-is-more j expected free e = go j (case-gathered j expected free (rw e (unfold isGathered in tt)))
+  where
+    go : (x : Judgement) → T (isMore x) → x ≡ More
+    go More t = refl
+    go Damage t = absurd (unfold isMore in t)
+    go Acknowledgement t = absurd (unfold isMore in t)
+    go (Fixed c) t = absurd (unfold isMore in t)
+    go (Data c n) t = absurd (unfold isMore in t)

@@ -1,6 +1,7 @@
 -- The link rules of the server end. "The link rules know nothing of datapoints: the link hands up a message and takes one back." It also tells
 -- when the outstanding frame was acknowledged and when the host asked for a reset; neither touches a table.
 use Prim.Native.Nat.{ℕ, _+_}
+use mathlib.Core.Path.{_≡_}
 use mathlib.Core.Bool.{Bool, true, false, not, _||_}
 use mathlib.Core.List.{List, [], _∷_, _++_}
 use lib.ListN.{length}
@@ -12,7 +13,9 @@ use Rattle.link.specs.declared.rules.Heard.the-variants.{Gathered, Dropp
 use Rattle.link.specs.Words.{if_then_else_, isEmpty}
 use Rattle.link.specs.Frame.{acknowledgement, fixedFrame, dataFrame, longestMessage, messageOf}
 use Rattle.link.specs.Receiver.{judged}
-use Rattle.link.specs.Record.{Line, hostControl, serverControl}
+use Rattle.link.specs.Record.{Line, lineOf, linkOf, hostControl, serverControl}
+use Rattle.link.specs.declared.record.Link.{Link}
+use Rattle.link.specs.declared.rules.Bits.{Bits}
 
 -- what the link hands up: nothing, that the outstanding frame was acknowledged, that the host asked for a reset, or a message to be carried out
 pub data Up : Type 0 where
@@ -98,6 +101,30 @@ onHeard (Request n) b l = record { sent = acknowledgement; up = message (message
 
 unfoldable pub onHostByte : ℕ → Line → Moved
 onHostByte b l = onHeard (heardAt b l) b l
+
+-- ---- what stands in the record for a moment
+
+-- the two bits and the count
+unfoldable pub bitsOf : Line → Bits
+bitsOf l = record { expected = l .expected; send = l .send; resends = l .resends }
+
+-- on every line with the bits `before`, this case leaves the bits `after`
+abbrev pub BitsAfter : Heard → Bits → Bits → Type 0
+BitsAfter h before after = (l : Line) (b : ℕ) → bitsOf l ≡ before → bitsOf (onHeard h b l .line) ≡ after
+
+-- a request's bytes stay in the receiver until its message was carried out, since the message stands among them; then an idle mark's work clears them
+unfoldable pub unread : Heard → List ℕ → Line → Line
+unread Gathered g l = l
+unread Dropped g l = l
+unread Ignored g l = l
+unread Acknowledged g l = l
+unread Reset g l = l
+unread Repeat g l = l
+unread (Request n) g l = gathering g l
+
+-- the record after a host byte, a request not yet carried out
+unfoldable pub afterHostByte : ℕ → Link → Link
+afterHostByte b k = linkOf (unread (heardAt b (lineOf k)) (lineOf k .gathered) (onHostByte b (lineOf k) .line))
 
 -- ---- the other events
 
