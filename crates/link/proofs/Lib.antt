@@ -10,3 +10,4 @@ pub mod RulesLaws
 pub mod CaseLaws
 pub mod RangeLaws
 pub mod PlaceLaws
+pub mod EventLaws

@@ -136,33 +136,35 @@ in-place h b k bits receiver received dropping outstanding held e d r n x o m =
       resends = u i .resends;
     })
 
--- ---- one law for each case: the parts that change, and those that stay
-module _ (b : ℕ) (k : Link) (bits : Bits) (range : T (inRange k)) where
-  held-stays : k .outstanding ≡ pad 261 (lineOf k .outstanding)
+-- ---- the parts that stay
+module _ (k : Link) (range : T (inRange k)) where
+  pub held-stays : k .outstanding ≡ pad 261 (lineOf k .outstanding)
   unfolding lineOf
   held-stays = sym (pad-take 261 (k .held) (k .outstanding) (outstanding-padded k range))
 
-  count-stays : k .held ≡ length (lineOf k .outstanding)
+  pub count-stays : k .held ≡ length (lineOf k .outstanding)
   unfolding lineOf
   count-stays = sym (padded-length 261 (k .held) (k .outstanding) (outstanding-padded k range))
 
-  gathered-stays : k .receiver ≡ pad 260 (lineOf k .gathered)
+  pub gathered-stays : k .receiver ≡ pad 260 (lineOf k .gathered)
   unfolding lineOf
   gathered-stays = sym (pad-take 260 (k .received) (k .receiver) (receiver-padded k range))
 
-  received-stays : k .received ≡ length (lineOf k .gathered)
+  pub received-stays : k .received ≡ length (lineOf k .gathered)
   unfolding lineOf
   received-stays = sym (padded-length 260 (k .received) (k .receiver) (receiver-padded k range))
 
+-- ---- one law for each case
+module _ (b : ℕ) (k : Link) (bits : Bits) (range : T (inRange k)) where
   pub place-gathered : Gathered ≡ heardAt b (lineOf k) → bitsOf (onHeard Gathered b (lineOf k) .line) ≡ bits → k .dropping ≡ false → k .received < 260
       → linkWith (set (k .receiver) (k .received) b) (k .received + 1) (k .dropping) (bits .expected) (bits .send) (k .outstanding) (k .held) (bits .resends) ≡ afterHostByte b k
   place-gathered e d x h =
       in-place Gathered b k bits _ _ _ _ _ e d
       (unfold left-by unread onHeard gathering lineOf in stored 260 (k .received) b (k .receiver) (receiver-padded k range) h)
-      (unfold left-by unread onHeard gathering in omega (arith, received-stays, length-append (lineOf k .gathered) (b ∷ [])))
+      (unfold left-by unread onHeard gathering in omega (arith, received-stays k range, length-append (lineOf k .gathered) (b ∷ [])))
       (unfold left-by unread onHeard gathering in x)
-      (unfold left-by unread onHeard gathering in held-stays)
-      (unfold left-by unread onHeard gathering in count-stays)
+      (unfold left-by unread onHeard gathering in held-stays k range)
+      (unfold left-by unread onHeard gathering in count-stays k range)
 
   -- the receiver emptied, the outstanding frame as it was
   module _ (receiver : List ℕ) (received : ℕ) (r : receiver ≡ replicate (k .received) 0 ++ drop (k .received) (k .receiver)) (n : received ≡ 0) where
@@ -174,21 +176,21 @@ module _ (b : ℕ) (k : Link) (bits : Bits) (range : T (inRange k)) where
     place-dropped e d =
         in-place Dropped b k bits _ _ _ _ _ e d
         (unfold left-by unread onHeard startDropping in blanked) (unfold left-by unread onHeard startDropping in n) (unfold left-by unread onHeard startDropping in refl)
-        (unfold left-by unread onHeard startDropping in held-stays) (unfold left-by unread onHeard startDropping in count-stays)
+        (unfold left-by unread onHeard startDropping in held-stays k range) (unfold left-by unread onHeard startDropping in count-stays k range)
 
     pub place-ignored : Ignored ≡ heardAt b (lineOf k) → bitsOf (onHeard Ignored b (lineOf k) .line) ≡ bits → k .dropping ≡ false
         → linkWith receiver received (k .dropping) (bits .expected) (bits .send) (k .outstanding) (k .held) (bits .resends) ≡ afterHostByte b k
     place-ignored e d x =
         in-place Ignored b k bits _ _ _ _ _ e d
         (unfold left-by unread onHeard atStart in blanked) (unfold left-by unread onHeard atStart in n) (unfold left-by unread onHeard atStart in x)
-        (unfold left-by unread onHeard atStart in held-stays) (unfold left-by unread onHeard atStart in count-stays)
+        (unfold left-by unread onHeard atStart in held-stays k range) (unfold left-by unread onHeard atStart in count-stays k range)
 
     pub place-repeat : Repeat ≡ heardAt b (lineOf k) → bitsOf (onHeard Repeat b (lineOf k) .line) ≡ bits → k .dropping ≡ false
         → linkWith receiver received (k .dropping) (bits .expected) (bits .send) (k .outstanding) (k .held) (bits .resends) ≡ afterHostByte b k
     place-repeat e d x =
         in-place Repeat b k bits _ _ _ _ _ e d
         (unfold left-by unread onHeard atStart in blanked) (unfold left-by unread onHeard atStart in n) (unfold left-by unread onHeard atStart in x)
-        (unfold left-by unread onHeard atStart in held-stays) (unfold left-by unread onHeard atStart in count-stays)
+        (unfold left-by unread onHeard atStart in held-stays k range) (unfold left-by unread onHeard atStart in count-stays k range)
 
     -- and nothing outstanding any more
     module _ (outstanding : List ℕ) (held : ℕ) (o : outstanding ≡ replicate (k .held) 0 ++ drop (k .held) (k .outstanding)) (m : held ≡ 0) where
@@ -213,9 +215,9 @@ module _ (b : ℕ) (k : Link) (bits : Bits) (range : T (inRange k)) where
       → linkWith (k .receiver) (k .received) (k .dropping) (bits .expected) (bits .send) (k .outstanding) (k .held) (bits .resends) ≡ afterHostByte b k
   place-request size e d x =
       in-place (Request size) b k bits _ _ _ _ _ e d
-      (unfold left-by unread onHeard gathering expecting atStart in gathered-stays) (unfold left-by unread onHeard gathering expecting atStart in received-stays)
+      (unfold left-by unread onHeard gathering expecting atStart in gathered-stays k range) (unfold left-by unread onHeard gathering expecting atStart in received-stays k range)
       (unfold left-by unread onHeard gathering expecting atStart in x)
-      (unfold left-by unread onHeard gathering expecting atStart in held-stays) (unfold left-by unread onHeard gathering expecting atStart in count-stays)
+      (unfold left-by unread onHeard gathering expecting atStart in held-stays k range) (unfold left-by unread onHeard gathering expecting atStart in count-stays k range)
 
 -- while it drops, nothing moves
 dropping-empty : (k : Link) → T (inRange k) → k .dropping ≡ true → lineOf k .gathered ≡ []
@@ -228,11 +230,11 @@ unfolding bitsOf lineOf
 place-drops b k t e =
     in-place Dropped b k (bitsOf (lineOf k)) (k .receiver) (k .received) (k .dropping) (k .outstanding) (k .held) (heard-dropping k b e)
     (unfold onHeard startDropping bitsOf in refl)
-    (unfold left-by unread onHeard startDropping in (gathered-stays b k (bitsOf (lineOf k)) t ∙ ap (pad 260) (dropping-empty k t e)))
-    (unfold left-by unread onHeard startDropping in (received-stays b k (bitsOf (lineOf k)) t ∙ ap length (dropping-empty k t e)))
+    (unfold left-by unread onHeard startDropping in (gathered-stays k t ∙ ap (pad 260) (dropping-empty k t e)))
+    (unfold left-by unread onHeard startDropping in (received-stays k t ∙ ap length (dropping-empty k t e)))
     (unfold left-by unread onHeard startDropping in e)
-    (unfold left-by unread onHeard startDropping in held-stays b k (bitsOf (lineOf k)) t)
-    (unfold left-by unread onHeard startDropping in count-stays b k (bitsOf (lineOf k)) t)
+    (unfold left-by unread onHeard startDropping in held-stays k t)
+    (unfold left-by unread onHeard startDropping in count-stays k t)
 
 -- what the code knows of a case: its byte was judged j, and found to be h; the bits after it
 pub found-as : (k : Link) (b : ℕ) (j : Judgement) (x h : Heard) → T (inRange k) → k .dropping ≡ false → j ≡ judged (take (k .received) (k .receiver)) b

@@ -1,15 +1,20 @@
 // The link rules: the core by value, and the events on the record's parts where they lie.
 ghost use mathlib.Core.Path.{_≡_};
 ghost use mathlib.Core.List.{_++_};
-ghost use Prim.Native.Nat.{_≤_};
-ghost use lib.ListN.{length, drop, replicate};
+ghost use Prim.Native.Nat.{_+_, _≤_};
+ghost use lib.ListN.{length, take, drop, replicate};
 ghost use lib.Dec.{T};
-ghost use mathlib.Core.Bool.{false};
-ghost use Rattle.link.specs.Record.{linkWith, lineOf, inRange, hostControl};
-ghost use Rattle.link.specs.Rules.{BitsAfter, caseOfAcknowledgement, caseOfFixed, caseOfData, caseOf, heardAt, afterHostByte};
+ghost use Rattle.link.specs.Words.{put};
+ghost use Rattle.link.specs.Record.{linkWith, lineOf, linkOf, inRange, hostControl};
+ghost use Rattle.link.specs.Rules.{BitsAfter, caseOfAcknowledgement, caseOfFixed, caseOfData, caseOf, onIdleMark};
+ghost use Rattle.link.specs.Promise.{HostByteHeard, AckWaited, MessageTaken};
+use crate::frame::frame_in_place;
+use crate::frame::put_fixed_frame;
 use crate::receiver::Judgement;
 use crate::receiver::judge_at;
+use crate::record::server_control;
 use crate::words::blank;
+use crate::words::put_bytes;
 
 // What a host byte is to the link.
 pub enum Heard {
@@ -152,9 +157,8 @@ fn host_byte_at(
     b: u8,
 ) -> Heard
     requires { ⌜ T (inRange (linkWith (now receiver) (now received) (now dropping) (now expected) (now send) (now outstanding) (now held) (now resends))) ⌝ }
-    ensures { λ r. ⌜ (linkWith (now (receiver .exit)) (now (received .exit)) (now (dropping .exit)) (now (expected .exit)) (now (send .exit)) (now (outstanding .exit)) (now (held .exit)) (now (resends .exit))
-        ≡ afterHostByte b (linkWith (now (receiver .entry)) (now (received .entry)) (now (dropping .entry)) (now (expected .entry)) (now (send .entry)) (now (outstanding .entry)) (now (held .entry)) (now (resends .entry))))
-        × (r ≡ heardAt b (lineOf (linkWith (now (receiver .entry)) (now (received .entry)) (now (dropping .entry)) (now (expected .entry)) (now (send .entry)) (now (outstanding .entry)) (now (held .entry)) (now (resends .entry))))) ⌝ }
+    ensures { λ r. ⌜ HostByteHeard (linkWith (now (receiver .entry)) (now (received .entry)) (now (dropping .entry)) (now (expected .entry)) (now (send .entry)) (now (outstanding .entry)) (now (held .entry)) (now (resends .entry))) b r
+        (linkWith (now (receiver .exit)) (now (received .exit)) (now (dropping .exit)) (now (expected .exit)) (now (send .exit)) (now (outstanding .exit)) (now (held .exit)) (now (resends .exit))) ⌝ }
 {
     if *dropping {
         return Heard::Dropped;
@@ -207,10 +211,106 @@ fn host_byte_at(
 }
 
 // An idle mark, on the record's parts.
-fn idle_mark_at(receiver: &mut [u8; 260], received: &mut u16, dropping: &mut bool)
-    requires { ⌜ now received ≤ 260 ⌝ }
-    ensures { λ _. ⌜ (now (receiver .exit) ≡ replicate (now (received .entry)) 0 ++ drop (now (received .entry)) (now (receiver .entry))) × (now (received .exit) ≡ 0) × (now (dropping .exit) ≡ false) ⌝ }
+fn idle_mark_at(
+    receiver: &mut [u8; 260],
+    received: &mut u16,
+    dropping: &mut bool,
+    expected: &mut bool,
+    send: &mut bool,
+    outstanding: &mut [u8; 261],
+    held: &mut u16,
+    resends: &mut u8,
+)
+    requires { ⌜ T (inRange (linkWith (now receiver) (now received) (now dropping) (now expected) (now send) (now outstanding) (now held) (now resends))) ⌝ }
+    ensures { λ _. ⌜ linkWith (now (receiver .exit)) (now (received .exit)) (now (dropping .exit)) (now (expected .exit)) (now (send .exit)) (now (outstanding .exit)) (now (held .exit)) (now (resends .exit))
+        ≡ linkOf (onIdleMark (lineOf (linkWith (now (receiver .entry)) (now (received .entry)) (now (dropping .entry)) (now (expected .entry)) (now (send .entry)) (now (outstanding .entry)) (now (held .entry)) (now (resends .entry)))) .line) ⌝ }
 {
     empty_receiver(receiver, received);
     *dropping = false;
+}
+
+// The first n bytes of s into the buffer.
+fn put_first(out: &mut [u8], s: &[u8], n: usize)
+    requires { ⌜ (n ≤ length (now s)) × (n ≤ length (now out)) ⌝ }
+    ensures { λ _. ⌜ now (out .exit) ≡ put (now (out .entry)) 0 (take n (now (s .entry))) ⌝ }
+{
+    put_bytes(out, 0, &s[..n]);
+}
+
+// Ack wait over, on the record's parts: the outstanding frame's own bytes are sent again, three times at most.
+fn ack_wait_over_at(
+    receiver: &mut [u8; 260],
+    received: &mut u16,
+    dropping: &mut bool,
+    expected: &mut bool,
+    send: &mut bool,
+    outstanding: &mut [u8; 261],
+    held: &mut u16,
+    resends: &mut u8,
+    out: &mut [u8],
+) -> usize
+    requires { ⌜ T (inRange (linkWith (now receiver) (now received) (now dropping) (now expected) (now send) (now outstanding) (now held) (now resends))) × (262 ≤ length (now out)) ⌝ }
+    ensures { λ r. ⌜ AckWaited (linkWith (now (receiver .entry)) (now (received .entry)) (now (dropping .entry)) (now (expected .entry)) (now (send .entry)) (now (outstanding .entry)) (now (held .entry)) (now (resends .entry))) (now (out .entry)) r (now (out .exit))
+        (linkWith (now (receiver .exit)) (now (received .exit)) (now (dropping .exit)) (now (expected .exit)) (now (send .exit)) (now (outstanding .exit)) (now (held .exit)) (now (resends .exit))) ⌝ }
+{
+    if *held == 0 {
+        return 0;
+    }
+    if *resends < 3 {
+        let n = *held as usize;
+        put_first(out, outstanding, n);
+        *resends = *resends + 1;
+        return n;
+    }
+    put_fixed_frame(out, 0, 0xC0);
+    clear_outstanding(outstanding, held);
+    *send = true;
+    *resends = 0;
+    4
+}
+
+// The frame of so many bytes that stands in the buffer from `at` on, kept as the outstanding one.
+fn keep_frame(outstanding: &mut [u8; 261], out: &[u8], at: usize, size: usize)
+    requires { ⌜ (size ≤ 261) × (at + size ≤ length (now out)) ⌝ }
+    ensures { λ _. ⌜ now (outstanding .exit) ≡ put (now (outstanding .entry)) 0 (take size (drop at (now (out .entry)))) ⌝ }
+{
+    let end = at + size;
+    put_bytes(outstanding, 0, &out[at..end]);
+}
+
+// A message is taken back, on the record's parts: the n bytes that stand in the buffer from at + 5 on are framed where they stand, and the frame is
+// held as outstanding. Nothing, above 254 bytes or while something is outstanding: nothing is sent.
+fn message_at(
+    receiver: &mut [u8; 260],
+    received: &mut u16,
+    dropping: &mut bool,
+    expected: &mut bool,
+    send: &mut bool,
+    outstanding: &mut [u8; 261],
+    held: &mut u16,
+    resends: &mut u8,
+    out: &mut [u8],
+    at: usize,
+    n: usize,
+) -> usize
+    requires { ⌜ T (inRange (linkWith (now receiver) (now received) (now dropping) (now expected) (now send) (now outstanding) (now held) (now resends))) × (at ≤ 1) × (262 ≤ length (now out)) ⌝ }
+    ensures { λ r. ⌜ MessageTaken (take n (drop (at + 5) (now (out .entry)))) (linkWith (now (receiver .entry)) (now (received .entry)) (now (dropping .entry)) (now (expected .entry)) (now (send .entry)) (now (outstanding .entry)) (now (held .entry)) (now (resends .entry))) (now (out .entry)) at r (now (out .exit))
+        (linkWith (now (receiver .exit)) (now (received .exit)) (now (dropping .exit)) (now (expected .exit)) (now (send .exit)) (now (outstanding .exit)) (now (held .exit)) (now (resends .exit))) ⌝ }
+{
+    if n == 0 {
+        return 0;
+    }
+    if 254 < n {
+        return 0;
+    }
+    if *held == 0 {
+        let control = server_control(*send);
+        frame_in_place(out, at, n, control);
+        let size = n + 7;
+        keep_frame(outstanding, out, at, size);
+        *held = size as u16;
+        *resends = 0;
+        return size;
+    }
+    0
 }

@@ -21,7 +21,7 @@ returns c =
     let a = c .before .args in
     let k : Link = linkWith (a .receiver .now) (a .received .now) (a .dropping .now) (a .expected .now) (a .send .now) (a .outstanding .now) (a .held .now) (a .resends .now) in
     let t = c .before .pre in
-    (place-drops (a .b) k t (c .if1 .taken), heard-dropping k (a .b) (c .if1 .taken))
+    record { answer = heard-dropping k (a .b) (c .if1 .taken); link = place-drops (a .b) k t (c .if1 .taken) }
 
 judge-at-requires : tie.Need-judge-at-requires
 judge-at-requires c κs =
@@ -129,7 +129,7 @@ returns-2 c =
     let e = found-as k (a .b) _ _ Gathered t d (c .before .before .before .before .before .before .judge-at .ensures .0) (c .before .before .before .before .case-of .ensures) x in
     let u = bits-found k (a .b) _ Gathered _ (c .before .before .bits-after .ensures) x in
     let h = c .before .before .before .before .before .before .judge-at .ensures .1 (gathered-is-more _ _ _ (sym (c .before .before .before .before .case-of .ensures) ∙ x)) in
-    (place-gathered (a .b) k _ t e u d h, x ∙ e)
+    record { answer = x ∙ e; link = place-gathered (a .b) k _ t e u d h }
 
 returns-3 : tie.Need-returns-3
 returns-3 c =
@@ -140,7 +140,7 @@ returns-3 c =
     let x = c .before .before .before .enum-told2 .given .1 in
     let e = found-as k (a .b) _ _ Dropped t d (c .before .before .before .before .before .before .before .before .before .judge-at .ensures .0) (c .before .before .before .before .before .before .before .case-of .ensures) x in
     let u = bits-found k (a .b) _ Dropped _ (c .before .before .before .before .before .bits-after .ensures) x in
-    (place-dropped (a .b) k _ t _ _ (c .empty-receiver .ensures .0) (c .empty-receiver .ensures .1) e u, x ∙ e)
+    record { answer = x ∙ e; link = place-dropped (a .b) k _ t _ _ (c .empty-receiver .ensures .0) (c .empty-receiver .ensures .1) e u }
 
 returns-4 : tie.Need-returns-4
 returns-4 c =
@@ -151,7 +151,7 @@ returns-4 c =
     let x = c .before .before .before .enum-told3 .given .1 in
     let e = found-as k (a .b) _ _ Ignored t d (c .before .before .before .before .before .before .before .before .before .judge-at .ensures .0) (c .before .before .before .before .before .before .before .case-of .ensures) x in
     let u = bits-found k (a .b) _ Ignored _ (c .before .before .before .before .before .bits-after .ensures) x in
-    (place-ignored (a .b) k _ t _ _ (c .empty-receiver2 .ensures .0) (c .empty-receiver2 .ensures .1) e u d, x ∙ e)
+    record { answer = x ∙ e; link = place-ignored (a .b) k _ t _ _ (c .empty-receiver2 .ensures .0) (c .empty-receiver2 .ensures .1) e u d }
 
 returns-5 : tie.Need-returns-5
 returns-5 c =
@@ -162,7 +162,7 @@ returns-5 c =
     let x = c .before .before .before .before .before .before .enum-told4 .given .1 in
     let e = found-as k (a .b) _ _ Acknowledged t d (c .before .before .before .before .before .before .before .before .before .before .before .before .judge-at .ensures .0) (c .before .before .before .before .before .before .before .before .before .before .case-of .ensures) x in
     let u = bits-found k (a .b) _ Acknowledged _ (c .before .before .before .before .before .before .before .before .bits-after .ensures) x in
-    (place-acknowledged (a .b) k _ t _ _ (c .before .before .before .empty-receiver3 .ensures .0) (c .before .before .before .empty-receiver3 .ensures .1) _ _ (c .clear-outstanding .ensures .0) (c .clear-outstanding .ensures .1) e u d, x ∙ e)
+    record { answer = x ∙ e; link = place-acknowledged (a .b) k _ t _ _ (c .before .before .before .empty-receiver3 .ensures .0) (c .before .before .before .empty-receiver3 .ensures .1) _ _ (c .clear-outstanding .ensures .0) (c .clear-outstanding .ensures .1) e u d }
 
 returns-6 : tie.Need-returns-6
 returns-6 c =
@@ -173,7 +173,7 @@ returns-6 c =
     let x = c .before .before .before .before .before .before .enum-told5 .given .1 in
     let e = found-as k (a .b) _ _ Reset t d (c .before .before .before .before .before .before .before .before .before .before .before .before .judge-at .ensures .0) (c .before .before .before .before .before .before .before .before .before .before .case-of .ensures) x in
     let u = bits-found k (a .b) _ Reset _ (c .before .before .before .before .before .before .before .before .bits-after .ensures) x in
-    (place-reset (a .b) k _ t _ _ (c .before .before .before .empty-receiver4 .ensures .0) (c .before .before .before .empty-receiver4 .ensures .1) _ _ (c .clear-outstanding2 .ensures .0) (c .clear-outstanding2 .ensures .1) e u d, x ∙ e)
+    record { answer = x ∙ e; link = place-reset (a .b) k _ t _ _ (c .before .before .before .empty-receiver4 .ensures .0) (c .before .before .before .empty-receiver4 .ensures .1) _ _ (c .clear-outstanding2 .ensures .0) (c .clear-outstanding2 .ensures .1) e u d }
 
 returns-7 : tie.Need-returns-7
 returns-7 c =
@@ -184,7 +184,7 @@ returns-7 c =
     let x = c .before .before .before .enum-told6 .given .1 in
     let e = found-as k (a .b) _ _ Repeat t d (c .before .before .before .before .before .before .before .before .before .judge-at .ensures .0) (c .before .before .before .before .before .before .before .case-of .ensures) x in
     let u = bits-found k (a .b) _ Repeat _ (c .before .before .before .before .before .bits-after .ensures) x in
-    (place-repeat (a .b) k _ t _ _ (c .empty-receiver5 .ensures .0) (c .empty-receiver5 .ensures .1) e u d, x ∙ e)
+    record { answer = x ∙ e; link = place-repeat (a .b) k _ t _ _ (c .empty-receiver5 .ensures .0) (c .empty-receiver5 .ensures .1) e u d }
 
 returns-8 : tie.Need-returns-8
 returns-8 c =
@@ -195,7 +195,7 @@ returns-8 c =
     let x = c .enum-told7 .given .1 in
     let e = found-as k (a .b) _ _ (Request _) t d (c .before .before .before .before .before .before .judge-at .ensures .0) (c .before .before .before .before .case-of .ensures) x in
     let u = bits-found k (a .b) _ (Request _) _ (c .before .before .bits-after .ensures) x in
-    (place-request (a .b) k _ t _ e u d, x ∙ e)
+    record { answer = x ∙ e; link = place-request (a .b) k _ t _ e u d }
 
 pub host-byte-at-spec : {M : Type 1} → statement M
 host-byte-at-spec =
