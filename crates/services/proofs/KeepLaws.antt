@@ -16,7 +16,7 @@ use Rattle.services.specs.Item.{itemId, itemOk, withBytes}
 use Rattle.services.specs.Table.{Tables, rising, tableOk, wellFormed, found}
 use Rattle.services.specs.Message.{mainService, subService, startOf, numberOf, filterOf, coded, Finding, fine, bad, Served, answerOf, afterOf, served}
 use Rattle.services.specs.Get.{roomForEntries, getting, getServerItem, getDatapointDescription, asked, handingOut, getDatapointValue, getParameterByte}
-use Rattle.services.specs.Set.{SetEntry, firstItemEntry, firstDatapointEntry, fills, setEntries, judgedItem, judgedDatapoint, firstBad, setFinding, applied, setting, setItem, setServerItem, setDatapoint, setDatapointValue}
+use Rattle.services.specs.Set.{SetEntry, firstItemEntry, firstDatapointEntry, fills, setEntries, itemCode, datapointCode, judgedItem, judgedDatapoint, firstBad, setFinding, applied, setting, setItem, setServerItem, setDatapoint, setDatapointValue}
 use Rattle.services.specs.Service.{service, unanswered, carriedOut}
 use Rattle.services.specs.Indication.{goes, roomAfter, Choice, choices, reported, afterReport, indicationOf, indication}
 use Rattle.services.proofs.TableLaws
@@ -110,7 +110,7 @@ itemFits : SetEntry → Item → Bool
 itemFits o i = eqb (length (o .value)) (i .size)
 
 item-judged : (o : SetEntry) (i : Item) → T (eqb (judgedItem (i ∷ []) o) 0) → T (itemFits o i)
-unfolding judgedItem itemFits
+unfolding judgedItem itemCode itemFits
 item-judged o i t = go (i .writable) (eqb (length (o .value)) (i .size)) refl refl
   where
     go : (u v : Bool) → i .writable ≡ u → eqb (length (o .value)) (i .size) ≡ v → T (itemFits o i)
@@ -141,7 +141,7 @@ datapointFits : SetEntry → Datapoint → Bool
 datapointFits o d = if DatapointLaws.takesValue (o .command) then isValue (d .typecode) (o .value) else true
 
 datapoint-judged : (o : SetEntry) (d : Datapoint) → T (eqb (judgedDatapoint (d ∷ []) o) 0) → T (datapointFits o d)
-unfolding judgedDatapoint datapointFits DatapointLaws.takesValue isValue
+unfolding judgedDatapoint datapointCode datapointFits DatapointLaws.takesValue isValue
 datapoint-judged o d t =
     go (eqb (o .command) 1 || eqb (o .command) 3) (ltb 5 (o .command)) (isEmpty (o .value)) (eqb (length (o .value)) (sizeOf (d .typecode))) (unusedBitsOk (d .typecode) (o .value)) refl refl refl refl refl
   where

@@ -40,24 +40,31 @@ unfoldable pub setEntries : (List ℕ → SetEntry) → ℕ → ℕ → List ℕ
 setEntries first h zero s = []
 setEntries first h (suc n) s = first s ∷ setEntries first h n (drop (span h s) s)
 
--- Rows 7, 4 and 9: the code of an item's entry, 0 where nothing is wrong. The list is what `found` gives for the entry's ID.
-unfoldable pub judgedItem : List Item → SetEntry → ℕ
-judgedItem [] e = 7
-judgedItem (i ∷ is) e =
+-- Rows 4 and 9: the code of an entry for this item, 0 where nothing is wrong.
+unfoldable pub itemCode : Item → List ℕ → ℕ
+itemCode i value =
     if not (i .writable) then 4
-    else if not (eqb (length (e .value)) (i .size)) then 9
+    else if not (eqb (length value) (i .size)) then 9
     else 0
 
--- Rows 7, 8, 9 and 8: the code of a datapoint's entry. "command above 5, reserved bits included"; "datapoint length neither 0 nor the type's;
--- or 0 with command 1 or 3"; "a value whose unused bits are set".
+-- Rows 8, 9 and 8: the code of an entry for this datapoint. "command above 5, reserved bits included"; "datapoint length neither 0 nor the type's; or 0
+-- with command 1 or 3"; "a value whose unused bits are set".
+unfoldable pub datapointCode : Datapoint → ℕ → List ℕ → ℕ
+datapointCode d command value =
+    if ltb 5 command then 8
+    else if isEmpty value then (if eqb command 1 || eqb command 3 then 9 else 0)
+    else if not (eqb (length value) (sizeOf (d .typecode))) then 9
+    else if not (unusedBitsOk (d .typecode) value) then 8
+    else 0
+
+-- Row 7, and then those: the list is what `found` gives for the entry's ID.
+unfoldable pub judgedItem : List Item → SetEntry → ℕ
+judgedItem [] e = 7
+judgedItem (i ∷ is) e = itemCode i (e .value)
+
 unfoldable pub judgedDatapoint : List Datapoint → SetEntry → ℕ
 judgedDatapoint [] e = 7
-judgedDatapoint (d ∷ ds) e =
-    if ltb 5 (e .command) then 8
-    else if isEmpty (e .value) then (if eqb (e .command) 1 || eqb (e .command) 3 then 9 else 0)
-    else if not (eqb (length (e .value)) (sizeOf (d .typecode))) then 9
-    else if not (unusedBitsOk (d .typecode) (e .value)) then 8
-    else 0
+judgedDatapoint (d ∷ ds) e = datapointCode d (e .command) (e .value)
 
 -- "Entries are judged one after the other, each through rows 7 to 8; the first bad one decides."
 unfoldable pub firstBad : (SetEntry → ℕ) → List SetEntry → Finding
