@@ -50,7 +50,7 @@ pub summed-beginning : (n : ℕ) (b : List ℕ) → 1 ≤ n → n ≤ 255 → le
 summed-beginning n b p q h =
     ReceiverLaws.beginning-on (ReceiverLaws.headed n b) (checksum b) (body-beginning n b p q (omega arith)) (more (ReceiverLaws.judged-sum n b (checksum b) h ∙ only-itself (checksum b)))
 
-fixed-beginning : (c : ℕ) → T (isBeginning (0x10 ∷ c ∷ c ∷ []))
+pub fixed-beginning : (c : ℕ) → T (isBeginning (0x10 ∷ c ∷ c ∷ []))
 unfolding isBeginning gathers
 fixed-beginning c =
     both (isMore (judged [] 0x10)) _ (more (ReceiverLaws.judged-start 0x10 ∙ (unfold judgedFirst in refl)))
@@ -68,7 +68,7 @@ stops-short g rest whole x h e t =
     rw (← p) at q
 
 -- the data frame, its last byte apart
-frame-but-last : (c : ℕ) (m : List ℕ) → dataFrame c m ≡ ReceiverLaws.headed (suc (length m)) ((c ∷ m) ++ checksum (c ∷ m) ∷ []) ++ 0x16 ∷ []
+pub frame-but-last : (c : ℕ) (m : List ℕ) → dataFrame c m ≡ ReceiverLaws.headed (suc (length m)) ((c ∷ m) ++ checksum (c ∷ m) ∷ []) ++ 0x16 ∷ []
 unfolding dataFrame
 frame-but-last c m = rw (append-snoc m (checksum (c ∷ m)) (0x16 ∷ []))
 
@@ -147,6 +147,10 @@ tested-begins g bytes t = go (ReceiverLaws.beginning-stands g t)
 -- "a beginning, not the whole, of some sound frame": the test decides it, for lists of bytes
 pub begins-decided : (g : List ℕ) → T (areBytes g) → T (isBeginning g) ↔ Begins g
 begins-decided g bytes = (tested-begins g bytes, begins-tested g)
+
+-- a built frame is sound
+pub frame-sound : (c : ℕ) (m : List ℕ) → T (areBytes (c ∷ m)) → length m ≤ 254 → Sound (dataFrame c m)
+frame-sound c m t h = carries c m t h refl
 
 -- ---- Whole and its test
 pub frame-length : (c : ℕ) (m : List ℕ) → length (dataFrame c m) ≡ length m + 7

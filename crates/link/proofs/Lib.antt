@@ -1,3 +1,4 @@
+pub mod Types
 pub mod WordLaws
 pub mod ByteLaws
 pub mod ReceiverLaws
@@ -11,3 +12,6 @@ pub mod CaseLaws
 pub mod RangeLaws
 pub mod PlaceLaws
 pub mod EventLaws
+pub mod RequestLaws
+pub mod HearingLaws
+pub mod DeliveryLaws

@@ -2,7 +2,7 @@
 use Prim.Native.Nat.{ℕ, zero, suc, _+_, _-_, _≤_, _<_}
 use mathlib.Core.Path.{_≡_, refl, sym, _∙_, ap}
 use mathlib.Core.Logic.{_↔_}
-use mathlib.Core.Bool.{Bool, true, false, _&&_}
+use mathlib.Core.Bool.{Bool, true, false, _&&_, and-false}
 use mathlib.Core.List.{List, [], _∷_, _++_}
 use native.Mathlib.Omega.{arith}
 use lib.ListN.{length, getD, take}
@@ -141,3 +141,16 @@ in-range-decided k bytes = (to, from)
         both (a && b) (r && o)
         (both a b (padded-decided 260 (k .received) (k .receiver) .1 (i .receiverPadded)) (padded-decided 261 (k .held) (k .outstanding) .1 (i .outstandingPadded)))
         (both r o (receiver-decided l gathered-bytes .1 (i .receiverInRange)) (outstanding-decided l .1 (i .outstandingInRange)))
+
+-- ---- the test as the code makes it: the receiver first, then the outstanding frame
+regroup : (a b c d : Bool) → (a && c && (b && d)) ≡ (a && b && (c && d))
+regroup true true c d = refl
+regroup true false c d = and-false c
+regroup false b c d = refl
+
+pub range-parts : (k : Link)
+    → (isPadded 260 (k .received) (k .receiver) && receiverOk (k .dropping) (take (k .received) (k .receiver)) && (isPadded 261 (k .held) (k .outstanding) && outstandingOk (k .send) (k .resends) (take (k .held) (k .outstanding)))) ≡ inRange k
+unfolding inRange memoryOk lineOk lineOf
+range-parts k =
+    regroup (isPadded 260 (k .received) (k .receiver)) (isPadded 261 (k .held) (k .outstanding)) (receiverOk (k .dropping) (take (k .received) (k .receiver)))
+    (outstandingOk (k .send) (k .resends) (take (k .held) (k .outstanding)))

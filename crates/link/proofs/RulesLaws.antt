@@ -6,7 +6,7 @@ use mathlib.Core.List.{List, [], _∷_, _++_}
 use native.Mathlib.Omega.{arith}
 use lib.ListN.{length, getD, take, drop}
 use lib.Dec.{T, leb, ltb, eqb, le→leb}
-use borrow.Author.Tests.{ltb-true, ltb-false, eqb-true}
+use borrow.Author.Tests.{ltb-true, ltb-false, eqb-true, eq-eqb}
 use Rattle.link.specs.declared.receiver.Judgement.{Judgement}
 use Rattle.link.specs.declared.receiver.Judgement.the-variants.{More, Damage, Acknowledgement, Fixed, Data}
 use Rattle.link.specs.declared.rules.Heard.{Heard}
@@ -40,16 +40,22 @@ repeat-acknowledged n b l p d = go (l .expected) refl
     go true e = simp (p, d, e, onHostByte)
     go false e = simp (p, d, e, onHostByte)
 
+-- "Expected bit, something outstanding: dropped, unanswered, bit kept"
+pub waiting-keeps : (n b : ℕ) (l : Line) → l .dropping ≡ false → judged (l .gathered) b ≡ Data (hostControl (l .expected)) n → isEmpty (l .outstanding) ≡ false
+    → onHostByte b l ≡ still (receiving [] false l)
+unfolding onHostByte heardAt onHeard caseOf caseOfData atStart
+waiting-keeps n b l p d o = simp (p, d, o, eq-eqb (hostControl (l .expected)) (hostControl (l .expected)) refl)
+
 -- with something outstanding a message is not taken back
 pub message-waits : (m : List ℕ) (l : Line) → isEmpty (l .outstanding) ≡ false → onMessage m l ≡ still l
 unfolding onMessage
 message-waits m l e = simp (e, or-true)
 
 -- ---- lines that are in order
-abbrev outstandingFits : Line → Bool
+abbrev pub outstandingFits : Line → Bool
 outstandingFits l = outstandingOk (l .send) (l .resends) (l .outstanding)
 
-outstanding-of : (l : Line) → T (lineOk l) → T (outstandingFits l)
+pub outstanding-of : (l : Line) → T (lineOk l) → T (outstandingFits l)
 unfolding lineOk
 outstanding-of l t = right (receiverOk (l .dropping) (l .gathered)) (outstandingFits l) t
 
@@ -128,6 +134,24 @@ case-request (Data c n) expected free t = go (eqb c (hostControl expected)) free
     go true true e d = record { length = n; judgement = ap (λ (x : ℕ). Data x n) (eqb-true c (hostControl expected) e); nothing-outstanding = d }
     go true false e d = absurd (simp (e, d) at t)
     go false v e d = absurd (rw (neither isRequest (eqb c (hostControl (not expected))) Repeat Ignored refl refl) at (simp e at t))
+
+-- the byte that ends a request, and its L
+pub request-judged : (b : ℕ) (l : Line) (n : ℕ) → heardAt b l ≡ Request n → (l .dropping ≡ false) × (judged (l .gathered) b ≡ Data (hostControl (l .expected)) n)
+unfolding heardAt isRequest
+request-judged b l n h = go (l .dropping) refl
+  where
+    of-case : Requested (judged (l .gathered) b) (l .expected) (isEmpty (l .outstanding)) → caseOf (judged (l .gathered) b) (l .expected) (isEmpty (l .outstanding)) ≡ Request n
+        → judged (l .gathered) b ≡ Data (hostControl (l .expected)) n
+    of-case r e =
+        let w : caseOf (judged (l .gathered) b) (l .expected) (isEmpty (l .outstanding)) ≡ Request (r .length) =
+        unfold caseOf caseOfData in simp (r .judgement, r .nothing-outstanding, eq-eqb (hostControl (l .expected)) (hostControl (l .expected)) refl) in
+        let x : Request (r .length) ≡ Request n = sym w ∙ e in
+        let y : r .length ≡ n = cc x in
+        r .judgement ∙ ap (λ (i : ℕ). Data (hostControl (l .expected)) i) y
+
+    go : (u : Bool) → l .dropping ≡ u → (l .dropping ≡ false) × (judged (l .gathered) b ≡ Data (hostControl (l .expected)) n)
+    go true e = absurd (let z : _≡_ {A = ℕ} 0 1 = cc (simp e at h) in omega arith)
+    go false e = (e, of-case (case-request (judged (l .gathered) b) (l .expected) (isEmpty (l .outstanding)) (rw (simp e at h) tt)) (simp e at h))
 
 -- ---- each case leaves a line that is in order in order
 heard-ok : (h : Heard) (b : ℕ) (l : Line) → (T (isGathered h) → T (isBeginning (l .gathered ++ b ∷ []))) → T (outstandingFits l) → T (lineOk (onHeard h b l .line))
@@ -218,13 +242,14 @@ message-ok m l t = go (isEmpty m || ltb 254 (length m)) (isEmpty (l .outstanding
     go false false e d = simp (e, d) t
     go false true e d = simp (e, d) (holding-ok (dataFrame c m) 0 l t (framed (short e)))
 
+pub is-more : (j : Judgement) → T (isMore j) → j ≡ More
+unfolding isMore
+is-more More t = refl
+is-more Damage t = absurd t
+is-more Acknowledgement t = absurd t
+is-more (Fixed c) t = absurd t
+is-more (Data c n) t = absurd t
+
 -- what the code learns of the byte from its case
 pub gathered-is-more : (j : Judgement) (expected free : Bool) → caseOf j expected free ≡ Gathered → j ≡ More
-gathered-is-more j expected free e = go j (case-gathered j expected free (rw e (unfold isGathered in tt)))
-  where
-    go : (x : Judgement) → T (isMore x) → x ≡ More
-    go More t = refl
-    go Damage t = absurd (unfold isMore in t)
-    go Acknowledgement t = absurd (unfold isMore in t)
-    go (Fixed c) t = absurd (unfold isMore in t)
-    go (Data c n) t = absurd (unfold isMore in t)
+gathered-is-more j expected free e = is-more j (case-gathered j expected free (rw e (unfold isGathered in tt)))

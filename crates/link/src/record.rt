@@ -3,7 +3,7 @@ ghost use mathlib.Core.Path.{_≡_};
 ghost use mathlib.Core.Bool.{_&&_};
 ghost use lib.ListN.{length, take};
 ghost use Rattle.link.specs.Words.{isPadded};
-ghost use Rattle.link.specs.Record.{serverControl, receiverOk, outstandingOk};
+ghost use Rattle.link.specs.Record.{serverControl, receiverOk, outstandingOk, inRange};
 use crate::frame::is_whole;
 use crate::receiver::is_beginning;
 use crate::words::are_zero;
@@ -94,4 +94,19 @@ pub fn are_parts_in_range(
         return is_outstanding_ok(outstanding, k, send, resends);
     }
     false
+}
+
+// Whether the link record is in range.
+pub fn in_range(link: &Link) -> bool
+    ensures { λ r. ⌜ r ≡ inRange (now (link .entry)) ⌝ }
+{
+    are_parts_in_range(
+        &link.receiver,
+        link.received,
+        link.dropping,
+        link.send,
+        &link.outstanding,
+        link.held,
+        link.resends,
+    )
 }
