@@ -3,3 +3,4 @@ pub mod DatapointLaws
 pub mod AnswerLaws
 pub mod KeepLaws
 pub mod ServiceExamples
+pub mod ValueLaws
