@@ -4,3 +4,4 @@ pub mod AnswerLaws
 pub mod KeepLaws
 pub mod ServiceExamples
 pub mod ValueLaws
+pub mod EntryLaws

@@ -2,7 +2,12 @@
 ghost use mathlib.Core.Path.{_≡_};
 ghost use mathlib.Core.Bool.{false};
 ghost use Prim.Native.Nat.{_≤_};
-ghost use Rattle.services.specs.Datapoint.{sizeOf, limitOf, unusedBitsOk, isValue, handedOut, outcome, withMark};
+ghost use lib.ListN.{length};
+ghost use Rattle.link.specs.Words.{pad};
+ghost use Rattle.services.specs.Datapoint.{sizeOf, limitOf, unusedBitsOk, isValue, handedOut, busValue, outcome, commanded, withMark};
+ghost use Rattle.services.specs.Get.{passes};
+ghost use Rattle.services.specs.Set.{datapointCode};
+use link::words::put_bytes;
 
 // A datapoint: one record of the lent run of records.
 #[repr(C)]
@@ -99,4 +104,103 @@ pub fn outcome_of(d: Datapoint, status: u8) -> Datapoint
     let mut r = d;
     r.state = d.state / 4 * 4 + status;
     r
+}
+
+// The value in the record's memory, 0 behind it.
+pub fn padded(value: &[u8]) -> [u8; 14]
+    requires { ⌜ length (now value) ≤ 14 ⌝ }
+    ensures { λ r. ⌜ r ≡ pad 14 (now (value .entry)) ⌝ }
+{
+    let mut r = [0u8; 14];
+    put_bytes(&mut r, 0, value);
+    r
+}
+
+// A value came from the bus.
+pub fn bus_value(d: Datapoint, value: &[u8]) -> Datapoint
+    requires { ⌜ length (now value) ≤ 14 ⌝ }
+    ensures { λ r. ⌜ r ≡ busValue (now (value .entry)) d ⌝ }
+{
+    let v = padded(value);
+    let mut r = d;
+    r.value = v;
+    r.state = d.state / 32 * 32 + 24 + d.state % 4;
+    r.mark = true;
+    r
+}
+
+// A command of a set request, with the value sent with it.
+pub fn command(d: Datapoint, c: u8, value: &[u8]) -> Datapoint
+    requires { ⌜ length (now value) ≤ 14 ⌝ }
+    ensures { λ r. ⌜ r ≡ commanded c (now (value .entry)) d ⌝ }
+{
+    let s = d.state;
+    let valid = s / 32 * 32 + 16 + s % 16;
+    let mut r = d;
+    if c == 1 {
+        let v = padded(value);
+        r.value = v;
+        r.state = valid;
+        return r;
+    }
+    if c == 2 {
+        r.state = s / 4 * 4 + 3;
+        return r;
+    }
+    if c == 3 {
+        let v = padded(value);
+        r.value = v;
+        r.state = valid / 4 * 4 + 3;
+        return r;
+    }
+    if c == 4 {
+        r.state = s / 8 * 8 + 4 + s % 4;
+        return r;
+    }
+    if c == 5 {
+        r.state = s / 4 * 4;
+        return r;
+    }
+    r
+}
+
+// The code of a set entry for this record, 0 where nothing is wrong.
+pub fn entry_code(d: Datapoint, c: u8, value: &[u8]) -> u8
+    ensures { λ r. ⌜ r ≡ datapointCode d c (now (value .entry)) ⌝ }
+{
+    if 5 < c {
+        return 8;
+    }
+    if value.len() == 0 {
+        if c == 1 {
+            return 9;
+        }
+        if c == 3 {
+            return 9;
+        }
+        return 0;
+    }
+    if value.len() == size_of(d.typecode) {
+        if is_unused_bits_ok(d.typecode, value) {
+            return 0;
+        }
+        return 8;
+    }
+    9
+}
+
+// Whether the record passes the filter.
+pub fn passes_filter(d: Datapoint, filter: u8) -> bool
+    ensures { λ r. ⌜ r ≡ passes filter d ⌝ }
+{
+    if filter == 0 {
+        return true;
+    }
+    if filter == 1 {
+        return d.state / 16 % 2 == 1;
+    }
+    if filter == 2 {
+        return d.state / 8 % 2 == 1;
+    }
+    false
 }

@@ -1,0 +1,100 @@
+-- A law for each answer of a command, a filter and the code of a set entry; values kept in a record's memory.
+use Prim.Native.Nat.{ℕ, zero, suc, _+_, _-_, _≤_, _<_}
+use mathlib.Core.Path.{_≡_, refl, sym, _∙_, ap}
+use mathlib.Core.Bool.{Bool, true, false}
+use mathlib.Core.List.{List, [], _∷_, _++_}
+use native.Mathlib.Omega.{arith}
+use lib.ListN.{length, drop, replicate}
+use borrow.Author.Tests.{lt-ltb, le-ltb, eq-eqb, ne-eqb}
+use Rattle.link.specs.Words.{if_then_else_, pad, put, isEmpty}
+use Rattle.services.specs.declared.datapoint.Datapoint.{Datapoint}
+use Rattle.services.specs.declared.item.Item.{Item}
+use Rattle.services.specs.Datapoint.{sizeOf, unusedBitsOk, withValid, withRequest, withStatus, withState, withValue, commanded}
+use Rattle.services.specs.Set.{itemCode, datapointCode}
+
+-- ---- a value in memory that was 0
+drop-zeros : (k n : ℕ) → drop {A = ℕ} k (replicate n 0) ≡ replicate (n - k) 0
+drop-zeros zero n = ap {B = List ℕ} (λ (i : ℕ). replicate i 0) {x = n} {y = n - 0} (omega arith)
+drop-zeros (suc k) zero = ap {B = List ℕ} (λ (i : ℕ). replicate i 0) {x = 0} {y = 0 - suc k} (omega arith)
+drop-zeros (suc k) (suc n) = drop-zeros k n ∙ ap {B = List ℕ} (λ (i : ℕ). replicate i 0) {x = n - k} {y = suc n - suc k} (omega arith)
+
+pub put-zeros : (n : ℕ) (v : List ℕ) → put (replicate n 0) 0 v ≡ pad n v
+unfolding put
+put-zeros n v = ap (λ (k : ℕ). v ++ drop k (replicate n 0)) {x = 0 + length v} {y = length v} (omega arith) ∙ ap (λ (r : List ℕ). v ++ r) (drop-zeros (length v) n)
+
+-- ---- commands
+module _ (c : ℕ) (v : List ℕ) (d : Datapoint) where
+  pub command-1 : c ≡ 1 → commanded c v d ≡ withValue v (withValid (d .state)) d
+  unfolding commanded
+  command-1 e = simp (eq-eqb c 1 e)
+
+  pub command-2 : c ≡ 2 → commanded c v d ≡ withState (withStatus 3 (d .state)) d
+  unfolding commanded
+  command-2 e = rw e
+
+  pub command-3 : c ≡ 3 → commanded c v d ≡ withValue v (withStatus 3 (withValid (d .state))) d
+  unfolding commanded
+  command-3 e = rw e
+
+  pub command-4 : c ≡ 4 → commanded c v d ≡ withState (withRequest (d .state)) d
+  unfolding commanded
+  command-4 e = rw e
+
+  pub command-5 : c ≡ 5 → commanded c v d ≡ withState (withStatus 0 (d .state)) d
+  unfolding commanded
+  command-5 e = rw e
+
+  pub no-command : (c ≡ 1 → ⊥) → (c ≡ 2 → ⊥) → (c ≡ 3 → ⊥) → (c ≡ 4 → ⊥) → (c ≡ 5 → ⊥) → commanded c v d ≡ d
+  unfolding commanded
+  no-command n1 n2 n3 n4 n5 = simp (ne-eqb c 1 n1, ne-eqb c 2 n2, ne-eqb c 3 n3, ne-eqb c 4 n4, ne-eqb c 5 n5)
+
+-- ---- codes
+is-empty : (v : List ℕ) → length v ≡ 0 → isEmpty v ≡ true
+is-empty [] e = refl
+is-empty (x ∷ v) e = absurd (omega arith)
+
+not-empty : (v : List ℕ) → (length v ≡ 0 → ⊥) → isEmpty v ≡ false
+not-empty [] n = absurd (n refl)
+not-empty (x ∷ v) n = refl
+
+module _ (d : Datapoint) (c : ℕ) (v : List ℕ) where
+  pub code-of-command : 5 < c → datapointCode d c v ≡ 8
+  unfolding datapointCode
+  code-of-command h = simp (lt-ltb 5 c h)
+
+  pub code-of-none-1 : c ≡ 1 → length v ≡ 0 → datapointCode d c v ≡ 9
+  unfolding datapointCode
+  code-of-none-1 e n = rw e (simp (is-empty v n))
+
+  pub code-of-none-3 : c ≡ 3 → length v ≡ 0 → datapointCode d c v ≡ 9
+  unfolding datapointCode
+  code-of-none-3 e n = rw e (simp (is-empty v n))
+
+  pub code-of-none : c ≤ 5 → (c ≡ 1 → ⊥) → (c ≡ 3 → ⊥) → length v ≡ 0 → datapointCode d c v ≡ 0
+  unfolding datapointCode
+  code-of-none h n1 n3 n = simp (le-ltb 5 c h, is-empty v n, ne-eqb c 1 n1, ne-eqb c 3 n3)
+
+  pub code-of-size : c ≤ 5 → (length v ≡ 0 → ⊥) → (length v ≡ sizeOf (d .typecode) → ⊥) → datapointCode d c v ≡ 9
+  unfolding datapointCode
+  code-of-size h n k = simp (le-ltb 5 c h, not-empty v n, ne-eqb (length v) (sizeOf (d .typecode)) k)
+
+  pub code-of-bits : c ≤ 5 → (length v ≡ 0 → ⊥) → length v ≡ sizeOf (d .typecode) → unusedBitsOk (d .typecode) v ≡ false → datapointCode d c v ≡ 8
+  unfolding datapointCode
+  code-of-bits h n k u = simp (le-ltb 5 c h, not-empty v n, eq-eqb (length v) (sizeOf (d .typecode)) k, u)
+
+  pub code-of-value : c ≤ 5 → (length v ≡ 0 → ⊥) → length v ≡ sizeOf (d .typecode) → unusedBitsOk (d .typecode) v ≡ true → datapointCode d c v ≡ 0
+  unfolding datapointCode
+  code-of-value h n k u = simp (le-ltb 5 c h, not-empty v n, eq-eqb (length v) (sizeOf (d .typecode)) k, u)
+
+module _ (i : Item) (v : List ℕ) where
+  pub code-of-fixed : i .writable ≡ false → itemCode i v ≡ 4
+  unfolding itemCode
+  code-of-fixed e = simp e
+
+  pub code-of-data : i .writable ≡ true → length v ≡ i .size → itemCode i v ≡ 0
+  unfolding itemCode
+  code-of-data e k = simp (e, eq-eqb (length v) (i .size) k)
+
+  pub code-of-length : i .writable ≡ true → (length v ≡ i .size → ⊥) → itemCode i v ≡ 9
+  unfolding itemCode
+  code-of-length e k = simp (e, ne-eqb (length v) (i .size) k)

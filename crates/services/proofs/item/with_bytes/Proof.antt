@@ -1,0 +1,22 @@
+use mathlib.Core.Path.{_∙_}
+use Rattle.services.specs.Item.{withBytes}
+use Rattle.services.proofs.EntryLaws.{put-zeros}
+use borrow.Author.Needs.{needs}
+use Rattle.services.proofs.item.with_bytes.Statement.{statement}
+use Rattle.services.proofs.item.with_bytes.Tie as tie
+use Rattle.services.proofs.item.with_bytes.Reads as reads
+use Rattle.services.proofs.item.with_bytes.Lts as lts
+use Rattle.link.proofs.words.put_bytes.Reads as put-bytes-reads
+
+slice-aggregate-put-bytes : tie.Need-slice-aggregate-put-bytes
+slice-aggregate-put-bytes c = search needs
+
+put-bytes-requires : tie.Need-put-bytes-requires
+put-bytes-requires c κs = search needs
+
+returns : tie.Need-returns
+unfolding withBytes
+returns c = rw (c .before .put-bytes .ensures ∙ put-zeros 16 (c .before .before .before .before .args .value .now))
+
+pub with-bytes-spec : {M : Type 1} → statement M
+with-bytes-spec = tie.close (tie.spec slice-aggregate-put-bytes put-bytes-requires returns)
