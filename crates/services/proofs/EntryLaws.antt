@@ -4,9 +4,11 @@ use mathlib.Core.Path.{_≡_, refl, sym, _∙_, ap}
 use mathlib.Core.Bool.{Bool, true, false}
 use mathlib.Core.List.{List, [], _∷_, _++_}
 use native.Mathlib.Omega.{arith}
-use lib.ListN.{length, drop, replicate}
+use lib.ListN.{length, take, drop, replicate}
+use lib.Seq.{sets, length-take-le}
 use borrow.Author.Tests.{lt-ltb, le-ltb, eq-eqb, ne-eqb}
 use Rattle.link.specs.Words.{if_then_else_, pad, put, isEmpty}
+use Rattle.link.proofs.ByteLaws.{put-sets, put-put}
 use Rattle.services.specs.declared.datapoint.Datapoint.{Datapoint}
 use Rattle.services.specs.declared.item.Item.{Item}
 use Rattle.services.specs.Datapoint.{sizeOf, unusedBitsOk, withValid, withRequest, withStatus, withState, withValue, commanded}
@@ -98,3 +100,9 @@ module _ (i : Item) (v : List ℕ) where
   pub code-of-length : i .writable ≡ true → (length v ≡ i .size → ⊥) → itemCode i v ≡ 9
   unfolding itemCode
   code-of-length e k = simp (e, ne-eqb (length v) (i .size) k)
+
+-- ---- entries
+-- bytes stored one by one, and the used bytes of an array behind them, are one write
+pub put-entry : (l : List ℕ) (at k n : ℕ) (vs a : List ℕ) → k ≡ at + length vs → n ≤ length a → at + length vs + n ≤ length l → put (sets l at vs) k (take n a) ≡ put l at (vs ++ take n a)
+put-entry l at k n vs a e h m =
+    ap (λ (r : List ℕ). put r k (take n a)) (put-sets vs l at (omega arith)) ∙ put-put l at k vs (take n a) e (omega (arith, length-take-le n a h))

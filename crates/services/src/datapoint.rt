@@ -1,11 +1,11 @@
 // A datapoint record: the core by value. Nothing here knows of a table.
 ghost use mathlib.Core.Path.{_≡_};
 ghost use mathlib.Core.Bool.{false};
-ghost use Prim.Native.Nat.{_≤_};
+ghost use Prim.Native.Nat.{_+_, _≤_};
 ghost use lib.ListN.{length};
-ghost use Rattle.link.specs.Words.{pad};
+ghost use Rattle.link.specs.Words.{pad, put};
 ghost use Rattle.services.specs.Datapoint.{sizeOf, limitOf, unusedBitsOk, isValue, handedOut, busValue, outcome, commanded, withMark};
-ghost use Rattle.services.specs.Get.{passes};
+ghost use Rattle.services.specs.Get.{descriptionEntry, valueEntry, passes};
 ghost use Rattle.services.specs.Set.{datapointCode};
 use link::words::put_bytes;
 
@@ -203,4 +203,32 @@ pub fn passes_filter(d: Datapoint, filter: u8) -> bool
         return d.state / 8 % 2 == 1;
     }
     false
+}
+
+// The record's entry in a description answer, into the buffer at `at`; answers where it ends.
+pub fn put_description(out: &mut [u8], at: usize, d: Datapoint) -> usize
+    requires { ⌜ at + 5 ≤ length (now out) ⌝ }
+    ensures { λ r. ⌜ (now (out .exit) ≡ put (now (out .entry)) at (descriptionEntry d .bytes)) × (r ≡ at + length (descriptionEntry d .bytes)) ⌝ }
+{
+    out[at] = (d.id / 256) as u8;
+    out[at + 1] = (d.id % 256) as u8;
+    out[at + 2] = d.typecode;
+    out[at + 3] = d.flags;
+    out[at + 4] = d.dpt;
+    at + 5
+}
+
+// The record's entry in a value answer or an indication, the state byte as it is, into the buffer at `at`; answers where it ends.
+pub fn put_value(out: &mut [u8], at: usize, d: Datapoint) -> usize
+    requires { ⌜ (d .typecode ≤ 14) × (at + 4 + sizeOf (d .typecode) ≤ length (now out)) ⌝ }
+    ensures { λ r. ⌜ (now (out .exit) ≡ put (now (out .entry)) at (valueEntry d .bytes)) × (r ≡ at + length (valueEntry d .bytes)) ⌝ }
+{
+    let n = size_of(d.typecode);
+    let v = d.value;
+    out[at] = (d.id / 256) as u8;
+    out[at + 1] = (d.id % 256) as u8;
+    out[at + 2] = d.state;
+    out[at + 3] = n as u8;
+    put_bytes(&mut *out, at + 4, &v[..n]);
+    at + 4 + n
 }

@@ -1,8 +1,10 @@
 // A server item: the core by value.
 ghost use mathlib.Core.Path.{_≡_};
-ghost use Prim.Native.Nat.{_≤_};
+ghost use Prim.Native.Nat.{_+_, _≤_};
 ghost use lib.ListN.{length};
+ghost use Rattle.link.specs.Words.{put};
 ghost use Rattle.services.specs.Item.{withBytes};
+ghost use Rattle.services.specs.Get.{itemEntry};
 ghost use Rattle.services.specs.Set.{itemCode};
 use link::words::put_bytes;
 
@@ -39,4 +41,18 @@ pub fn with_bytes(i: Item, value: &[u8]) -> Item
     let mut r = i;
     r.bytes = v;
     r
+}
+
+// The item's entry in an answer, into the buffer at `at`; answers where it ends.
+pub fn put_item(out: &mut [u8], at: usize, i: Item) -> usize
+    requires { ⌜ (i .size ≤ 16) × (at + 3 + i .size ≤ length (now out)) ⌝ }
+    ensures { λ r. ⌜ (now (out .exit) ≡ put (now (out .entry)) at (itemEntry i .bytes)) × (r ≡ at + length (itemEntry i .bytes)) ⌝ }
+{
+    let n = i.size as usize;
+    let v = i.bytes;
+    out[at] = (i.id / 256) as u8;
+    out[at + 1] = (i.id % 256) as u8;
+    out[at + 2] = i.size;
+    put_bytes(&mut *out, at + 3, &v[..n]);
+    at + 3 + n
 }
