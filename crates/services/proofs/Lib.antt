@@ -5,3 +5,4 @@ pub mod KeepLaws
 pub mod ServiceExamples
 pub mod ValueLaws
 pub mod EntryLaws
+pub mod MaskLaws

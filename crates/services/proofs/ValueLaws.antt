@@ -1,11 +1,11 @@
 -- Laws of a value by its type code: its size, the limit of its first byte, its test.
 use Prim.Native.Nat.{ℕ, zero, suc, _+_, _^_, _≤_, _<_}
-use mathlib.Core.Path.{_≡_, refl, sym, _∙_, ap, subst}
+use mathlib.Core.Path.{_≡_, refl, sym, subst}
 use mathlib.Core.Bool.{Bool, true, false, _&&_}
 use mathlib.Core.Logic.{_⊎_, inl, inr}
 use mathlib.Core.List.{List, [], _∷_}
 use native.Mathlib.Omega.{arith}
-use native.Mathlib.Nat.{not-suc-le-zero, eq-or-lt-of-le}
+use native.Mathlib.Nat.{not-suc-le-zero, eq-or-lt-of-le, lt-irrefl}
 use lib.ListN.{length, getD}
 use lib.Dec.{T, ltb, eqb, eqb→eq}
 use lib.Pow.{pow-pos}
@@ -23,6 +23,9 @@ Others a (suc n) k = Others a n k × (k ≡ a + n → ⊥)
 pub beyond : (a n k : ℕ) → a ≤ k → Others a n k → a + n ≤ k
 beyond a zero k h o = omega arith
 beyond a (suc n) k h o = elim (eq-or-lt-of-le (beyond a n k h (o .0))) [ inl e ↦ absurd (o .1 (sym e)) | inr u ↦ omega (arith, u) ]
+
+pub exhausted : (a n k : ℕ) → a ≤ k → Others a (suc n) k → k ≤ a + n → ⊥
+exhausted a n k h o m = let b = beyond a (suc n) k h o in lt-irrefl k (omega arith)
 
 -- ---- a fact of each number below n, computed once
 abbrev pub upto : (ℕ → Bool) → ℕ → Bool

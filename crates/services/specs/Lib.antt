@@ -1,6 +1,7 @@
 pub mod Table
 pub mod Datapoint
 pub mod Item
+pub mod Mask
 pub mod Message
 pub mod Get
 pub mod Set

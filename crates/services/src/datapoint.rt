@@ -1,12 +1,17 @@
 // A datapoint record: the core by value. Nothing here knows of a table.
 ghost use mathlib.Core.Path.{_≡_};
-ghost use mathlib.Core.Bool.{false};
+ghost use mathlib.Core.Bool.{false, _&&_};
 ghost use Prim.Native.Nat.{_+_, _≤_};
 ghost use lib.ListN.{length};
+ghost use lib.Dec.{ltb};
 ghost use Rattle.link.specs.Words.{pad, put};
-ghost use Rattle.services.specs.Datapoint.{sizeOf, limitOf, unusedBitsOk, isValue, handedOut, busValue, outcome, commanded, withMark};
+ghost use Rattle.services.specs.Datapoint.{sizeOf, limitOf, unusedBitsOk, isValue, datapointOk, handedOut, busValue, outcome, commanded, withMark};
+ghost use Rattle.services.specs.Mask.{datapointMasks};
 ghost use Rattle.services.specs.Get.{descriptionEntry, valueEntry, passes};
 ghost use Rattle.services.specs.Set.{datapointCode};
+use crate::mask::Masks;
+use crate::mask::are_clear;
+use crate::mask::word8;
 use link::words::put_bytes;
 
 // A datapoint: one record of the lent run of records.
@@ -78,6 +83,110 @@ pub fn is_value(typecode: u8, value: &[u8]) -> bool
     false
 }
 
+// The bits of a record's bytes 4 to 11 and 12 to 19 that have to be 0. One `match` gives both numbers: it is compiled to two tables, and no jump.
+fn unused_bits(typecode: u8) -> Masks
+    requires { ⌜ typecode ≤ 14 ⌝ }
+    ensures { λ r. ⌜ r ≡ datapointMasks typecode ⌝ }
+{
+    match typecode {
+        0 => Masks {
+            low: 0xfffffffffffee000,
+            high: 0xffffffffffffffff,
+        },
+        1 => Masks {
+            low: 0xfffffffffffce000,
+            high: 0xffffffffffffffff,
+        },
+        2 => Masks {
+            low: 0xfffffffffff8e000,
+            high: 0xffffffffffffffff,
+        },
+        3 => Masks {
+            low: 0xfffffffffff0e000,
+            high: 0xffffffffffffffff,
+        },
+        4 => Masks {
+            low: 0xffffffffffe0e000,
+            high: 0xffffffffffffffff,
+        },
+        5 => Masks {
+            low: 0xffffffffffc0e000,
+            high: 0xffffffffffffffff,
+        },
+        6 => Masks {
+            low: 0xffffffffff80e000,
+            high: 0xffffffffffffffff,
+        },
+        7 => Masks {
+            low: 0xffffffffff00e000,
+            high: 0xffffffffffffffff,
+        },
+        8 => Masks {
+            low: 0xffffffff0000e000,
+            high: 0xffffffffffffffff,
+        },
+        9 => Masks {
+            low: 0xffffff000000e000,
+            high: 0xffffffffffffffff,
+        },
+        10 => Masks {
+            low: 0xffff00000000e000,
+            high: 0xffffffffffffffff,
+        },
+        11 => Masks {
+            low: 0x000000000000e000,
+            high: 0xffffffffffffffff,
+        },
+        12 => Masks {
+            low: 0x000000000000e000,
+            high: 0xffffffffffff0000,
+        },
+        13 => Masks {
+            low: 0x000000000000e000,
+            high: 0xffffffff00000000,
+        },
+        14 => Masks {
+            low: 0x000000000000e000,
+            high: 0x0000000000000000,
+        },
+        _ => Masks { low: 0, high: 0 },
+    }
+}
+
+// Whether the record may stand behind one with the ID `last`: a higher ID, and well formed. Two words of eight bytes against masks by type code.
+pub fn fits_after(d: Datapoint, last: u16) -> bool
+    ensures { λ r. ⌜ r ≡ (ltb last (d .id) && datapointOk d) ⌝ }
+{
+    if d.typecode > 14 {
+        return false;
+    }
+    if d.id <= last {
+        return false;
+    }
+    let m = unused_bits(d.typecode);
+    let low = word8(
+        d.dpt,
+        d.state,
+        d.value[0],
+        d.value[1],
+        d.value[2],
+        d.value[3],
+        d.value[4],
+        d.value[5],
+    );
+    let high = word8(
+        d.value[6],
+        d.value[7],
+        d.value[8],
+        d.value[9],
+        d.value[10],
+        d.value[11],
+        d.value[12],
+        d.value[13],
+    );
+    are_clear(m, low, high)
+}
+
 // The value was handed out.
 pub fn handed_out(d: Datapoint) -> Datapoint
     ensures { λ r. ⌜ r ≡ handedOut d ⌝ }
@@ -93,16 +202,6 @@ pub fn reported(d: Datapoint) -> Datapoint
 {
     let mut r = handed_out(d);
     r.mark = false;
-    r
-}
-
-// The outcome of a transmission.
-pub fn outcome_of(d: Datapoint, status: u8) -> Datapoint
-    requires { ⌜ status ≤ 3 ⌝ }
-    ensures { λ r. ⌜ r ≡ outcome status d ⌝ }
-{
-    let mut r = d;
-    r.state = d.state / 4 * 4 + status;
     r
 }
 
@@ -126,6 +225,16 @@ pub fn bus_value(d: Datapoint, value: &[u8]) -> Datapoint
     r.value = v;
     r.state = d.state / 32 * 32 + 24 + d.state % 4;
     r.mark = true;
+    r
+}
+
+// The outcome of a transmission.
+pub fn outcome_of(d: Datapoint, status: u8) -> Datapoint
+    requires { ⌜ status ≤ 3 ⌝ }
+    ensures { λ r. ⌜ r ≡ outcome status d ⌝ }
+{
+    let mut r = d;
+    r.state = d.state / 4 * 4 + status;
     r
 }
 

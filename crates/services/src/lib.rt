@@ -1,3 +1,4 @@
 // The tables that the module holds and the services that read and set them.
 pub mod datapoint;
 pub mod item;
+mod mask;

@@ -1,10 +1,7 @@
-use Rattle.services.specs.Datapoint.{busValue, withValue, withMark}
 use borrow.Author.Needs.{needs}
+use Rattle.services.specs.Datapoint.{busValue, withValue, withMark}
 use Rattle.services.proofs.datapoint.bus_value.Statement.{statement}
 use Rattle.services.proofs.datapoint.bus_value.Tie as tie
-use Rattle.services.proofs.datapoint.bus_value.Reads as reads
-use Rattle.services.proofs.datapoint.bus_value.Lts as lts
-use Rattle.services.proofs.datapoint.padded.Reads as padded-reads
 
 padded-requires : tie.Need-padded-requires
 padded-requires c κs = search needs

@@ -2,14 +2,11 @@
 use mathlib.Core.Path.{sym, _∙_}
 use native.Mathlib.Omega.{arith}
 use native.Mathlib.Numerals.{unary-clauses}
+use borrow.Author.Needs.{needs}
 use Rattle.services.specs.Datapoint.{withState, withValue}
 use Rattle.services.proofs.EntryLaws.{command-1, command-2, command-3, command-4, command-5, no-command}
-use borrow.Author.Needs.{needs}
 use Rattle.services.proofs.datapoint.command.Statement.{statement}
 use Rattle.services.proofs.datapoint.command.Tie as tie
-use Rattle.services.proofs.datapoint.command.Reads as reads
-use Rattle.services.proofs.datapoint.command.Lts as lts
-use Rattle.services.proofs.datapoint.padded.Reads as padded-reads
 
 mul-valid : tie.Need-mul-valid
 mul-valid c = search needs

@@ -1,14 +1,10 @@
 -- A law of EntryLaws for each answer.
 use mathlib.Core.Path.{sym, _∙_}
 use native.Mathlib.Omega.{arith}
-use Rattle.services.proofs.EntryLaws.{code-of-command, code-of-none-1, code-of-none-3, code-of-none, code-of-size, code-of-bits, code-of-value}
 use borrow.Author.Needs.{needs}
+use Rattle.services.proofs.EntryLaws.{code-of-command, code-of-none-1, code-of-none-3, code-of-none, code-of-size, code-of-bits, code-of-value}
 use Rattle.services.proofs.datapoint.entry_code.Statement.{statement}
 use Rattle.services.proofs.datapoint.entry_code.Tie as tie
-use Rattle.services.proofs.datapoint.entry_code.Reads as reads
-use Rattle.services.proofs.datapoint.entry_code.Lts as lts
-use Rattle.services.proofs.datapoint.is_unused_bits_ok.Reads as is-unused-bits-ok-reads
-use Rattle.services.proofs.datapoint.size_of.Reads as size-of-reads
 
 returns : tie.Need-returns
 returns c = sym (code-of-command _ _ _ (omega arith))

@@ -1,10 +1,8 @@
 use mathlib.Core.Path.{refl}
-use Rattle.services.specs.Datapoint.{withState, handedOut}
 use borrow.Author.Needs.{needs}
+use Rattle.services.specs.Datapoint.{withState, handedOut}
 use Rattle.services.proofs.datapoint.handed_out.Statement.{statement}
 use Rattle.services.proofs.datapoint.handed_out.Tie as tie
-use Rattle.services.proofs.datapoint.handed_out.Reads as reads
-use Rattle.services.proofs.datapoint.handed_out.Lts as lts
 
 mul-r : tie.Need-mul-r
 mul-r c = search needs

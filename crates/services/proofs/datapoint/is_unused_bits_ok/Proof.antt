@@ -2,14 +2,11 @@ use mathlib.Core.Path.{sym, ap}
 use native.Mathlib.Omega.{arith}
 use lib.ListN.{getD}
 use lib.Dec.{ltb}
+use borrow.Author.Needs.{needs}
 use Rattle.services.specs.Datapoint.{unusedBitsOk}
 use Rattle.services.proofs.ValueLaws.{none-unused}
-use borrow.Author.Needs.{needs}
 use Rattle.services.proofs.datapoint.is_unused_bits_ok.Statement.{statement}
 use Rattle.services.proofs.datapoint.is_unused_bits_ok.Tie as tie
-use Rattle.services.proofs.datapoint.is_unused_bits_ok.Reads as reads
-use Rattle.services.proofs.datapoint.is_unused_bits_ok.Lts as lts
-use Rattle.services.proofs.datapoint.limit_of.Reads as limit-of-reads
 
 limit-of-requires : tie.Need-limit-of-requires
 limit-of-requires c κs = search needs

@@ -1,13 +1,9 @@
 use mathlib.Core.Path.{sym, _∙_}
 use native.Mathlib.Omega.{arith}
-use Rattle.services.proofs.ValueLaws.{value-sized, value-of-other-size}
 use borrow.Author.Needs.{needs}
+use Rattle.services.proofs.ValueLaws.{value-sized, value-of-other-size}
 use Rattle.services.proofs.datapoint.is_value.Statement.{statement}
 use Rattle.services.proofs.datapoint.is_value.Tie as tie
-use Rattle.services.proofs.datapoint.is_value.Reads as reads
-use Rattle.services.proofs.datapoint.is_value.Lts as lts
-use Rattle.services.proofs.datapoint.is_unused_bits_ok.Reads as is-unused-bits-ok-reads
-use Rattle.services.proofs.datapoint.size_of.Reads as size-of-reads
 
 size-of-requires : tie.Need-size-of-requires
 size-of-requires c κs = search needs

@@ -1,12 +1,10 @@
 -- Each arm by computing; the last by a law.
-use mathlib.Core.Path.{sym, ap}
 use Prim.Native.Nat.{zero-le}
+use mathlib.Core.Path.{sym, ap}
 use Rattle.services.specs.Datapoint.{limitOf}
 use Rattle.services.proofs.ValueLaws.{beyond, limit-of-whole}
 use Rattle.services.proofs.datapoint.limit_of.Statement.{statement}
 use Rattle.services.proofs.datapoint.limit_of.Tie as tie
-use Rattle.services.proofs.datapoint.limit_of.Reads as reads
-use Rattle.services.proofs.datapoint.limit_of.Lts as lts
 
 returns : tie.Need-returns
 unfolding limitOf

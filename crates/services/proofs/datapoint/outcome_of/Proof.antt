@@ -1,10 +1,8 @@
 use mathlib.Core.Path.{refl}
-use Rattle.services.specs.Datapoint.{withState, outcome}
 use borrow.Author.Needs.{needs}
+use Rattle.services.specs.Datapoint.{withState, outcome}
 use Rattle.services.proofs.datapoint.outcome_of.Statement.{statement}
 use Rattle.services.proofs.datapoint.outcome_of.Tie as tie
-use Rattle.services.proofs.datapoint.outcome_of.Reads as reads
-use Rattle.services.proofs.datapoint.outcome_of.Lts as lts
 
 mul-r : tie.Need-mul-r
 mul-r c = search needs

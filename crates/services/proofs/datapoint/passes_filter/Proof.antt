@@ -1,9 +1,7 @@
-use Rattle.services.specs.Get.{passes}
 use borrow.Author.Tests.{ne-eqb}
+use Rattle.services.specs.Get.{passes}
 use Rattle.services.proofs.datapoint.passes_filter.Statement.{statement}
 use Rattle.services.proofs.datapoint.passes_filter.Tie as tie
-use Rattle.services.proofs.datapoint.passes_filter.Reads as reads
-use Rattle.services.proofs.datapoint.passes_filter.Lts as lts
 
 returns : tie.Need-returns
 unfolding passes

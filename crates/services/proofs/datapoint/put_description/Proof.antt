@@ -4,13 +4,11 @@ use mathlib.Core.List.{[], _∷_}
 use native.Mathlib.Omega.{arith}
 use native.Mathlib.Numerals.{towards-suc}
 use lib.ListN.{length-set}
+use borrow.Author.Needs.{needs}
 use Rattle.link.proofs.ByteLaws.{put-sets}
 use Rattle.services.specs.Get.{descriptionEntry}
-use borrow.Author.Needs.{needs}
 use Rattle.services.proofs.datapoint.put_description.Statement.{statement}
 use Rattle.services.proofs.datapoint.put_description.Tie as tie
-use Rattle.services.proofs.datapoint.put_description.Reads as reads
-use Rattle.services.proofs.datapoint.put_description.Lts as lts
 
 cast-out : tie.Need-cast-out
 cast-out c = search needs

@@ -2,23 +2,17 @@
 use mathlib.Core.List.{[], _∷_}
 use mathlib.Core.Path.{_≡_, ap, sym, _∙_}
 use native.Mathlib.Numerals.{towards-suc}
+use native.Mathlib.Omega.{arith}
 use lib.Seq.{length-take-le}
+use lib.ListN.{length, length-set}
+use borrow.Author.Needs.{needs}
 use Rattle.link.proofs.ByteLaws.{length-put}
 use Rattle.services.specs.Datapoint.{valueOf}
 use Rattle.services.specs.Get.{valueEntry}
 use Rattle.services.proofs.EntryLaws.{put-entry}
-use native.Mathlib.Omega.{arith}
-use lib.ListN.{length, length-set}
-use Prim.Native.Nat.{_≤_}
-use mathlib.Core.Path.{_≡_}
 use Rattle.services.proofs.DatapointLaws.{size-fits}
-use borrow.Author.Needs.{needs}
 use Rattle.services.proofs.datapoint.put_value.Statement.{statement}
 use Rattle.services.proofs.datapoint.put_value.Tie as tie
-use Rattle.services.proofs.datapoint.put_value.Reads as reads
-use Rattle.services.proofs.datapoint.put_value.Lts as lts
-use Rattle.link.proofs.words.put_bytes.Reads as put-bytes-reads
-use Rattle.services.proofs.datapoint.size_of.Reads as size-of-reads
 
 size-of-requires : tie.Need-size-of-requires
 size-of-requires c κs = search needs
@@ -95,9 +89,10 @@ returns c =
     let s = c .before .before .before .before .before .before .before .before .size-of in
     let h : length (a .d .value) ≡ 14 = search needs in
     let k = size-fits (a .d .typecode) in
-    rw (← s .ensures)
-    (rw (c .before .before .put-bytes .ensures) (simp towards-suc (put-entry (a .out .now) (a .at) _ (s .result) (_ ∷ _ ∷ _ ∷ _ ∷ []) (a .d .value) (omega arith) (omega arith) (omega arith))),
-    omega (arith, length-take-le (s .result) (a .d .value) (omega arith)))
+    rw (← s .ensures) (
+      rw (c .before .before .put-bytes .ensures) (simp towards-suc (put-entry (a .out .now) (a .at) _ (s .result) (_ ∷ _ ∷ _ ∷ _ ∷ []) (a .d .value) (omega arith) (omega arith) (omega arith))),
+      omega (arith, length-take-le (s .result) (a .d .value) (omega arith)),
+    )
 
 pub put-value-spec : {M : Type 1} → statement M
 put-value-spec =

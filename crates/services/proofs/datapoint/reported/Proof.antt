@@ -1,12 +1,9 @@
 use mathlib.Core.Path.{ap}
 use mathlib.Core.Bool.{false}
-use Rattle.services.specs.Datapoint.{withMark}
 use borrow.Author.Needs.{needs}
+use Rattle.services.specs.Datapoint.{withMark}
 use Rattle.services.proofs.datapoint.reported.Statement.{statement}
 use Rattle.services.proofs.datapoint.reported.Tie as tie
-use Rattle.services.proofs.datapoint.reported.Reads as reads
-use Rattle.services.proofs.datapoint.reported.Lts as lts
-use Rattle.services.proofs.datapoint.handed_out.Reads as handed-out-reads
 
 handed-out-requires : tie.Need-handed-out-requires
 handed-out-requires c κs = search needs

@@ -4,8 +4,6 @@ use Rattle.services.specs.Datapoint.{sizeOf}
 use Rattle.services.proofs.ValueLaws.{beyond, size-of-bits, size-of-none}
 use Rattle.services.proofs.datapoint.size_of.Statement.{statement}
 use Rattle.services.proofs.datapoint.size_of.Tie as tie
-use Rattle.services.proofs.datapoint.size_of.Reads as reads
-use Rattle.services.proofs.datapoint.size_of.Lts as lts
 
 returns : tie.Need-returns
 unfolding sizeOf

@@ -1,12 +1,10 @@
 -- A law of EntryLaws for each answer.
 use mathlib.Core.Path.{sym}
 use native.Mathlib.Omega.{arith}
-use Rattle.services.proofs.EntryLaws.{code-of-fixed, code-of-data, code-of-length}
 use borrow.Author.Needs.{needs}
+use Rattle.services.proofs.EntryLaws.{code-of-fixed, code-of-data, code-of-length}
 use Rattle.services.proofs.item.item_code.Statement.{statement}
 use Rattle.services.proofs.item.item_code.Tie as tie
-use Rattle.services.proofs.item.item_code.Reads as reads
-use Rattle.services.proofs.item.item_code.Lts as lts
 
 cast-if2 : tie.Need-cast-if2
 cast-if2 c = search needs

@@ -2,20 +2,16 @@
 use mathlib.Core.List.{[], _∷_}
 use mathlib.Core.Path.{_≡_, ap, sym, _∙_}
 use native.Mathlib.Numerals.{towards-suc}
+use native.Mathlib.Omega.{arith}
 use lib.Seq.{length-take-le}
+use lib.ListN.{length, length-set}
+use borrow.Author.Needs.{needs}
 use Rattle.link.proofs.ByteLaws.{length-put}
 use Rattle.services.specs.Item.{bytesOf}
 use Rattle.services.specs.Get.{itemEntry}
 use Rattle.services.proofs.EntryLaws.{put-entry}
-use native.Mathlib.Omega.{arith}
-use lib.ListN.{length, length-set}
-use mathlib.Core.Path.{_≡_}
-use borrow.Author.Needs.{needs}
 use Rattle.services.proofs.item.put_item.Statement.{statement}
 use Rattle.services.proofs.item.put_item.Tie as tie
-use Rattle.services.proofs.item.put_item.Reads as reads
-use Rattle.services.proofs.item.put_item.Lts as lts
-use Rattle.link.proofs.words.put_bytes.Reads as put-bytes-reads
 
 cast-n : tie.Need-cast-n
 cast-n c = search needs
@@ -79,9 +75,10 @@ returns : tie.Need-returns
 unfolding itemEntry bytesOf
 returns c =
     let a = c .before .before .before .before .before .before .before .before .before .before .args in
-    let h : length (a .i .bytes) ≡ 16 = search needs in
-    (rw (c .before .before .put-bytes .ensures) (simp towards-suc (put-entry (a .out .now) (a .at) _ (a .i .size) (_ ∷ _ ∷ _ ∷ []) (a .i .bytes) (omega arith) (omega arith) (omega arith))),
-    omega (arith, length-take-le (a .i .size) (a .i .bytes) (omega arith)))
+    let h : length (a .i .bytes) ≡ 16 = search needs in (
+      rw (c .before .before .put-bytes .ensures) (simp towards-suc (put-entry (a .out .now) (a .at) _ (a .i .size) (_ ∷ _ ∷ _ ∷ []) (a .i .bytes) (omega arith) (omega arith) (omega arith))),
+      omega (arith, length-take-le (a .i .size) (a .i .bytes) (omega arith)),
+    )
 
 pub put-item-spec : {M : Type 1} → statement M
 put-item-spec =

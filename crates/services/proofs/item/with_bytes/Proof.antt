@@ -1,12 +1,9 @@
 use mathlib.Core.Path.{_∙_}
+use borrow.Author.Needs.{needs}
 use Rattle.services.specs.Item.{withBytes}
 use Rattle.services.proofs.EntryLaws.{put-zeros}
-use borrow.Author.Needs.{needs}
 use Rattle.services.proofs.item.with_bytes.Statement.{statement}
 use Rattle.services.proofs.item.with_bytes.Tie as tie
-use Rattle.services.proofs.item.with_bytes.Reads as reads
-use Rattle.services.proofs.item.with_bytes.Lts as lts
-use Rattle.link.proofs.words.put_bytes.Reads as put-bytes-reads
 
 slice-aggregate-put-bytes : tie.Need-slice-aggregate-put-bytes
 slice-aggregate-put-bytes c = search needs
