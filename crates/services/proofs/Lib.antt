@@ -6,3 +6,4 @@ pub mod ServiceExamples
 pub mod ValueLaws
 pub mod EntryLaws
 pub mod MaskLaws
+pub mod SetLaws

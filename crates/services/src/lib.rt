@@ -2,3 +2,6 @@
 pub mod datapoint;
 pub mod item;
 mod mask;
+pub mod message;
+pub mod service;
+pub mod set;

@@ -1,0 +1,52 @@
+// A request's fields, and the heads of answers.
+ghost use mathlib.Core.Path.{_≡_};
+ghost use mathlib.Core.List.{[], _∷_, _++_};
+ghost use Prim.Native.Nat.{_+_, _≤_, _<_};
+ghost use lib.ListN.{length};
+ghost use Rattle.link.specs.Words.{put, twoBytes};
+ghost use Rattle.services.specs.Message.{subService, startOf, numberOf, coded};
+
+// StartItem, StartDatapoint or StartByte.
+pub fn start_of(m: &[u8]) -> u16
+    requires { ⌜ 6 ≤ length (now m) ⌝ }
+    ensures { λ r. ⌜ r ≡ startOf (now (m .entry)) ⌝ }
+{
+    m[2] as u16 * 256 + m[3] as u16
+}
+
+// NumberOfItems, NumberOfDatapoints or NumberOfBytes.
+pub fn number_of(m: &[u8]) -> u16
+    requires { ⌜ 6 ≤ length (now m) ⌝ }
+    ensures { λ r. ⌜ r ≡ numberOf (now (m .entry)) ⌝ }
+{
+    m[4] as u16 * 256 + m[5] as u16
+}
+
+// The answer of seven bytes to the message m, into the buffer at `at`; answers where it ends.
+pub fn put_coded(out: &mut [u8], at: usize, m: &[u8], id: u16, code: u8) -> usize
+    requires { ⌜ (6 ≤ length (now m)) × (subService (now m) < 0x80) × (at + 7 ≤ length (now out)) ⌝ }
+    ensures { λ r. ⌜ (now (out .exit) ≡ put (now (out .entry)) at (coded (now (m .entry)) id code)) × (r ≡ at + 7) ⌝ }
+{
+    out[at] = 0xf0;
+    out[at + 1] = m[1] + 0x80;
+    out[at + 2] = (id / 256) as u8;
+    out[at + 3] = (id % 256) as u8;
+    out[at + 4] = 0;
+    out[at + 5] = 0;
+    out[at + 6] = code;
+    at + 7
+}
+
+// What stands in front of an answer's entries, into the buffer at `at`; answers where the entries begin.
+pub fn put_head(out: &mut [u8], at: usize, sub: u8, start: u16, count: u16) -> usize
+    requires { ⌜ at + 6 ≤ length (now out) ⌝ }
+    ensures { λ r. ⌜ (now (out .exit) ≡ put (now (out .entry)) at (0xF0 ∷ sub ∷ twoBytes start ++ twoBytes count)) × (r ≡ at + 6) ⌝ }
+{
+    out[at] = 0xf0;
+    out[at + 1] = sub;
+    out[at + 2] = (start / 256) as u8;
+    out[at + 3] = (start % 256) as u8;
+    out[at + 4] = (count / 256) as u8;
+    out[at + 5] = (count % 256) as u8;
+    at + 6
+}
