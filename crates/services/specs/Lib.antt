@@ -4,6 +4,7 @@ pub mod Item
 pub mod Mask
 pub mod Message
 pub mod Get
+pub mod Gather
 pub mod Set
 pub mod Service
 pub mod Indication

@@ -1,5 +1,6 @@
 // The tables that the module holds and the services that read and set them.
 pub mod datapoint;
+pub mod gather;
 pub mod item;
 mod mask;
 pub mod message;

@@ -1,0 +1,75 @@
+-- How entries are gathered: measured in one pass over the table, built in a second, each ending at the first record behind the range. Inner contracts alone
+-- cite these; what an answer has to be is said by Get and Indication.
+use Prim.Native.Nat.{ℕ, _+_}
+use mathlib.Core.Bool.{Bool, true, false, not, _&&_, _||_}
+use mathlib.Core.List.{List, [], _∷_, _++_}
+use lib.ListN.{length}
+use lib.Dec.{leb, ltb}
+use Rattle.link.specs.Words.{if_then_else_}
+use Rattle.services.specs.declared.datapoint.Datapoint.{Datapoint}
+use Rattle.services.specs.declared.item.Item.{Item}
+use Rattle.services.specs.declared.gather.Wanted.{Wanted}
+use Rattle.services.specs.declared.gather.Gathered.{Gathered}
+use Rattle.services.specs.Datapoint.{withMark, handedOut}
+use Rattle.services.specs.Get.{AnswerEntry, roomForEntries, descriptionEntry, valueEntry, passes}
+
+-- ---- which records, and what is said of one and left of it
+-- behind the range, as all records after it are
+unfoldable pub isBehind : Wanted → ℕ → Bool
+isBehind w id = leb (w .end) id
+
+unfoldable pub isWithin : Wanted → ℕ → Bool
+isWithin w id = leb (w .start) id && ltb id (w .end)
+
+unfoldable pub isWanted : Wanted → Datapoint → Bool
+isWanted w d = isWithin w (d .id) && passes (w .filter) d && (not (w .marked) || d .mark)
+
+unfoldable pub entryOf : Wanted → Datapoint → AnswerEntry
+entryOf w d = if w .values then valueEntry d else descriptionEntry d
+
+-- the record after its entry was built
+unfoldable pub leftOf : Wanted → Datapoint → Datapoint
+leftOf w d = if w .values then (if w .marked then withMark false (handedOut d) else handedOut d) else d
+
+-- ---- the first pass
+unfoldable pub ended : Gathered → Gathered
+ended g = record { count = g .count; size = g .size; over = g .over; ended = true }
+
+-- an entry of this ID and so many bytes is counted, or is the first that does not fit
+unfoldable pub withEntry : ℕ → ℕ → Gathered → Gathered
+withEntry id n g =
+    if ltb roomForEntries (g .size + n) then record { count = g .count; size = g .size; over = id; ended = true }
+    else record { count = g .count + 1; size = g .size + n; over = g .over; ended = g .ended }
+
+unfoldable pub measured : Bool → Bool → AnswerEntry → Gathered → Gathered
+measured behind wanted e g =
+    if behind then ended g
+    else if wanted then withEntry (e .id) (length (e .bytes)) g
+    else g
+
+-- one record after the other, until it has ended
+unfoldable pub walked : {A : Type 0} → (A → Gathered → Gathered) → Gathered → List A → Gathered
+walked step g [] = g
+walked step g (x ∷ xs) = let rest = walked step (step x g) xs in if step x g .ended then step x g else rest
+
+abbrev pub nothingGathered : Gathered
+nothingGathered = record { count = 0; size = 0; over = 0; ended = false }
+
+-- ---- the second pass
+-- the bytes of the entries of the wanted records
+unfoldable pub built : {A : Type 0} → (A → Bool) → (A → Bool) → (A → AnswerEntry) → List A → List ℕ
+built behind wanted entry [] = []
+built behind wanted entry (x ∷ xs) =
+    let rest = built behind wanted entry xs in
+    if behind x then []
+    else if wanted x then entry x .bytes ++ rest
+    else rest
+
+-- the records, the wanted ones changed
+unfoldable pub left : {A : Type 0} → (A → Bool) → (A → Bool) → (A → A) → List A → List A
+left behind wanted change [] = []
+left behind wanted change (x ∷ xs) =
+    let rest = left behind wanted change xs in
+    if behind x then x ∷ xs
+    else if wanted x then change x ∷ rest
+    else x ∷ rest
