@@ -7,3 +7,4 @@ pub mod ValueLaws
 pub mod EntryLaws
 pub mod MaskLaws
 pub mod SetLaws
+pub mod MeasureLaws

@@ -1,5 +1,20 @@
 // Gathering entries into an answer: the core by value. Two passes over a table: the first measures, and nothing is written before it is known that all
 // entries fit; the second builds.
+ghost use mathlib.Core.Path.{_≡_};
+ghost use Prim.Native.Nat.{_+_, _≤_};
+ghost use lib.ListN.{length};
+ghost use Rattle.link.specs.Words.{put};
+ghost use Rattle.services.specs.Get.{itemEntry};
+ghost use Rattle.services.specs.Gather.{isBehind, isWithin, isWanted, entryOf, leftOf, ended, withEntry, measured};
+use crate::datapoint::Datapoint;
+use crate::datapoint::handed_out;
+use crate::datapoint::passes_filter;
+use crate::datapoint::put_description;
+use crate::datapoint::put_value;
+use crate::datapoint::reported;
+use crate::datapoint::size_of;
+use crate::item::Item;
+
 // What is to be gathered.
 pub struct Wanted {
     pub start: u16,
@@ -21,4 +36,125 @@ pub struct Gathered {
     pub over: u16,
     // Nothing after this is looked at.
     pub ended: bool,
+}
+
+// Whether the ID is behind the range.
+pub fn is_behind(w: Wanted, id: u16) -> bool
+    ensures { λ r. ⌜ r ≡ isBehind w id ⌝ }
+{
+    w.end <= id as u32
+}
+
+// Whether the ID is within the range.
+pub fn is_within(w: Wanted, id: u16) -> bool
+    ensures { λ r. ⌜ r ≡ isWithin w id ⌝ }
+{
+    if id < w.start {
+        return false;
+    }
+    (id as u32) < w.end
+}
+
+// Whether the record is to be gathered.
+pub fn is_wanted(w: Wanted, d: Datapoint) -> bool
+    ensures { λ r. ⌜ r ≡ isWanted w d ⌝ }
+{
+    if is_within(w, d.id) {
+        if passes_filter(d, w.filter) {
+            if w.marked {
+                return d.mark;
+            }
+            return true;
+        }
+    }
+    false
+}
+
+// How many bytes the record's entry takes.
+pub fn entry_size(w: Wanted, d: Datapoint) -> usize
+    requires { ⌜ d .typecode ≤ 14 ⌝ }
+    ensures { λ r. ⌜ r ≡ length (entryOf w d .bytes) ⌝ }
+{
+    if w.values {
+        return 4 + size_of(d.typecode);
+    }
+    5
+}
+
+// The record's entry, into the buffer at `at`; answers where it ends.
+pub fn put_entry(out: &mut [u8], at: usize, w: Wanted, d: Datapoint) -> usize
+    requires { ⌜ (d .typecode ≤ 14) × (at + length (entryOf w d .bytes) ≤ length (now out)) ⌝ }
+    ensures { λ r. ⌜ (now (out .exit) ≡ put (now (out .entry)) at (entryOf w d .bytes)) × (r ≡ at + length (entryOf w d .bytes)) ⌝ }
+{
+    if w.values {
+        return put_value(&mut *out, at, d);
+    }
+    put_description(&mut *out, at, d)
+}
+
+// The record after its entry was built.
+pub fn left_of(w: Wanted, d: Datapoint) -> Datapoint
+    ensures { λ r. ⌜ r ≡ leftOf w d ⌝ }
+{
+    if w.values {
+        if w.marked {
+            return reported(d);
+        }
+        return handed_out(d);
+    }
+    d
+}
+
+// Nothing after this is looked at.
+fn ended(g: Gathered) -> Gathered
+    ensures { λ r. ⌜ r ≡ ended g ⌝ }
+{
+    let mut r = g;
+    r.ended = true;
+    r
+}
+
+// An entry of so many bytes is counted, or is the first that does not fit.
+fn with_entry(g: Gathered, id: u16, n: usize) -> Gathered
+    requires { ⌜ (g .count ≤ g .size) × (g .size ≤ 248) × (n ≤ 19) ⌝ }
+    ensures { λ r. ⌜ r ≡ withEntry id n g ⌝ }
+{
+    let size = g.size + n as u16;
+    let mut r = g;
+    if 248 < size {
+        r.over = id;
+        r.ended = true;
+        return r;
+    }
+    r.count = g.count + 1;
+    r.size = size;
+    r
+}
+
+// A datapoint is measured, after those before it.
+pub fn measured(w: Wanted, d: Datapoint, g: Gathered) -> Gathered
+    requires { ⌜ (d .typecode ≤ 14) × (g .count ≤ g .size) × (g .size ≤ 248) ⌝ }
+    ensures { λ r. ⌜ r ≡ measured (isBehind w (d .id)) (isWanted w d) (entryOf w d) g ⌝ }
+{
+    if is_behind(w, d.id) {
+        return ended(g);
+    }
+    if is_wanted(w, d) {
+        return with_entry(g, d.id, entry_size(w, d));
+    }
+    g
+}
+
+// An item is measured, after those before it.
+pub fn item_measured(w: Wanted, i: Item, g: Gathered) -> Gathered
+    requires { ⌜ (i .size ≤ 16) × (g .count ≤ g .size) × (g .size ≤ 248) ⌝ }
+    ensures { λ r. ⌜ r ≡ measured (isBehind w (i .id)) (isWithin w (i .id)) (itemEntry i) g ⌝ }
+{
+    if is_behind(w, i.id) {
+        return ended(g);
+    }
+    if is_within(w, i.id) {
+        return with_entry(g, i.id, 3 + i.size as usize);
+    }
+    g
 }

@@ -1,0 +1,97 @@
+-- A law for each answer of the functions that gather: what is wanted, how long an entry is, what is left of a record.
+use Prim.Native.Nat.{_+_, _≤_}
+use mathlib.Core.Bool.{Bool, true, false}
+use mathlib.Core.Path.{_≡_, refl}
+use native.Mathlib.Omega.{arith}
+use lib.ListN.{length}
+use lib.Seq.{length-take-le}
+use Rattle.services.specs.Datapoint.{sizeOf, valueOf, withMark, handedOut}
+use Rattle.services.specs.Gather.{isWithin, isWanted, entryOf, leftOf, ended, withEntry, measured}
+use Rattle.services.specs.Get.{AnswerEntry, itemEntry, descriptionEntry, valueEntry, passes}
+use Rattle.services.specs.Item.{bytesOf}
+use Rattle.services.specs.declared.datapoint.Datapoint.{Datapoint}
+use Rattle.services.specs.declared.gather.Gathered.{Gathered}
+use Rattle.services.specs.declared.gather.Wanted.{Wanted}
+use Rattle.services.specs.declared.item.Item.{Item}
+use Rattle.services.proofs.DatapointLaws.{size-fits}
+
+-- ---- which records
+module _ (w : Wanted) (d : Datapoint) where
+  pub wanted-mark : isWithin w (d .id) ≡ true → passes (w .filter) d ≡ true → w .marked ≡ true → isWanted w d ≡ d .mark
+  unfolding isWanted
+  wanted-mark e f m = simp (e, f, m)
+
+  pub wanted-all : isWithin w (d .id) ≡ true → passes (w .filter) d ≡ true → w .marked ≡ false → isWanted w d ≡ true
+  unfolding isWanted
+  wanted-all e f m = simp (e, f, m)
+
+  pub wanted-no-filter : isWithin w (d .id) ≡ true → passes (w .filter) d ≡ false → isWanted w d ≡ false
+  unfolding isWanted
+  wanted-no-filter e f = simp (e, f)
+
+  pub wanted-no-range : isWithin w (d .id) ≡ false → isWanted w d ≡ false
+  unfolding isWanted
+  wanted-no-range e = simp e
+
+  -- ---- an entry
+  pub value-length : w .values ≡ true → length (d .value) ≡ 14 → d .typecode ≤ 14 → length (entryOf w d .bytes) ≡ 4 + sizeOf (d .typecode)
+  unfolding entryOf valueEntry valueOf
+  value-length v l t = simp v (omega (arith, length-take-le (sizeOf (d .typecode)) (d .value) (omega (arith, size-fits (d .typecode)))))
+
+  pub description-length : w .values ≡ false → length (entryOf w d .bytes) ≡ 5
+  unfolding entryOf descriptionEntry
+  description-length v = simp v
+
+  pub entry-id : entryOf w d .id ≡ d .id
+  unfolding entryOf descriptionEntry valueEntry
+  entry-id = go (w .values) refl
+    where
+      go : (b : Bool) → w .values ≡ b → entryOf w d .id ≡ d .id
+      go true e = simp e
+      go false e = simp e
+
+  pub entry-value : w .values ≡ true → entryOf w d ≡ valueEntry d
+  unfolding entryOf
+  entry-value v = simp v
+
+  pub entry-description : w .values ≡ false → entryOf w d ≡ descriptionEntry d
+  unfolding entryOf
+  entry-description v = simp v
+
+  pub entry-short : length (d .value) ≡ 14 → d .typecode ≤ 14 → length (entryOf w d .bytes) ≤ 19
+  entry-short l t = go (w .values) refl
+    where
+      go : (b : Bool) → w .values ≡ b → length (entryOf w d .bytes) ≤ 19
+      go true e = omega (arith, value-length e l t, size-fits (d .typecode))
+      go false e = omega (arith, description-length e)
+
+  -- ---- what is left
+  pub left-reported : w .values ≡ true → w .marked ≡ true → leftOf w d ≡ withMark false (handedOut d)
+  unfolding leftOf
+  left-reported v m = simp (v, m)
+
+  pub left-handed-out : w .values ≡ true → w .marked ≡ false → leftOf w d ≡ handedOut d
+  unfolding leftOf
+  left-handed-out v m = simp (v, m)
+
+  pub left-alone : w .values ≡ false → leftOf w d ≡ d
+  unfolding leftOf
+  left-alone v = simp v
+
+pub item-length : (i : Item) → length (i .bytes) ≡ 16 → i .size ≤ 16 → length (itemEntry i .bytes) ≡ 3 + i .size
+unfolding itemEntry bytesOf
+item-length i l t = omega (arith, length-take-le (i .size) (i .bytes) (omega arith))
+
+-- ---- measuring
+module _ (b t : Bool) (e : AnswerEntry) (g : Gathered) where
+  pub measured-behind : b ≡ true → measured b t e g ≡ ended g
+  unfolding measured
+  measured-behind p = simp p
+
+  pub measured-wanted : b ≡ false → t ≡ true → measured b t e g ≡ withEntry (e .id) (length (e .bytes)) g
+  unfolding measured
+  measured-wanted p q = simp (p, q)
+
+  pub measured-other : b ≡ false → t ≡ false → measured b t e g ≡ g
+  unfolding measured
+  measured-other p q = simp (p, q)
