@@ -8,3 +8,5 @@ pub mod EntryLaws
 pub mod MaskLaws
 pub mod SetLaws
 pub mod MeasureLaws
+pub mod Types
+pub mod RisenLaws

@@ -6,3 +6,4 @@ mod mask;
 pub mod message;
 pub mod service;
 pub mod set;
+pub mod table;

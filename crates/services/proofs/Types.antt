@@ -1,0 +1,50 @@
+-- The records of this crate as the kit of walks has them.
+use mathlib.Core.Path.{_≡_, refl}
+use Prim.Native.Nat.{ℕ, _+_, _*_, _<_, _^_}
+use native.Mathlib.Omega.{arith}
+use mathlib.Core.Bool.{false}
+use lib.ListN.{replicate}
+use mir.Syntax.{w16, w64}
+use denote.Struct.Laws as LL
+use Rattle.services.specs.declared.datapoint.Datapoint.{Datapoint}
+use Rattle.services.specs.declared.item.Item.{Item}
+use Rattle.services.proofs.datapoint.Datapoint as D
+use Rattle.services.proofs.datapoint.Datapoint.Laws as D′
+use Rattle.services.proofs.item.Item as I
+use Rattle.services.proofs.item.Item.Laws as I′
+use Rattle.walks.proofs.Data.{Data, Good, structD, uintD}
+
+abbrev pub datapointD : Data
+datapointD = structD D.the-type D′.the-laws D′.the-plain (λ x f. refl)
+
+abbrev pub itemD : Data
+itemD = structD I.the-type I′.the-laws I′.the-plain (λ x f. refl)
+
+abbrev pub idD : Data
+idD = uintD w16
+
+abbrev pub placeD : Data
+placeD = uintD w64
+
+-- records of zeros: what is read where no record stands
+abbrev pub zeroDatapoint : Datapoint
+zeroDatapoint = record { id = 0; typecode = 0; flags = 0; dpt = 0; state = 0; value = replicate 14 0; mark = false }
+
+abbrev pub zeroItem : Item
+zeroItem = record { id = 0; size = 0; writable = false; bytes = replicate 16 0 }
+
+pub datapoint-id-fits : (d : Datapoint) → Good datapointD d → d .id < 2 ^ 16
+datapoint-id-fits d g = LL.owed D.the-type D′.the-laws d _ g .0 .1
+
+pub item-id-fits : (i : Item) → Good itemD i → i .id < 2 ^ 16
+item-id-fits i g = LL.owed I.the-type I′.the-laws i _ g .0 .1
+
+-- the byte offset of record i fits: a datapoint has 22 bytes, an item 20
+pub datapoint-offset-fits : (n i : ℕ) → n * 22 < 2 ^ 63 → i < n → i * 22 < 2 ^ 64
+datapoint-offset-fits n i g l = omega (arith, g, l)
+
+pub item-offset-fits : (n i : ℕ) → n * 20 < 2 ^ 63 → i < n → i * 20 < 2 ^ 64
+item-offset-fits n i g l = omega (arith, g, l)
+
+pub fits-next : (i n : ℕ) → n < 2 ^ 64 → i < n → i + 1 < 2 ^ 64
+fits-next i n g l = omega (arith, g, l)
