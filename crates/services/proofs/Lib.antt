@@ -10,3 +10,4 @@ pub mod SetLaws
 pub mod MeasureLaws
 pub mod Types
 pub mod RisenLaws
+pub mod PlaceLaws

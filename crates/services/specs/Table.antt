@@ -1,5 +1,5 @@
 -- The tables, when they are well formed, and how an entry is found and changed. One rule for items and datapoints.
-use Prim.Native.Nat.{ℕ, _≤_, _<_}
+use Prim.Native.Nat.{ℕ, suc, _≤_, _<_}
 use mathlib.Core.Bool.{Bool, true, _&&_}
 use mathlib.Core.List.{List, [], _∷_, map}
 use lib.ListN.{length, getD}
@@ -42,3 +42,8 @@ found idOf n (x ∷ xs) = let rest = found idOf n xs in if eqb (idOf x) n then x
 -- the entry of an ID changed by f, all others as they are
 unfoldable pub changed : {A : Type 0} → (A → ℕ) → ℕ → (A → A) → List A → List A
 changed idOf n f xs = map (λ x. if eqb (idOf x) n then f x else x) xs
+
+-- how many records have an ID below n: where the record of ID n stands in a table whose IDs rise
+unfoldable pub place : {A : Type 0} → (A → ℕ) → ℕ → List A → ℕ
+place idOf n [] = 0
+place idOf n (x ∷ xs) = if ltb (idOf x) n then suc (place idOf n xs) else place idOf n xs
