@@ -1,8 +1,9 @@
 // The tables: runs of records with rising IDs, lent by their owner.
 ghost use mathlib.Core.Path.{_≡_};
+ghost use mathlib.Core.Bool.{true};
 ghost use Rattle.services.specs.Datapoint.{datapointId, datapointOk};
 ghost use Rattle.services.specs.Item.{itemId, itemOk};
-ghost use Rattle.services.specs.Table.{tableOk};
+ghost use Rattle.services.specs.Table.{tableOk, place};
 use crate::datapoint::Datapoint;
 use crate::datapoint::fits_after;
 use crate::item::Item;
@@ -46,4 +47,46 @@ pub fn items_well_formed(table: &[Item]) -> bool
         i += 1;
     }
     true
+}
+
+// How many datapoints have a lower ID: where the datapoint of this ID stands if there is one. The width falls 1023, 511, .. 1, 0 whatever is found, so that the loop is unrolled and each choice is a conditional move.
+pub fn datapoint_place(table: &[Datapoint], id: u16) -> usize
+    requires { ⌜ tableOk 1000 datapointId datapointOk (now table) ≡ true ⌝ }
+    ensures { λ r. ⌜ r ≡ place datapointId id (now (table .entry)) ⌝ }
+{
+    let n = table.len();
+    let mut at: usize = 0;
+    let mut width: usize = 1023;
+    while width > 0 {
+        let half = width / 2;
+        let mid = at + half;
+        if mid < n {
+            if table[mid].id < id {
+                at = mid + 1;
+            }
+        }
+        width = half;
+    }
+    at
+}
+
+// How many items have a lower ID.
+pub fn item_place(table: &[Item], id: u16) -> usize
+    requires { ⌜ tableOk 64 itemId itemOk (now table) ≡ true ⌝ }
+    ensures { λ r. ⌜ r ≡ place itemId id (now (table .entry)) ⌝ }
+{
+    let n = table.len();
+    let mut at: usize = 0;
+    let mut width: usize = 127;
+    while width > 0 {
+        let half = width / 2;
+        let mid = at + half;
+        if mid < n {
+            if table[mid].id < id {
+                at = mid + 1;
+            }
+        }
+        width = half;
+    }
+    at
 }
