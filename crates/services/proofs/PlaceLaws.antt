@@ -7,7 +7,7 @@ use mathlib.Core.Bool.{Bool, true, false, not, _&&_}
 use mathlib.Core.List.{List, [], _∷_, map}
 use lib.ListN.{length, getD, set}
 use lib.Dec.{T, leb, ltb, eqb, ltb→lt, lt→ltb, leb→le}
-use borrow.Author.Tests.{lt-ltb, le-ltb, ltb-true, ltb-false, eqb-true, eqb-false, ne-eqb}
+use borrow.Author.Tests.{lt-ltb, le-ltb, ltb-true, ltb-false, ne-eqb}
 use Rattle.link.specs.Words.{if_then_else_, isEmpty, every}
 use Rattle.link.proofs.WordLaws.{left, right, parts3, same-test}
 use Rattle.services.specs.Table.{rising, tableOk, found, changed, place}

@@ -4,7 +4,7 @@ use Prim.Native.Nat.{ℕ, suc, _<_, _≤_}
 use mathlib.Core.Bool.{Bool, true, false, not, _&&_}
 use mathlib.Core.List.{List, [], _∷_, map}
 use lib.ListN.{length, getD, drop, drop-of-length-le}
-use lib.Dec.{T, leb, ltb}
+use lib.Dec.{T, ltb}
 use borrow.Author.Tests.{le-leb, lt-leb}
 use Rattle.link.specs.Words.{every}
 use Rattle.services.specs.Table.{rising, tableOk}

@@ -1,9 +1,7 @@
 -- The records of this crate as the kit of walks has them.
-use mathlib.Core.Path.{_≡_, refl}
+use mathlib.Core.Path.{refl}
 use Prim.Native.Nat.{ℕ, _+_, _*_, _<_, _^_}
 use native.Mathlib.Omega.{arith}
-use mathlib.Core.Bool.{false}
-use lib.ListN.{replicate}
 use mir.Syntax.{w16, w64}
 use denote.Struct.Laws as LL
 use Rattle.services.specs.declared.datapoint.Datapoint.{Datapoint}
@@ -25,13 +23,6 @@ idD = uintD w16
 
 abbrev pub placeD : Data
 placeD = uintD w64
-
--- records of zeros: what is read where no record stands
-abbrev pub zeroDatapoint : Datapoint
-zeroDatapoint = record { id = 0; typecode = 0; flags = 0; dpt = 0; state = 0; value = replicate 14 0; mark = false }
-
-abbrev pub zeroItem : Item
-zeroItem = record { id = 0; size = 0; writable = false; bytes = replicate 16 0 }
 
 pub datapoint-id-fits : (d : Datapoint) → Good datapointD d → d .id < 2 ^ 16
 datapoint-id-fits d g = LL.owed D.the-type D′.the-laws d _ g .0 .1

@@ -1,8 +1,8 @@
 -- One datapoint record: its value's size by type code, its state byte, when it is well formed, and how it changes.
 use Prim.Native.Nat.{ℕ, _+_, _*_, _/_, _%_, _^_}
-use mathlib.Core.Bool.{Bool, true, _&&_}
+use mathlib.Core.Bool.{Bool, true, false, _&&_}
 use mathlib.Core.List.{List, [], _∷_}
-use lib.ListN.{length, getD, take}
+use lib.ListN.{length, getD, take, replicate}
 use lib.Dec.{leb, ltb, eqb}
 use Rattle.link.specs.Words.{if_then_else_, pad, isPadded}
 use Rattle.services.specs.declared.datapoint.Datapoint.{Datapoint}
@@ -34,6 +34,10 @@ datapointOk d =
 
 abbrev pub datapointId : Datapoint → ℕ
 datapointId d = d .id
+
+-- what is read where no record stands
+abbrev pub zeroDatapoint : Datapoint
+zeroDatapoint = record { id = 0; typecode = 0; flags = 0; dpt = 0; state = 0; value = replicate 14 0; mark = false }
 
 -- ---- the state byte: "bit 4 valid, bit 3 updated from bus, bit 2 data request, bits 1-0 transmission status"
 abbrev pub isValid : ℕ → Bool

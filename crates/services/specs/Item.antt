@@ -1,8 +1,8 @@
 -- One server item: when it is well formed, and how it is set.
 use Prim.Native.Nat.{ℕ}
-use mathlib.Core.Bool.{Bool, _&&_}
+use mathlib.Core.Bool.{Bool, false, _&&_}
 use mathlib.Core.List.{List}
-use lib.ListN.{take}
+use lib.ListN.{take, replicate}
 use lib.Dec.{leb}
 use Rattle.link.specs.Words.{pad, isPadded}
 use Rattle.services.specs.declared.item.Item.{Item}
@@ -13,6 +13,10 @@ itemOk i = leb 1 (i .size) && isPadded 16 (i .size) (i .bytes)
 
 abbrev pub itemId : Item → ℕ
 itemId i = i .id
+
+-- what is read where no item stands
+abbrev pub zeroItem : Item
+zeroItem = record { id = 0; size = 0; writable = false; bytes = replicate 16 0 }
 
 -- the item's bytes that are used
 unfoldable pub bytesOf : Item → List ℕ

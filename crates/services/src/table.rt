@@ -1,8 +1,10 @@
 // The tables: runs of records with rising IDs, lent by their owner.
 ghost use mathlib.Core.Path.{_≡_};
 ghost use mathlib.Core.Bool.{true};
-ghost use Rattle.services.specs.Datapoint.{datapointId, datapointOk};
-ghost use Rattle.services.specs.Item.{itemId, itemOk};
+ghost use Prim.Native.Nat.{_<_};
+ghost use lib.ListN.{length, getD, set};
+ghost use Rattle.services.specs.Datapoint.{datapointId, datapointOk, zeroDatapoint};
+ghost use Rattle.services.specs.Item.{itemId, itemOk, zeroItem};
 ghost use Rattle.services.specs.Table.{tableOk, place};
 use crate::datapoint::Datapoint;
 use crate::datapoint::fits_after;
@@ -89,4 +91,36 @@ pub fn item_place(table: &[Item], id: u16) -> usize
         width = half;
     }
     at
+}
+
+// The datapoint at a place.
+pub fn datapoint_at(table: &[Datapoint], place: usize) -> Datapoint
+    requires { ⌜ place < length (now table) ⌝ }
+    ensures { λ r. ⌜ r ≡ getD (now (table .entry)) place zeroDatapoint ⌝ }
+{
+    table[place]
+}
+
+// The item at a place.
+pub fn item_at(table: &[Item], place: usize) -> Item
+    requires { ⌜ place < length (now table) ⌝ }
+    ensures { λ r. ⌜ r ≡ getD (now (table .entry)) place zeroItem ⌝ }
+{
+    table[place]
+}
+
+// A datapoint put in a place.
+pub fn put_datapoint_at(table: &mut [Datapoint], place: usize, d: Datapoint)
+    requires { ⌜ place < length (now table) ⌝ }
+    ensures { λ _. ⌜ now (table .exit) ≡ set (now (table .entry)) place d ⌝ }
+{
+    table[place] = d;
+}
+
+// An item put in a place.
+pub fn put_item_at(table: &mut [Item], place: usize, item: Item)
+    requires { ⌜ place < length (now table) ⌝ }
+    ensures { λ _. ⌜ now (table .exit) ≡ set (now (table .entry)) place item ⌝ }
+{
+    table[place] = item;
 }

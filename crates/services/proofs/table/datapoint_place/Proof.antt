@@ -38,9 +38,9 @@ use denote.Triple.Table.{entered}
 use denote.Triple.Walked.{needs}
 use Rattle.link.proofs.WordLaws.{true-T}
 use Rattle.services.specs.declared.datapoint.Datapoint.{Datapoint}
-use Rattle.services.specs.Datapoint.{datapointId, datapointOk}
+use Rattle.services.specs.Datapoint.{datapointId, datapointOk, zeroDatapoint}
 use Rattle.services.specs.Table.{tableOk, place}
-use Rattle.services.proofs.Types.{datapointD, idD, placeD, zeroDatapoint, datapoint-id-fits, datapoint-offset-fits, fits-next}
+use Rattle.services.proofs.Types.{datapointD, idD, placeD, datapoint-id-fits, datapoint-offset-fits, fits-next}
 use Rattle.services.proofs.PlaceLaws.{idAt, Rising, ok-rises, ok-few, no-less, place-is}
 use Rattle.services.proofs.table.datapoint_place.Key.{name as #services·table·datapoint-place}
 use Rattle.services.proofs.table.datapoint_place as f

@@ -38,9 +38,9 @@ use denote.Triple.Table.{entered}
 use denote.Triple.Walked.{needs}
 use Rattle.link.proofs.WordLaws.{true-T}
 use Rattle.services.specs.declared.item.Item.{Item}
-use Rattle.services.specs.Item.{itemId, itemOk}
+use Rattle.services.specs.Item.{itemId, itemOk, zeroItem}
 use Rattle.services.specs.Table.{tableOk, place}
-use Rattle.services.proofs.Types.{itemD, idD, placeD, zeroItem, item-id-fits, item-offset-fits, fits-next}
+use Rattle.services.proofs.Types.{itemD, idD, placeD, item-id-fits, item-offset-fits, fits-next}
 use Rattle.services.proofs.PlaceLaws.{idAt, Rising, ok-rises, ok-few, no-less, place-is}
 use Rattle.services.proofs.table.item_place.Key.{name as #services·table·item-place}
 use Rattle.services.proofs.table.item_place as f

@@ -1,11 +1,11 @@
 -- A walk of the loop: the table is looked into once, at the entry, and shut where the function returns. Assumes nothing.
-use Rattle.walks.proofs.Data.{boolD, Good, good, typed, ShrS}
+use Rattle.walks.proofs.Data.{boolD, Good, typed, ShrS}
 use Rattle.walks.proofs.Walk.{Blocks, homes, allocs-all, frees-all, Param, shrSliceP, Ends, ends-in, Walk, meets-by, behind, starts, cell, room}
 use Rattle.walks.proofs.Branches.{leaves-early, tests}
 use Rattle.walks.proofs.Slices.{takes-at, back-at, LookS, looked-slice, shut-slice}
 use Rattle.walks.proofs.Calls.{calls-plain}
 use Rattle.walks.proofs.Loops.{by-measure, stack, val, lets, sets}
-use mathlib.Core.Path.{_≡_, refl, sym, _∙_, ap, subst}
+use mathlib.Core.Path.{_≡_, refl, sym, _∙_, ap}
 use Prim.Native.Nat.{ℕ, suc, _<_, _≤_, _*_, _^_, _+_, _-_}
 use native.Mathlib.Omega.{arith}
 use native.Mathlib.Numerals.{add-one}
@@ -29,7 +29,7 @@ use contract.Running.{givenOf, tables, tablesOf}
 use types.Kit as Kit
 use types.Kit.{Given, Item as Entry, Sq, ‵, ⋆, anyQ, atRet, runs, _$_, _∵_, !, qed, by, move, keep, group, rewrite, suffices, frame, done}
 use types.Part.{whole, sub, look-in}
-use types.Run.{look, look-raw, init, store, forget, stop, hop, fld, from, load, lit, true-lit, false-lit, of-opd, and-then, no-more, un, bin, assigns, assigns-last, land, returns, returns-within, enter, exec, first, blocks, loops, again, Below, params1, pass1, pass0}
+use types.Run.{look, look-raw, init, store, forget, stop, hop, fld, from, load, lit, true-lit, false-lit, of-opd, and-then, no-more, un, bin, assigns-last, land, returns, returns-within, enter, exec, first, blocks, loops, again, Below, params1, pass1, pass0}
 use sound.WpLaws.{fmOf}
 use denote.Ref.{RefT}
 use denote.Slice.{sliceVal, Room}
@@ -39,9 +39,9 @@ use denote.Triple.Spec.{tripleOf}
 use denote.Triple.Statement.{Triple}
 use denote.Triple.Table.{entered, cited}
 use Rattle.services.specs.declared.item.Item.{Item}
-use Rattle.services.specs.Item.{itemId, itemOk}
+use Rattle.services.specs.Item.{itemId, itemOk, zeroItem}
 use Rattle.services.specs.Table.{tableOk}
-use Rattle.services.proofs.Types.{itemD, idD, zeroItem, item-id-fits, item-offset-fits, fits-next}
+use Rattle.services.proofs.Types.{itemD, idD, item-id-fits, item-offset-fits, fits-next}
 use Rattle.services.proofs.RisenLaws.{fitsAfter, risen, table-is, too-many, here, at-end, stops, goes-on}
 use Rattle.services.proofs.item.item_fits_after as fits
 use Rattle.services.proofs.item.item_fits_after.Symbol as fits-def
