@@ -1,14 +1,17 @@
 -- A law for each answer of the functions that gather: what is wanted, how long an entry is, what is left of a record.
-use Prim.Native.Nat.{_+_, _≤_}
+use Prim.Native.Nat.{ℕ, _+_, _≤_, _<_}
 use mathlib.Core.Bool.{Bool, true, false}
+use mathlib.Core.List.{List}
 use mathlib.Core.Path.{_≡_, refl}
 use native.Mathlib.Omega.{arith}
 use lib.ListN.{length}
 use lib.Seq.{length-take-le}
+use borrow.Author.Tests.{lt-ltb, le-ltb, eq-eqb, ne-eqb}
 use Rattle.services.specs.Datapoint.{sizeOf, valueOf, withMark, handedOut}
-use Rattle.services.specs.Gather.{isWithin, isWanted, entryOf, leftOf, ended, withEntry, measured}
+use Rattle.services.specs.Gather.{filterAsked, sizeAsked, requestFinding, isWithin, isWanted, entryOf, leftOf, ended, withEntry, measured}
 use Rattle.services.specs.Get.{AnswerEntry, itemEntry, descriptionEntry, valueEntry, passes}
 use Rattle.services.specs.Item.{bytesOf}
+use Rattle.services.specs.Message.{startOf, numberOf, bad, fine}
 use Rattle.services.specs.declared.datapoint.Datapoint.{Datapoint}
 use Rattle.services.specs.declared.gather.Gathered.{Gathered}
 use Rattle.services.specs.declared.gather.Wanted.{Wanted}
@@ -95,3 +98,21 @@ module _ (b t : Bool) (e : AnswerEntry) (g : Gathered) where
   pub measured-other : b ≡ false → t ≡ false → measured b t e g ≡ g
   unfolding measured
   measured-other p q = simp (p, q)
+
+-- ---- what a request's checks find before anything is measured
+module _ (values : Bool) (m : List ℕ) where
+  pub finding-length : (length m ≡ sizeAsked values → ⊥) → requestFinding values m ≡ bad (startOf m) 10
+  unfolding requestFinding
+  finding-length n = simp (ne-eqb (length m) (sizeAsked values) n)
+
+  pub finding-number : length m ≡ sizeAsked values → numberOf m ≡ 0 → requestFinding values m ≡ bad (startOf m) 6
+  unfolding requestFinding
+  finding-number e z = simp (eq-eqb (length m) (sizeAsked values) e, eq-eqb (numberOf m) 0 z)
+
+  pub finding-filter : length m ≡ sizeAsked values → (numberOf m ≡ 0 → ⊥) → 2 < filterAsked values m → requestFinding values m ≡ bad (startOf m) 6
+  unfolding requestFinding
+  finding-filter e z f = simp (eq-eqb (length m) (sizeAsked values) e, ne-eqb (numberOf m) 0 z, lt-ltb 2 (filterAsked values m) f)
+
+  pub finding-none : length m ≡ sizeAsked values → (numberOf m ≡ 0 → ⊥) → filterAsked values m ≤ 2 → requestFinding values m ≡ fine
+  unfolding requestFinding
+  finding-none e z f = simp (eq-eqb (length m) (sizeAsked values) e, ne-eqb (numberOf m) 0 z, le-ltb 2 (filterAsked values m) f)

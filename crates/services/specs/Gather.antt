@@ -4,13 +4,15 @@ use Prim.Native.Nat.{ℕ, _+_}
 use mathlib.Core.Bool.{Bool, true, false, not, _&&_, _||_}
 use mathlib.Core.List.{List, [], _∷_, _++_}
 use lib.ListN.{length}
-use lib.Dec.{leb, ltb}
+use lib.Dec.{leb, ltb, eqb}
 use Rattle.link.specs.Words.{if_then_else_}
 use Rattle.services.specs.declared.datapoint.Datapoint.{Datapoint}
 use Rattle.services.specs.declared.item.Item.{Item}
 use Rattle.services.specs.declared.gather.Wanted.{Wanted}
 use Rattle.services.specs.declared.gather.Gathered.{Gathered}
 use Rattle.services.specs.Datapoint.{withMark, handedOut}
+use Rattle.services.specs.declared.message.Verdict.{Verdict}
+use Rattle.services.specs.Message.{startOf, numberOf, filterOf, Finding, fine, bad}
 use Rattle.services.specs.Get.{AnswerEntry, roomForEntries, descriptionEntry, valueEntry, passes}
 
 -- ---- which records, and what is said of one and left of it
@@ -73,3 +75,29 @@ left behind wanted change (x ∷ xs) =
     if behind x then x ∷ xs
     else if wanted x then change x ∷ rest
     else x ∷ rest
+
+-- ---- a get around the two passes
+-- a request for values has a filter, and is a byte longer
+unfoldable pub filterAsked : Bool → List ℕ → ℕ
+filterAsked values m = if values then filterOf m else 0
+
+unfoldable pub sizeAsked : Bool → ℕ
+sizeAsked values = if values then 7 else 6
+
+-- what a get of values, or of anything else, asks for
+unfoldable pub wantedOf : Bool → List ℕ → Wanted
+wantedOf values m = record { start = startOf m; end = startOf m + numberOf m; filter = filterAsked values m; values = values; marked = false }
+
+-- Rows 10 and 6, known before the first pass.
+unfoldable pub requestFinding : Bool → List ℕ → Finding
+requestFinding values m =
+    if not (eqb (length m) (sizeAsked values)) then bad (startOf m) 10
+    else if eqb (numberOf m) 0 || ltb 2 (filterAsked values m) then bad (startOf m) 6
+    else fine
+
+-- Rows 2 and 3, known after it.
+unfoldable pub gatheredVerdict : ℕ → Gathered → Verdict
+gatheredVerdict start g =
+    if not (eqb (g .over) 0) then record { id = g .over; code = 3 }
+    else if eqb (g .count) 0 then record { id = start; code = 2 }
+    else record { id = 0; code = 0 }

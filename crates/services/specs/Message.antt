@@ -3,6 +3,7 @@ use Prim.Native.Nat.{ℕ, _+_}
 use mathlib.Core.List.{List, [], _∷_, _++_}
 use lib.ListN.{getD}
 use Rattle.link.specs.Words.{twoBytes, ofTwoBytes}
+use Rattle.services.specs.declared.message.Verdict.{Verdict}
 use Rattle.services.specs.Table.{Tables}
 
 -- MainService, SubService, StartItem or StartDatapoint or StartByte, NumberOf.., Filter
@@ -29,6 +30,11 @@ coded m id code = 0xF0 ∷ (subService m + 0x80) ∷ twoBytes id ++ 0 ∷ 0 ∷ 
 pub data Finding : Type 0 where
   fine : Finding
   bad : ℕ → ℕ → Finding
+
+-- a finding in two numbers: code 0 where nothing is wrong
+unfoldable pub verdictOf : Finding → Verdict
+verdictOf fine = record { id = 0; code = 0 }
+verdictOf (bad id code) = record { id = id; code = code }
 
 -- what is said back to the host, empty where nothing is, and the tables after it
 pub record Served : Type 0 where

@@ -1,6 +1,7 @@
 // The tables that the module holds and the services that read and set them.
 pub mod datapoint;
 pub mod gather;
+pub mod get;
 pub mod item;
 mod mask;
 pub mod message;

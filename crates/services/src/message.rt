@@ -4,7 +4,13 @@ ghost use mathlib.Core.List.{[], _∷_, _++_};
 ghost use Prim.Native.Nat.{_+_, _≤_, _<_};
 ghost use lib.ListN.{length};
 ghost use Rattle.link.specs.Words.{put, twoBytes};
-ghost use Rattle.services.specs.Message.{subService, startOf, numberOf, coded};
+ghost use Rattle.services.specs.Message.{subService, startOf, numberOf, filterOf, coded};
+
+// What the checks of a request find: an ID and a code, 0 where nothing is wrong.
+pub struct Verdict {
+    pub id: u16,
+    pub code: u8,
+}
 
 // StartItem, StartDatapoint or StartByte.
 pub fn start_of(m: &[u8]) -> u16
@@ -20,6 +26,16 @@ pub fn number_of(m: &[u8]) -> u16
     ensures { λ r. ⌜ r ≡ numberOf (now (m .entry)) ⌝ }
 {
     m[4] as u16 * 256 + m[5] as u16
+}
+
+// The filter of a request that has one.
+pub fn filter_of(m: &[u8]) -> u8
+    ensures { λ r. ⌜ r ≡ filterOf (now (m .entry)) ⌝ }
+{
+    if m.len() < 7 {
+        return 0;
+    }
+    m[6]
 }
 
 // The answer of seven bytes to the message m, into the buffer at `at`; answers where it ends.
@@ -49,4 +65,13 @@ pub fn put_head(out: &mut [u8], at: usize, sub: u8, start: u16, count: u16) -> u
     out[at + 4] = (count / 256) as u8;
     out[at + 5] = (count % 256) as u8;
     at + 6
+}
+
+// What stands in front of the entries of a get's answer.
+pub fn put_answer_head(out: &mut [u8], at: usize, m: &[u8], count: u16) -> usize
+    requires { ⌜ (6 ≤ length (now m)) × (subService (now m) < 0x80) × (at + 6 ≤ length (now out)) ⌝ }
+    ensures { λ r. ⌜ (now (out .exit) ≡ put (now (out .entry)) at (0xF0 ∷ (subService (now (m .entry)) + 0x80) ∷ twoBytes (startOf (now (m .entry))) ++ twoBytes count)) × (r ≡ at + 6) ⌝ }
+{
+    let start = start_of(m);
+    put_head(&mut *out, at, m[1] + 0x80, start, count)
 }
