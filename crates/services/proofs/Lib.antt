@@ -11,3 +11,5 @@ pub mod MeasureLaws
 pub mod Types
 pub mod RisenLaws
 pub mod PlaceLaws
+pub mod GetLaws
+pub mod ParameterLaws

@@ -1,6 +1,6 @@
 -- How entries are gathered: measured in one pass over the table, built in a second, each ending at the first record behind the range. Inner contracts alone
 -- cite these; what an answer has to be is said by Get and Indication.
-use Prim.Native.Nat.{ℕ, _+_}
+use Prim.Native.Nat.{ℕ, _+_, _-_}
 use mathlib.Core.Bool.{Bool, true, false, not, _&&_, _||_}
 use mathlib.Core.List.{List, [], _∷_, _++_}
 use lib.ListN.{length}
@@ -101,3 +101,10 @@ gatheredVerdict start g =
     if not (eqb (g .over) 0) then record { id = g .over; code = 3 }
     else if eqb (g .count) 0 then record { id = start; code = 2 }
     else record { id = 0; code = 0 }
+
+-- how many parameter bytes there are to return
+unfoldable pub parametersPresent : ℕ → ℕ → ℕ → ℕ
+parametersPresent count start number =
+    if eqb start 0 then 0
+    else if ltb number (count - (start - 1)) then number
+    else count - (start - 1)

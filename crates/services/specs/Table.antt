@@ -15,6 +15,16 @@ pub record Tables : Type 0 where
   pub items : List Item
   pub parameters : List ℕ
 
+-- tables of which one alone is looked at
+abbrev pub datapointsOnly : List Datapoint → Tables
+datapointsOnly ds = record { datapoints = ds; items = []; parameters = [] }
+
+abbrev pub itemsOnly : List Item → Tables
+itemsOnly is = record { datapoints = []; items = is; parameters = [] }
+
+abbrev pub parametersOnly : List ℕ → Tables
+parametersOnly ps = record { datapoints = []; items = []; parameters = ps }
+
 -- the numbers rise strictly, from above `last`
 unfoldable pub rising : ℕ → List ℕ → Bool
 rising last [] = true

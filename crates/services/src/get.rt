@@ -1,15 +1,21 @@
 // The gets: what is asked for, and the checks before and after the first pass.
 ghost use mathlib.Core.Path.{_≡_};
-ghost use Prim.Native.Nat.{_≤_};
+ghost use Prim.Native.Nat.{_+_, _≤_, _<_};
 ghost use lib.ListN.{length};
-ghost use Rattle.services.specs.Message.{verdictOf};
-ghost use Rattle.services.specs.Gather.{filterAsked, sizeAsked, wantedOf, requestFinding, gatheredVerdict};
+ghost use Rattle.link.specs.Words.{put};
+ghost use Rattle.services.specs.Table.{parametersOnly};
+ghost use Rattle.services.specs.Message.{subService, verdictOf};
+ghost use Rattle.services.specs.Get.{getParameterByte};
+ghost use Rattle.services.specs.Gather.{filterAsked, sizeAsked, wantedOf, requestFinding, gatheredVerdict, parametersPresent};
 use crate::gather::Gathered;
 use crate::gather::Wanted;
 use crate::message::Verdict;
 use crate::message::filter_of;
 use crate::message::number_of;
+use crate::message::put_answer_head;
+use crate::message::put_coded;
 use crate::message::start_of;
+use link::words::put_bytes;
 
 // The filter, where values are asked for.
 fn filter_asked(m: &[u8], values: bool) -> u8
@@ -83,4 +89,46 @@ pub fn gathered_verdict(start: u16, g: Gathered) -> Verdict
         return Verdict { id: start, code: 2 };
     }
     Verdict { id: 0, code: 0 }
+}
+
+// How many parameter bytes there are to return.
+fn parameters_present(count: usize, start: usize, number: usize) -> usize
+    ensures { λ r. ⌜ r ≡ parametersPresent count start number ⌝ }
+{
+    if start == 0 {
+        return 0;
+    }
+    if count < start {
+        return 0;
+    }
+    let rest = count - (start - 1);
+    if number < rest {
+        return number;
+    }
+    rest
+}
+
+// GetParameterByte: the answer, into the buffer at `at`; answers where it ends.
+pub fn get_parameters(parameters: &[u8], m: &[u8], out: &mut [u8], at: usize) -> usize
+    requires { ⌜ (length (now parameters) ≤ 255) × (6 ≤ length (now m)) × (subService (now m) < 0x80) × (at + 254 ≤ length (now out)) ⌝ }
+    ensures { λ r. ⌜ (now (out .exit) ≡ put (now (out .entry)) at (getParameterByte (parametersOnly (now (parameters .entry))) (now (m .entry)) .says))
+        × (r ≡ at + length (getParameterByte (parametersOnly (now (parameters .entry))) (now (m .entry)) .says)) ⌝ }
+{
+    let v = request_verdict(m, false);
+    if v.code != 0 {
+        return put_coded(&mut *out, at, m, v.id, v.code);
+    }
+    let start = start_of(m);
+    let number = number_of(m);
+    let n = parameters_present(parameters.len(), start as usize, number as usize);
+    if n == 0 {
+        return put_coded(&mut *out, at, m, start, 2);
+    }
+    if 248 < n {
+        return put_coded(&mut *out, at, m, start + 248, 3);
+    }
+    let end = put_answer_head(&mut *out, at, m, n as u16);
+    let first = start as usize - 1;
+    put_bytes(&mut *out, end, &parameters[first..first + n]);
+    end + n
 }
