@@ -13,3 +13,4 @@ pub mod RisenLaws
 pub mod PlaceLaws
 pub mod GetLaws
 pub mod ParameterLaws
+pub mod GatherLaws
