@@ -38,6 +38,9 @@ module _ {A : Type 0} (idOf : A → ℕ) (wanted : A → Bool) (end : ℕ) (belo
       let k : last < idOf x = rising-head last (idOf x) (map idOf xs) t in
       simp (not-wanted x (omega arith)) (behind-none (idOf x) xs (rising-tail last (idOf x) (map idOf xs) t) (omega arith))
 
+  pub behind-head : (last : ℕ) (x : A) (xs : List A) → T (rising last (map idOf (x ∷ xs))) → end ≤ idOf x → keep wanted (x ∷ xs) ≡ []
+  behind-head last x xs t h = simp (not-wanted x h) (behind-none (idOf x) xs (rising-tail last (idOf x) (map idOf xs) t) (omega arith))
+
   pub behind-same : (change : A → A) (last : ℕ) (xs : List A) → T (rising last (map idOf xs)) → end ≤ suc last → map (λ x. if wanted x then change x else x) xs ≡ xs
   behind-same change last [] t h = refl
   behind-same change last (x ∷ xs) t h =
@@ -72,3 +75,180 @@ module _ {A : Type 0} (idOf : A → ℕ) (wanted : A → Bool) (end : ℕ) (belo
           simp (a, not-wanted x k, behind-same change (idOf x) xs (rising-tail last (idOf x) (map idOf xs) t) (omega arith))
       go false true a b r = simp (a, b, r)
       go false false a b r = simp (a, b, r)
+
+-- ---- the first pass
+abbrev pub entryBytes : List AnswerEntry → List ℕ
+entryBytes es = flatten (map (λ (e : AnswerEntry). e .bytes) es)
+
+bytes-none : length (entryBytes []) ≡ 0
+unfolding flatten
+bytes-none = refl
+
+bytes-more : (e : AnswerEntry) (es : List AnswerEntry) → length (entryBytes (e ∷ es)) ≡ length (e .bytes) + length (entryBytes es)
+unfolding flatten
+bytes-more e es = length-append (e .bytes) (entryBytes es)
+
+overflow-none : (room : ℕ) → overflow room [] ≡ []
+unfolding overflow
+overflow-none room = refl
+
+overflow-here : (room : ℕ) (e : AnswerEntry) (es : List AnswerEntry) → room < length (e .bytes) → overflow room (e ∷ es) ≡ e .id ∷ []
+unfolding overflow
+overflow-here room e es h = simp (lt-ltb room (length (e .bytes)) h)
+
+overflow-later : (room : ℕ) (e : AnswerEntry) (es : List AnswerEntry) → length (e .bytes) ≤ room → overflow room (e ∷ es) ≡ overflow (room - length (e .bytes)) es
+unfolding overflow
+overflow-later room e es h = simp (le-ltb room (length (e .bytes)) h)
+
+keep-one : {A : Type 0} (p : A → Bool) (x : A) (xs : List A) → p x ≡ true → keep p (x ∷ xs) ≡ x ∷ keep p xs
+keep-one p x xs e = simp e
+
+keep-none : {A : Type 0} (p : A → Bool) (x : A) (xs : List A) → p x ≡ false → keep p (x ∷ xs) ≡ keep p xs
+keep-none p x xs e = simp e
+
+-- a number that is 0 or above another: the ID of an entry that does not fit stands behind all that do
+abbrev pub noneOrAbove : ℕ → ℕ → Bool
+noneOrAbove last over = eqb over 0 || ltb last over
+
+none-or-above-less : (low high over : ℕ) → low ≤ high → T (noneOrAbove high over) → T (noneOrAbove low over)
+none-or-above-less low high over h t = go (eqb over 0) (ltb high over) refl refl
+  where
+    go : (u v : Bool) → eqb over 0 ≡ u → ltb high over ≡ v → T (noneOrAbove low over)
+    go true v a b = simp a tt
+    go false true a b = simp (a, lt-ltb low over (let k : high < over = ltb-true high over b in omega arith)) tt
+    go false false a b = absurd (simp (a, b) at t)
+
+-- one step keeps what the fields' widths need: no more entries than bytes, and no more bytes than there is room for
+pub measured-keeps : (behind wanted : Bool) (e : AnswerEntry) (g : Gathered) → 1 ≤ length (e .bytes) → g .count ≤ g .size → g .size ≤ roomForEntries
+    → (measured behind wanted e g .count ≤ measured behind wanted e g .size) × (measured behind wanted e g .size ≤ roomForEntries)
+unfolding measured ended withEntry
+measured-keeps true wanted e g b c s = (c, s)
+measured-keeps false false e g b c s = (c, s)
+measured-keeps false true e g b c s = go (ltb roomForEntries (g .size + length (e .bytes))) refl
+  where
+    go : (u : Bool) → ltb roomForEntries (g .size + length (e .bytes)) ≡ u
+        → (measured false true e g .count ≤ measured false true e g .size) × (measured false true e g .size ≤ roomForEntries)
+    go true d = simp d (c, s)
+    go false d = simp d (omega arith, ltb-false roomForEntries (g .size + length (e .bytes)) d)
+
+-- what each step keeps, the pass keeps
+pub walked-holds : {A : Type 0} (P : Gathered → Type 0) (step : A → Gathered → Gathered) → ((x : A) (g : Gathered) → P g → P (step x g)) → (xs : List A) (g : Gathered) → P g → P (walked step g xs)
+unfolding walked
+walked-holds P step k [] g p = p
+walked-holds P step k (x ∷ xs) g p = go (step x g .ended) refl (walked-holds P step k xs (step x g) (k x g p))
+  where
+    go : (u : Bool) → step x g .ended ≡ u → P (walked step (step x g) xs) → P (walked step g (x ∷ xs))
+    go true d r = simp d (k x g p)
+    go false d r = simp d r
+
+pub walked-keeps : {A : Type 0} (behind wanted : A → Bool) (entry : A → AnswerEntry) → ((x : A) → 1 ≤ length (entry x .bytes)) → (xs : List A) (g : Gathered) → g .count ≤ g .size → g .size ≤ roomForEntries
+    → (walked (λ x h. measured (behind x) (wanted x) (entry x) h) g xs .count ≤ walked (λ x h. measured (behind x) (wanted x) (entry x) h) g xs .size) × (walked (λ x h. measured (behind x) (wanted x) (entry x) h) g xs .size ≤ roomForEntries)
+walked-keeps behind wanted entry b xs g c s =
+    walked-holds (λ h. (h .count ≤ h .size) × (h .size ≤ roomForEntries)) (λ x h. measured (behind x) (wanted x) (entry x) h)
+    (λ x h p. measured-keeps (behind x) (wanted x) (entry x) h (b x) (p .0) (p .1)) xs g (c, s)
+
+-- wanted, and in front of the first entry that does not fit
+abbrev pub before : {A : Type 0} → (A → ℕ) → (A → Bool) → ℕ → A → Bool
+before idOf wanted over x = wanted x && noneOrAbove (idOf x) over
+
+-- what the first pass has found: the first entry that does not fit, and the number and the bytes of the entries in front of it
+pub record Measure {A : Type 0} (idOf : A → ℕ) (wanted : A → Bool) (entry : A → AnswerEntry) (last : ℕ) (xs : List A) (g h : Gathered) : Type 0 where
+  pub over : h .over ≡ getD (overflow (roomForEntries - g .size) (map entry (keep wanted xs))) 0 0
+  pub above : T (noneOrAbove last (h .over))
+  pub count : h .count ≡ g .count + length (keep (before idOf wanted (h .over)) xs)
+  pub size : h .size ≡ g .size + length (entryBytes (map entry (keep (before idOf wanted (h .over)) xs)))
+
+module _ {A : Type 0} (idOf : A → ℕ) (wanted : A → Bool) (entry : A → AnswerEntry) (end : ℕ) (below : (x : A) → T (wanted x) → idOf x < end) (same : (x : A) → entry x .id ≡ idOf x) where
+  abbrev pub measuring : A → Gathered → Gathered
+  measuring x g = measured (leb end (idOf x)) (wanted x) (entry x) g
+
+  abbrev sizeAfter : Gathered → A → ℕ
+  sizeAfter g x = g .size + length (entry x .bytes)
+
+  at-behind : (x : A) (xs : List A) (g : Gathered) → leb end (idOf x) ≡ true → walked measuring g (x ∷ xs) ≡ record { count = g .count; size = g .size; over = g .over; ended = true }
+  unfolding walked measured ended
+  at-behind x xs g a = simp a
+
+  at-other : (x : A) (xs : List A) (g : Gathered) → g .ended ≡ false → leb end (idOf x) ≡ false → wanted x ≡ false → walked measuring g (x ∷ xs) ≡ walked measuring g xs
+  unfolding walked measured
+  at-other x xs g e a b = simp (a, b, e)
+
+  at-over : (x : A) (xs : List A) (g : Gathered) → leb end (idOf x) ≡ false → wanted x ≡ true → ltb roomForEntries (sizeAfter g x) ≡ true
+      → walked measuring g (x ∷ xs) ≡ record { count = g .count; size = g .size; over = entry x .id; ended = true }
+  unfolding walked measured withEntry
+  at-over x xs g a b c = simp (a, b, c)
+
+  at-fitting : (x : A) (xs : List A) (g : Gathered) → g .ended ≡ false → leb end (idOf x) ≡ false → wanted x ≡ true → ltb roomForEntries (sizeAfter g x) ≡ false
+      → walked measuring g (x ∷ xs) ≡ walked measuring (record { count = g .count + 1; size = sizeAfter g x; over = g .over; ended = g .ended }) xs
+  unfolding walked measured withEntry
+  at-fitting x xs g e a b c = simp (a, b, c, e)
+
+  none-behind : (over last : ℕ) (x : A) (xs : List A) → T (rising last (map idOf (x ∷ xs))) → end ≤ idOf x → keep (before idOf wanted over) (x ∷ xs) ≡ []
+  none-behind over last x xs t h =
+      behind-head idOf (before idOf wanted over) end (λ y s. below y (WordLaws.left (wanted y) (noneOrAbove (idOf y) over) s)) last x xs t h
+
+  -- none at the first entry that does not fit, or after it
+  none-after : (over last : ℕ) (x : A) (xs : List A) → T (rising last (map idOf (x ∷ xs))) → 1 ≤ over → over ≤ idOf x → keep (before idOf wanted over) (x ∷ xs) ≡ []
+  none-after over last x xs t p h =
+      behind-head idOf (before idOf wanted over) over
+      (λ y s. ltb→lt (idOf y) over (let k = WordLaws.right (wanted y) (noneOrAbove (idOf y) over) s in simp (ne-eqb over 0 (λ e. omega (arith, e))) at k)) last x xs t h
+
+  pub measured-all : (last : ℕ) (xs : List A) (g : Gathered) → T (rising last (map idOf xs)) → g .ended ≡ false → g .over ≡ 0 → g .size ≤ roomForEntries
+      → Measure idOf wanted entry last xs g (walked measuring g xs)
+  measured-all last [] g t e o s = unfold walked overflow flatten in record { over = o; above = simp o tt; count = omega arith; size = omega arith }
+  measured-all last (x ∷ xs) g t e o s =
+      go (leb end (idOf x)) (wanted x) (ltb roomForEntries (sizeAfter g x)) refl refl refl (λ h. measured-all (idOf x) xs h (rising-tail last (idOf x) (map idOf xs) t))
+    where
+      head : last < idOf x
+      head = rising-head last (idOf x) (map idOf xs) t
+
+      go : (u v w : Bool) → leb end (idOf x) ≡ u → wanted x ≡ v → ltb roomForEntries (sizeAfter g x) ≡ w
+          → ((h : Gathered) → h .ended ≡ false → h .over ≡ 0 → h .size ≤ roomForEntries → Measure idOf wanted entry (idOf x) xs h (walked measuring h xs))
+          → Measure idOf wanted entry last (x ∷ xs) g (walked measuring g (x ∷ xs))
+      go true v w a b c r =
+          let k : end ≤ idOf x = leb-true end (idOf x) a in
+          let n : keep wanted (x ∷ xs) ≡ [] = behind-head idOf wanted end below last x xs t k in
+          let n′ : keep (before idOf wanted (g .over)) (x ∷ xs) ≡ [] = none-behind (g .over) last x xs t k in
+          rw (at-behind x xs g a)
+          (record {
+            over = rw (n, overflow-none (roomForEntries - g .size)) o;
+            above = rw o tt;
+            count = rw n′ (omega arith);
+            size = rw n′ (omega (arith, bytes-none));
+          })
+      go false false w a b c r =
+          let m = r g e o s in
+          rw (at-other x xs g e a b)
+          (record {
+            over = simp b (m .over);
+            above = none-or-above-less last (idOf x) (walked measuring g xs .over) (omega (arith, head)) (m .above);
+            count = simp b (m .count);
+            size = simp b (m .size);
+          })
+      go false true true a b c r =
+          let k : roomForEntries < sizeAfter g x = ltb-true roomForEntries (sizeAfter g x) c in
+          let n : keep (before idOf wanted (entry x .id)) (x ∷ xs) ≡ [] = none-after (entry x .id) last x xs t (omega (arith, same x, head)) (omega (arith, same x)) in
+          rw (at-over x xs g a b c)
+          (record {
+            over = rw (keep-one wanted x xs b, overflow-here (roomForEntries - g .size) (entry x) (map entry (keep wanted xs)) (omega arith));
+            above = simp (lt-ltb last (entry x .id) (omega (arith, same x, head)), ne-eqb (entry x .id) 0 (λ z. omega (arith, z, same x, head))) tt;
+            count = rw n (omega arith);
+            size = rw n (omega (arith, bytes-none));
+          })
+      go false true false a b c r =
+          let k : sizeAfter g x ≤ roomForEntries = ltb-false roomForEntries (sizeAfter g x) c in
+          let h : Gathered = record { count = g .count + 1; size = sizeAfter g x; over = g .over; ended = g .ended } in
+          let m = r h e o k in
+          let j : roomForEntries - sizeAfter g x ≡ roomForEntries - g .size - length (entry x .bytes) = omega arith in
+          let w : List A = keep (before idOf wanted (walked measuring h xs .over)) xs in
+          let z : keep (before idOf wanted (walked measuring h xs .over)) (x ∷ xs) ≡ x ∷ w
+          = keep-one (before idOf wanted (walked measuring h xs .over)) x xs (simp (b, WordLaws.T-true (noneOrAbove (idOf x) (walked measuring h xs .over)) (m .above))) in
+          rw (at-fitting x xs g e a b c)
+          (record {
+            over =
+                m .over ∙ ap (λ (i : ℕ). getD (overflow i (map entry (keep wanted xs))) 0 0) j
+                ∙ rw (keep-one wanted x xs b, overflow-later (roomForEntries - g .size) (entry x) (map entry (keep wanted xs)) (omega arith));
+            above = none-or-above-less last (idOf x) (walked measuring h xs .over) (omega (arith, head)) (m .above);
+            count = rw z (omega (arith, m .count));
+            size = rw z (omega (arith, m .size, bytes-more (entry x) (map entry w)));
+          })
