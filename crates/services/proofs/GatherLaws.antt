@@ -4,15 +4,16 @@ use mathlib.Core.Path.{_≡_, refl, sym, _∙_, ap}
 use mathlib.Core.Bool.{Bool, true, false, not, _&&_, _||_}
 use mathlib.Core.List.{List, [], _∷_, _++_, map, flatten}
 use native.Mathlib.Omega.{arith}
-use lib.ListN.{length, getD, length-append}
-use lib.Dec.{T, leb, ltb, eqb, ltb→lt}
+use lib.ListN.{length, getD, take, drop, length-append, length-map, take-append-drop}
+use lib.Dec.{T, leb, ltb, eqb, ltb→lt, leb→le}
 use borrow.Author.Tests.{lt-ltb, le-ltb, le-leb, lt-leb, eq-eqb, ne-eqb, ltb-true, ltb-false, leb-true, leb-false, eqb-true, eqb-false}
 use Rattle.link.specs.Words.{if_then_else_, isEmpty, every, keep}
 use Rattle.link.proofs.WordLaws
 use Rattle.services.specs.declared.gather.Gathered.{Gathered}
 use Rattle.services.specs.Table.{rising}
-use Rattle.services.specs.Get.{AnswerEntry, overflow, roomForEntries}
-use Rattle.services.specs.Gather.{ended, withEntry, measured, walked, built, left}
+use Rattle.services.specs.Message.{startOf, numberOf, Finding, fine, bad}
+use Rattle.services.specs.Get.{AnswerEntry, overflow, roomForEntries, getFinding}
+use Rattle.services.specs.Gather.{ended, withEntry, measured, walked, nothingGathered, built, left}
 
 -- ---- rising IDs taken apart
 rising-head : (last x : ℕ) (xs : List ℕ) → T (rising last (x ∷ xs)) → last < x
@@ -151,6 +152,33 @@ walked-keeps behind wanted entry b xs g c s =
 abbrev pub before : {A : Type 0} → (A → ℕ) → (A → Bool) → ℕ → A → Bool
 before idOf wanted over x = wanted x && noneOrAbove (idOf x) over
 
+and-false : (a : Bool) → (a && false) ≡ false
+and-false true = refl
+and-false false = refl
+
+positive-of : (n : ℕ) → (n ≡ 0 → ⊥) → 1 ≤ n
+positive-of zero f = absurd (f refl)
+positive-of (suc n) f = omega arith
+
+before-all : {A : Type 0} (idOf : A → ℕ) (wanted : A → Bool) (over : ℕ) → over ≡ 0 → (xs : List A) → keep (before idOf wanted over) xs ≡ keep wanted xs
+before-all idOf wanted over e [] = refl
+before-all {A} idOf wanted over e (x ∷ xs) = go (wanted x) refl (before-all idOf wanted over e xs)
+  where
+    go : (u : Bool) → wanted x ≡ u → keep (before idOf wanted over) xs ≡ keep wanted xs → keep (before idOf wanted over) (x ∷ xs) ≡ keep wanted (x ∷ xs)
+    go true b r = keep-one (before idOf wanted over) x xs (simp (b, eq-eqb over 0 e)) ∙ ap (λ (ys : List A). x ∷ ys) r ∙ sym (keep-one wanted x xs b)
+    go false b r = keep-none (before idOf wanted over) x xs (simp b) ∙ r ∙ sym (keep-none wanted x xs b)
+
+overflow-decided : (room : ℕ) (es : List AnswerEntry) → T (every (λ (e : AnswerEntry). leb 1 (e .id)) es) → eqb (getD (overflow room es) 0 0) 0 ≡ isEmpty (overflow room es)
+overflow-decided room [] t = rw (overflow-none room)
+overflow-decided room (e ∷ es) t = go (ltb room (length (e .bytes))) refl (overflow-decided (room - length (e .bytes)) es (WordLaws.right (leb 1 (e .id)) (every (λ (f : AnswerEntry). leb 1 (f .id)) es) t))
+  where
+    go : (u : Bool) → ltb room (length (e .bytes)) ≡ u → eqb (getD (overflow (room - length (e .bytes)) es) 0 0) 0 ≡ isEmpty (overflow (room - length (e .bytes)) es)
+        → eqb (getD (overflow room (e ∷ es)) 0 0) 0 ≡ isEmpty (overflow room (e ∷ es))
+    go true d r =
+        rw (overflow-here room e es (ltb-true room (length (e .bytes)) d))
+        (ne-eqb (e .id) 0 (λ z. omega (arith, z, leb→le 1 (e .id) (WordLaws.left (leb 1 (e .id)) (every (λ (f : AnswerEntry). leb 1 (f .id)) es) t))))
+    go false d r = rw (overflow-later room e es (ltb-false room (length (e .bytes)) d)) r
+
 -- what the first pass has found: the first entry that does not fit, and the number and the bytes of the entries in front of it
 pub record Measure {A : Type 0} (idOf : A → ℕ) (wanted : A → Bool) (entry : A → AnswerEntry) (last : ℕ) (xs : List A) (g h : Gathered) : Type 0 where
   pub over : h .over ≡ getD (overflow (roomForEntries - g .size) (map entry (keep wanted xs))) 0 0
@@ -252,3 +280,156 @@ module _ {A : Type 0} (idOf : A → ℕ) (wanted : A → Bool) (entry : A → An
             count = rw z (omega (arith, m .count));
             size = rw z (omega (arith, m .size, bytes-more (entry x) (map entry w)));
           })
+
+  positive : (last : ℕ) (xs : List A) → T (rising last (map idOf xs)) → T (every (λ (e : AnswerEntry). leb 1 (e .id)) (map entry (keep wanted xs)))
+  positive last [] t = tt
+  positive last (x ∷ xs) t = go (wanted x) refl (positive (idOf x) xs (rising-tail last (idOf x) (map idOf xs) t))
+    where
+      go : (u : Bool) → wanted x ≡ u → T (every (λ (e : AnswerEntry). leb 1 (e .id)) (map entry (keep wanted xs))) → T (every (λ (e : AnswerEntry). leb 1 (e .id)) (map entry (keep wanted (x ∷ xs))))
+      go true b r =
+          rw (keep-one wanted x xs b)
+          (WordLaws.both (leb 1 (entry x .id)) (every (λ (e : AnswerEntry). leb 1 (e .id)) (map entry (keep wanted xs)))
+          (WordLaws.true-T (le-leb 1 (entry x .id) (omega (arith, same x, rising-head last (idOf x) (map idOf xs) t)))) r)
+      go false b r = rw (keep-none wanted x xs b) r
+
+  module _ (last : ℕ) (xs : List A) (g : Gathered) (rises : T (rising last (map idOf xs))) (going : g .ended ≡ false) (nothing : g .over ≡ 0) (fits : g .size ≤ roomForEntries) where
+    abbrev outcome : Gathered
+    outcome = walked measuring g xs
+
+    abbrev entries : List AnswerEntry
+    entries = map entry (keep wanted xs)
+
+    measure : Measure idOf wanted entry last xs g (walked measuring g xs)
+    measure = measured-all last xs g rises going nothing fits
+
+    -- no ID is 0, so 0 says that all entries fit
+    pub over-decides : eqb (walked measuring g xs .over) 0 ≡ isEmpty (overflow (roomForEntries - g .size) (map entry (keep wanted xs)))
+    over-decides = rw (measure .over) (overflow-decided (roomForEntries - g .size) entries (positive last xs rises))
+
+    pub over-none : overflow (roomForEntries - g .size) (map entry (keep wanted xs)) ≡ [] → walked measuring g xs .over ≡ 0
+    over-none e = measure .over ∙ ap (λ (ids : List ℕ). getD ids 0 0) e
+
+    pub over-some : (id : ℕ) → overflow (roomForEntries - g .size) (map entry (keep wanted xs)) ≡ id ∷ [] → (walked measuring g xs .over ≡ id) × (1 ≤ id)
+    over-some id e = (p, go)
+      where
+        p : outcome .over ≡ id
+        p = measure .over ∙ ap (λ (ids : List ℕ). getD ids 0 0) e
+
+        q : eqb (outcome .over) 0 ≡ false
+        q = over-decides ∙ ap (λ (ids : List ℕ). isEmpty ids) e
+
+        go : 1 ≤ id
+        go = let n : (outcome .over ≡ 0 → ⊥) = eqb-false (outcome .over) 0 q in positive-of id (λ z. n (p ∙ z))
+
+    pub count-all : walked measuring g xs .over ≡ 0 → walked measuring g xs .count ≡ g .count + length (keep wanted xs)
+    count-all e = measure .count ∙ ap (λ (ys : List A). g .count + length ys) (before-all idOf wanted (outcome .over) e xs)
+
+    pub size-all : walked measuring g xs .over ≡ 0 → walked measuring g xs .size ≡ g .size + length (entryBytes (map entry (keep wanted xs)))
+    size-all e = measure .size ∙ ap (λ (ys : List A). g .size + length (entryBytes (map entry ys))) (before-all idOf wanted (outcome .over) e xs)
+
+-- ---- a pass may begin behind records that are in front of the range
+abbrev pub inFront : {A : Type 0} → (A → ℕ) → ℕ → A → Bool
+inFront idOf start x = ltb (idOf x) start
+
+module _ {A : Type 0} (idOf : A → ℕ) (wanted : A → Bool) (start end : ℕ) (range : start ≤ end) (from : (x : A) → T (wanted x) → start ≤ idOf x) where
+  front-unwanted : (x : A) → T (inFront idOf start x) → wanted x ≡ false
+  front-unwanted x t = WordLaws.T-false (wanted x) (λ w. omega (arith, from x w, ltb→lt (idOf x) start t))
+
+  front-not-behind : (x : A) → T (inFront idOf start x) → leb end (idOf x) ≡ false
+  front-not-behind x t = lt-leb end (idOf x) (omega (arith, range, ltb→lt (idOf x) start t))
+
+  pub keep-skipped : (xs ys : List A) → T (every (inFront idOf start) xs) → keep wanted (xs ++ ys) ≡ keep wanted ys
+  keep-skipped [] ys t = refl
+  keep-skipped (x ∷ xs) ys t =
+      keep-none wanted x (xs ++ ys) (front-unwanted x (WordLaws.left (inFront idOf start x) (every (inFront idOf start) xs) t))
+      ∙ keep-skipped xs ys (WordLaws.right (inFront idOf start x) (every (inFront idOf start) xs) t)
+
+  pub built-skipped : (entry : A → AnswerEntry) (xs ys : List A) → T (every (inFront idOf start) xs)
+      → built (λ x. leb end (idOf x)) wanted entry (xs ++ ys) ≡ built (λ x. leb end (idOf x)) wanted entry ys
+  unfolding built
+  built-skipped entry [] ys t = refl
+  built-skipped entry (x ∷ xs) ys t =
+      let h : T (inFront idOf start x) = WordLaws.left (inFront idOf start x) (every (inFront idOf start) xs) t in
+      simp (front-unwanted x h, front-not-behind x h)
+      (built-skipped entry xs ys (WordLaws.right (inFront idOf start x) (every (inFront idOf start) xs) t))
+
+  pub left-skipped : (change : A → A) (xs ys : List A) → T (every (inFront idOf start) xs)
+      → left (λ x. leb end (idOf x)) wanted change (xs ++ ys) ≡ xs ++ left (λ x. leb end (idOf x)) wanted change ys
+  unfolding left
+  left-skipped change [] ys t = refl
+  left-skipped change (x ∷ xs) ys t =
+      let h : T (inFront idOf start x) = WordLaws.left (inFront idOf start x) (every (inFront idOf start) xs) t in
+      simp
+      (front-unwanted x h, front-not-behind x h, left-skipped change xs ys (WordLaws.right (inFront idOf start x) (every (inFront idOf start) xs) t))
+
+  pub walked-skipped : (entry : A → AnswerEntry) (xs ys : List A) (g : Gathered) → g .ended ≡ false → T (every (inFront idOf start) xs)
+      → walked (λ x h. measured (leb end (idOf x)) (wanted x) (entry x) h) g (xs ++ ys) ≡ walked (λ x h. measured (leb end (idOf x)) (wanted x) (entry x) h) g ys
+  unfolding walked measured
+  walked-skipped entry [] ys g e t = refl
+  walked-skipped entry (x ∷ xs) ys g e t =
+      let h : T (inFront idOf start x) = WordLaws.left (inFront idOf start x) (every (inFront idOf start) xs) t in
+      simp (front-unwanted x h, front-not-behind x h, e)
+      (walked-skipped entry xs ys g e (WordLaws.right (inFront idOf start x) (every (inFront idOf start) xs) t))
+
+-- ---- both passes over a table, from a place in front of which no record is in the range
+module _ {A : Type 0} (idOf : A → ℕ) (wanted : A → Bool) (entry : A → AnswerEntry) (start end : ℕ) (range : start ≤ end) (from : (x : A) → T (wanted x) → start ≤ idOf x)
+    (below : (x : A) → T (wanted x) → idOf x < end) (same : (x : A) → entry x .id ≡ idOf x) (k : ℕ) (xs : List A) (rises : T (rising 0 (map idOf xs)))
+    (front : T (every (inFront idOf start) (take k xs)))
+  where
+    abbrev pub gathered : Gathered
+    gathered = walked (measuring idOf wanted entry end below same) nothingGathered (drop k xs)
+
+    gathered-whole : gathered ≡ walked (measuring idOf wanted entry end below same) nothingGathered xs
+    gathered-whole =
+        sym (walked-skipped idOf wanted start end range from entry (take k xs) (drop k xs) nothingGathered refl front)
+        ∙ ap (λ (ys : List A). walked (measuring idOf wanted entry end below same) nothingGathered ys) (take-append-drop k xs)
+
+    pub gathered-measure : Measure idOf wanted entry 0 xs nothingGathered gathered
+    gathered-measure = rw gathered-whole (measured-all idOf wanted entry end below same 0 xs nothingGathered rises refl refl (omega arith))
+
+    pub gathered-over : gathered .over ≡ getD (overflow roomForEntries (map entry (keep wanted xs))) 0 0
+    gathered-over = gathered-measure .over
+
+    pub gathered-fits : isEmpty (overflow roomForEntries (map entry (keep wanted xs))) ≡ eqb (gathered .over) 0
+    gathered-fits = rw gathered-whole (sym (over-decides idOf wanted entry end below same 0 xs nothingGathered rises refl refl (omega arith)))
+
+    pub gathered-count : gathered .over ≡ 0 → gathered .count ≡ length (map entry (keep wanted xs))
+    gathered-count e =
+        omega
+        (arith, gathered-measure .count, ap (λ (ys : List A). length ys) (before-all idOf wanted (gathered .over) e xs), length-map (keep wanted xs) entry)
+
+    pub gathered-size : gathered .over ≡ 0 → gathered .size ≡ length (entryBytes (map entry (keep wanted xs)))
+    gathered-size e =
+        omega (arith, gathered-measure .size, ap (λ (ys : List A). length (entryBytes (map entry ys))) (before-all idOf wanted (gathered .over) e xs))
+
+    pub gathered-empty : isEmpty (map entry (keep wanted xs)) ≡ (eqb (gathered .count) 0 && eqb (gathered .over) 0)
+    gathered-empty = go (eqb (gathered .over) 0) refl (map entry (keep wanted xs)) refl
+      where
+        go : (u : Bool) → eqb (gathered .over) 0 ≡ u → (es : List AnswerEntry) → map entry (keep wanted xs) ≡ es → isEmpty es ≡ (eqb (gathered .count) 0 && eqb (gathered .over) 0)
+        go true d [] e = simp (d, eq-eqb (gathered .count) 0 (gathered-count (eqb-true (gathered .over) 0 d) ∙ ap (λ (fs : List AnswerEntry). length fs) e))
+        go true d (f ∷ fs) e =
+            simp (ne-eqb (gathered .count) 0 (λ z. omega (arith, z, gathered-count (eqb-true (gathered .over) 0 d), ap (λ (gs : List AnswerEntry). length gs) e)))
+        go false d [] e =
+            absurd (eqb-false (gathered .over) 0 d (gathered-over ∙ ap (λ (fs : List AnswerEntry). getD (overflow roomForEntries fs) 0 0) e ∙ ap (λ (ids : List ℕ). getD ids 0 0) (overflow-none roomForEntries)))
+        go false d (f ∷ fs) e = simp d (sym (and-false (eqb (gathered .count) 0)))
+
+    -- rows 2 and 3, from the first pass alone
+    pub gathered-finding : (size : ℕ) (badFilter : Bool) (m : List ℕ)
+        → getFinding size badFilter m (map entry (keep wanted xs))
+        ≡ (if not (eqb (length m) size) then bad (startOf m) 10
+        else if eqb (numberOf m) 0 || badFilter then bad (startOf m) 6
+        else if eqb (gathered .count) 0 && eqb (gathered .over) 0 then bad (startOf m) 2
+        else if eqb (gathered .over) 0 then fine
+        else bad (gathered .over) 3)
+    unfolding getFinding
+    gathered-finding size badFilter m = rw (gathered-empty, gathered-fits, ← gathered-over)
+
+    pub gathered-bytes : built (λ x. leb end (idOf x)) wanted entry (drop k xs) ≡ entryBytes (map entry (keep wanted xs))
+    gathered-bytes =
+        sym (built-skipped idOf wanted start end range from entry (take k xs) (drop k xs) front)
+        ∙ ap (λ (ys : List A). built (λ x. leb end (idOf x)) wanted entry ys) (take-append-drop k xs) ∙ built-all idOf wanted end below entry 0 xs rises
+
+    pub gathered-left : (change : A → A) → take k xs ++ left (λ x. leb end (idOf x)) wanted change (drop k xs) ≡ map (λ x. if wanted x then change x else x) xs
+    gathered-left change =
+        sym (left-skipped idOf wanted start end range from change (take k xs) (drop k xs) front)
+        ∙ ap (λ (ys : List A). left (λ x. leb end (idOf x)) wanted change ys) (take-append-drop k xs) ∙ left-all idOf wanted end below change 0 xs rises
