@@ -7,13 +7,18 @@ use native.Mathlib.Omega.{arith}
 use lib.ListN.{length, getD, take, drop, length-append, length-map, take-append-drop}
 use lib.Dec.{T, leb, ltb, eqb, ltb→lt, leb→le}
 use borrow.Author.Tests.{lt-ltb, le-ltb, le-leb, lt-leb, eq-eqb, ne-eqb, ltb-true, ltb-false, leb-true, leb-false, eqb-true, eqb-false}
-use Rattle.link.specs.Words.{if_then_else_, isEmpty, every, keep}
+use Rattle.link.specs.Words.{if_then_else_, twoBytes, isEmpty, every, keep}
 use Rattle.link.proofs.WordLaws
+use Rattle.services.specs.declared.datapoint.Datapoint.{Datapoint}
+use Rattle.services.specs.declared.item.Item.{Item}
+use Rattle.services.specs.declared.gather.Wanted.{Wanted}
 use Rattle.services.specs.declared.gather.Gathered.{Gathered}
-use Rattle.services.specs.Table.{rising}
-use Rattle.services.specs.Message.{startOf, numberOf, Finding, fine, bad}
-use Rattle.services.specs.Get.{AnswerEntry, overflow, roomForEntries, getFinding}
-use Rattle.services.specs.Gather.{ended, withEntry, measured, walked, nothingGathered, built, left}
+use Rattle.services.specs.Datapoint.{datapointId, withMark, handedOut}
+use Rattle.services.specs.Item.{itemId}
+use Rattle.services.specs.Table.{Tables, rising}
+use Rattle.services.specs.Message.{startOf, numberOf, filterOf, Finding, fine, bad}
+use Rattle.services.specs.Get.{AnswerEntry, overflow, roomForEntries, listing, getFinding, inRequest, itemEntry, descriptionEntry, valueEntry, passes, asked, handingOut}
+use Rattle.services.specs.Gather.{isBehind, isWithin, isWanted, entryOf, leftOf, ended, withEntry, measured, walked, nothingGathered, built, left}
 
 -- ---- rising IDs taken apart
 rising-head : (last x : ℕ) (xs : List ℕ) → T (rising last (x ∷ xs)) → last < x
@@ -76,6 +81,9 @@ module _ {A : Type 0} (idOf : A → ℕ) (wanted : A → Bool) (end : ℕ) (belo
           simp (a, not-wanted x k, behind-same change (idOf x) xs (rising-tail last (idOf x) (map idOf xs) t) (omega arith))
       go false true a b r = simp (a, b, r)
       go false false a b r = simp (a, b, r)
+
+keep-same : {A : Type 0} (p q : A → Bool) → ((x : A) → p x ≡ q x) → (xs : List A) → keep p xs ≡ keep q xs
+keep-same {A} p q h xs = ap (λ (r : A → Bool). keep r xs) {x = p} {y = q} (λ i x. h x i)
 
 -- ---- the first pass
 abbrev pub entryBytes : List AnswerEntry → List ℕ
@@ -371,6 +379,32 @@ module _ {A : Type 0} (idOf : A → ℕ) (wanted : A → Bool) (start end : ℕ)
       simp (front-unwanted x h, front-not-behind x h, e)
       (walked-skipped entry xs ys g e (WordLaws.right (inFront idOf start x) (every (inFront idOf start) xs) t))
 
+-- ---- what both passes say of the entries to return
+pub record Passed (es : List AnswerEntry) (g : Gathered) (bytes : List ℕ) : Type 0 where
+  pub empty : isEmpty es ≡ (eqb (g .count) 0 && eqb (g .over) 0)
+  pub fits : isEmpty (overflow roomForEntries es) ≡ eqb (g .over) 0
+  pub over : getD (overflow roomForEntries es) 0 0 ≡ g .over
+  pub count : g .over ≡ 0 → g .count ≡ length es
+  pub size : g .over ≡ 0 → g .size ≡ length (entryBytes es)
+  pub built : bytes ≡ entryBytes es
+
+-- rows 2 and 3, from the first pass alone
+pub passed-finding : (es : List AnswerEntry) (g : Gathered) (bytes : List ℕ) → Passed es g bytes → (size : ℕ) (badFilter : Bool) (m : List ℕ)
+    → getFinding size badFilter m es
+    ≡ (if not (eqb (length m) size) then bad (startOf m) 10
+    else if eqb (numberOf m) 0 || badFilter then bad (startOf m) 6
+    else if eqb (g .count) 0 && eqb (g .over) 0 then bad (startOf m) 2
+    else if eqb (g .over) 0 then fine
+    else bad (g .over) 3)
+unfolding getFinding
+passed-finding es g bytes p size badFilter m = rw (p .empty, p .fits, p .over)
+
+-- where all entries fit, the listing is the head with their number, and the bytes built
+pub passed-listing : (es : List AnswerEntry) (g : Gathered) (bytes : List ℕ) → Passed es g bytes → g .over ≡ 0 → (sub start : ℕ)
+    → listing sub start es ≡ 0xF0 ∷ sub ∷ twoBytes start ++ twoBytes (g .count) ++ bytes
+unfolding listing
+passed-listing es g bytes p e sub start = rw (p .count e, p .built)
+
 -- ---- both passes over a table, from a place in front of which no record is in the range
 module _ {A : Type 0} (idOf : A → ℕ) (wanted : A → Bool) (entry : A → AnswerEntry) (start end : ℕ) (range : start ≤ end) (from : (x : A) → T (wanted x) → start ≤ idOf x)
     (below : (x : A) → T (wanted x) → idOf x < end) (same : (x : A) → entry x .id ≡ idOf x) (k : ℕ) (xs : List A) (rises : T (rising 0 (map idOf xs)))
@@ -413,23 +447,140 @@ module _ {A : Type 0} (idOf : A → ℕ) (wanted : A → Bool) (entry : A → An
             absurd (eqb-false (gathered .over) 0 d (gathered-over ∙ ap (λ (fs : List AnswerEntry). getD (overflow roomForEntries fs) 0 0) e ∙ ap (λ (ids : List ℕ). getD ids 0 0) (overflow-none roomForEntries)))
         go false d (f ∷ fs) e = simp d (sym (and-false (eqb (gathered .count) 0)))
 
-    -- rows 2 and 3, from the first pass alone
-    pub gathered-finding : (size : ℕ) (badFilter : Bool) (m : List ℕ)
-        → getFinding size badFilter m (map entry (keep wanted xs))
-        ≡ (if not (eqb (length m) size) then bad (startOf m) 10
-        else if eqb (numberOf m) 0 || badFilter then bad (startOf m) 6
-        else if eqb (gathered .count) 0 && eqb (gathered .over) 0 then bad (startOf m) 2
-        else if eqb (gathered .over) 0 then fine
-        else bad (gathered .over) 3)
-    unfolding getFinding
-    gathered-finding size badFilter m = rw (gathered-empty, gathered-fits, ← gathered-over)
-
     pub gathered-bytes : built (λ x. leb end (idOf x)) wanted entry (drop k xs) ≡ entryBytes (map entry (keep wanted xs))
     gathered-bytes =
         sym (built-skipped idOf wanted start end range from entry (take k xs) (drop k xs) front)
         ∙ ap (λ (ys : List A). built (λ x. leb end (idOf x)) wanted entry ys) (take-append-drop k xs) ∙ built-all idOf wanted end below entry 0 xs rises
 
+    pub gathered-passes : Passed (map entry (keep wanted xs)) gathered (built (λ x. leb end (idOf x)) wanted entry (drop k xs))
+    gathered-passes =
+        record {
+          empty = gathered-empty;
+          fits = gathered-fits;
+          over = sym gathered-over;
+          count = gathered-count;
+          size = gathered-size;
+          built = gathered-bytes;
+        }
+
     pub gathered-left : (change : A → A) → take k xs ++ left (λ x. leb end (idOf x)) wanted change (drop k xs) ≡ map (λ x. if wanted x then change x else x) xs
     gathered-left change =
         sym (left-skipped idOf wanted start end range from change (take k xs) (drop k xs) front)
         ∙ ap (λ (ys : List A). left (λ x. leb end (idOf x)) wanted change ys) (take-append-drop k xs) ∙ left-all idOf wanted end below change 0 xs rises
+
+-- ---- the gets of datapoints and items
+-- what a get asks for
+abbrev pub wantedBy : List ℕ → ℕ → Bool → Wanted
+wantedBy m filter values = record { start = startOf m; end = startOf m + numberOf m; filter = filter; values = values; marked = false }
+
+module _ (w : Wanted) where
+  pub wanted-from : (d : Datapoint) → T (isWanted w d) → w .start ≤ d .id
+  unfolding isWanted isWithin
+  wanted-from d t =
+      leb→le (w .start) (d .id)
+      (WordLaws.left (leb (w .start) (d .id)) (ltb (d .id) (w .end)) (WordLaws.parts3 (isWithin w (d .id)) (passes (w .filter) d) (not (w .marked) || d .mark) t .0))
+
+  pub wanted-below : (d : Datapoint) → T (isWanted w d) → d .id < w .end
+  unfolding isWanted isWithin
+  wanted-below d t =
+      ltb→lt (d .id) (w .end)
+      (WordLaws.right (leb (w .start) (d .id)) (ltb (d .id) (w .end)) (WordLaws.parts3 (isWithin w (d .id)) (passes (w .filter) d) (not (w .marked) || d .mark) t .0))
+
+  pub entry-id : (d : Datapoint) → entryOf w d .id ≡ d .id
+  unfolding entryOf valueEntry descriptionEntry
+  entry-id d = go (w .values) refl
+    where
+      go : (u : Bool) → w .values ≡ u → entryOf w d .id ≡ d .id
+      go true e = simp e
+      go false e = simp e
+
+  pub within-from : (id : ℕ) → T (isWithin w id) → w .start ≤ id
+  unfolding isWithin
+  within-from id t = leb→le (w .start) id (WordLaws.left (leb (w .start) id) (ltb id (w .end)) t)
+
+  pub within-below : (id : ℕ) → T (isWithin w id) → id < w .end
+  unfolding isWithin
+  within-below id t = ltb→lt id (w .end) (WordLaws.right (leb (w .start) id) (ltb id (w .end)) t)
+
+  -- both passes over datapoints from place k on
+  abbrev pub datapointsGathered : List Datapoint → Gathered
+  datapointsGathered ds = walked (λ (d : Datapoint) g. measured (isBehind w (d .id)) (isWanted w d) (entryOf w d) g) nothingGathered ds
+
+  abbrev pub datapointsBuilt : List Datapoint → List ℕ
+  datapointsBuilt ds = built (λ (d : Datapoint). isBehind w (d .id)) (isWanted w) (entryOf w) ds
+
+  abbrev pub datapointsLeft : List Datapoint → List Datapoint
+  datapointsLeft ds = left (λ (d : Datapoint). isBehind w (d .id)) (isWanted w) (leftOf w) ds
+
+  abbrev pub itemsGathered : List Item → Gathered
+  itemsGathered is = walked (λ (i : Item) g. measured (isBehind w (i .id)) (isWithin w (i .id)) (itemEntry i) g) nothingGathered is
+
+  abbrev pub itemsBuilt : List Item → List ℕ
+  itemsBuilt is = built (λ (i : Item). isBehind w (i .id)) (λ (i : Item). isWithin w (i .id)) itemEntry is
+
+  module _ (range : w .start ≤ w .end) (k : ℕ) (ds : List Datapoint) (rises : T (rising 0 (map datapointId ds))) (front : T (every (inFront datapointId (w .start)) (take k ds))) where
+    pub datapoints-pass : Passed (map (entryOf w) (keep (isWanted w) ds)) (datapointsGathered (drop k ds)) (datapointsBuilt (drop k ds))
+    unfolding isBehind
+    datapoints-pass = gathered-passes datapointId (isWanted w) (entryOf w) (w .start) (w .end) range wanted-from wanted-below entry-id k ds rises front
+
+    pub datapoints-left : take k ds ++ datapointsLeft (drop k ds) ≡ map (λ (d : Datapoint). if isWanted w d then leftOf w d else d) ds
+    unfolding isBehind
+    datapoints-left = gathered-left datapointId (isWanted w) (entryOf w) (w .start) (w .end) range wanted-from wanted-below entry-id k ds rises front (leftOf w)
+
+  pub items-pass : w .start ≤ w .end → (k : ℕ) (is : List Item) → T (rising 0 (map itemId is)) → T (every (inFront itemId (w .start)) (take k is))
+      → Passed (map itemEntry (keep (λ (i : Item). isWithin w (i .id)) is)) (itemsGathered (drop k is)) (itemsBuilt (drop k is))
+  unfolding isBehind
+  items-pass range k is rises front =
+      gathered-passes itemId (λ (i : Item). isWithin w (i .id)) itemEntry (w .start) (w .end) range (λ i. within-from (i .id)) (λ i. within-below (i .id)) (λ i. unfold itemEntry in refl) k is rises front
+
+and-true : (a : Bool) → (a && true) ≡ a
+and-true true = refl
+and-true false = refl
+
+pub wanted-asked : (m : List ℕ) (d : Datapoint) → isWanted (wantedBy m (filterOf m) true) d ≡ asked m d
+unfolding isWanted isWithin asked inRequest
+wanted-asked m d = and-true (asked m d)
+
+pub wanted-in-request : (m : List ℕ) (values : Bool) (d : Datapoint) → isWanted (wantedBy m 0 values) d ≡ inRequest m (d .id)
+unfolding isWanted isWithin inRequest passes
+wanted-in-request m values d = and-true (inRequest m (d .id) && true) ∙ and-true (inRequest m (d .id))
+
+module _ (m : List ℕ) (k : ℕ) where
+  -- GetDatapointValue
+  module _ (ds : List Datapoint) (rises : T (rising 0 (map datapointId ds))) (front : T (every (inFront datapointId (startOf m)) (take k ds))) where
+    pub values-pass : Passed (map valueEntry (keep (asked m) ds)) (datapointsGathered (wantedBy m (filterOf m) true) (drop k ds)) (datapointsBuilt (wantedBy m (filterOf m) true) (drop k ds))
+    unfolding entryOf
+    values-pass =
+        rw (← keep-same (isWanted (wantedBy m (filterOf m) true)) (asked m) (wanted-asked m) ds)
+        (datapoints-pass (wantedBy m (filterOf m) true) (omega arith) k ds rises front)
+
+    pub values-left : take k ds ++ datapointsLeft (wantedBy m (filterOf m) true) (drop k ds) ≡ map (λ (d : Datapoint). if asked m d then handedOut d else d) ds
+    unfolding leftOf
+    values-left =
+        datapoints-left (wantedBy m (filterOf m) true) (omega arith) k ds rises front
+        ∙ ap (λ (p : Datapoint → Bool). map (λ (d : Datapoint). if p d then handedOut d else d) ds) (λ i d. wanted-asked m d i)
+
+    -- GetDatapointDescription
+    pub descriptions-pass : Passed (map descriptionEntry (keep (λ (d : Datapoint). inRequest m (d .id)) ds)) (datapointsGathered (wantedBy m 0 false) (drop k ds)) (datapointsBuilt (wantedBy m 0 false) (drop k ds))
+    unfolding entryOf
+    descriptions-pass =
+        rw (← keep-same (isWanted (wantedBy m 0 false)) (λ (d : Datapoint). inRequest m (d .id)) (wanted-in-request m false) ds)
+        (datapoints-pass (wantedBy m 0 false) (omega arith) k ds rises front)
+
+  -- GetServerItem
+  pub items-asked-pass : (filter : ℕ) (values : Bool) (is : List Item) → T (rising 0 (map itemId is)) → T (every (inFront itemId (startOf m)) (take k is))
+      → Passed (map itemEntry (keep (λ (i : Item). inRequest m (i .id)) is)) (itemsGathered (wantedBy m filter values) (drop k is)) (itemsBuilt (wantedBy m filter values) (drop k is))
+  items-asked-pass filter values is rises front =
+      rw (← keep-same (λ (i : Item). isWithin (wantedBy m filter values) (i .id)) (λ (i : Item). inRequest m (i .id)) (λ i. unfold isWithin inRequest in refl) is)
+      (items-pass (wantedBy m filter values) (omega arith) k is rises front)
+
+  -- the tables after GetDatapointValue
+  pub handed-out-left : (t : Tables) → T (rising 0 (map datapointId (t .datapoints))) → T (every (inFront datapointId (startOf m)) (take k (t .datapoints)))
+      → handingOut m t
+      ≡ record {
+        datapoints = take k (t .datapoints) ++ datapointsLeft (wantedBy m (filterOf m) true) (drop k (t .datapoints));
+        items = t .items;
+        parameters = t .parameters;
+      }
+  unfolding handingOut
+  handed-out-left t rises front = rw (values-left (t .datapoints) rises front)
