@@ -18,6 +18,7 @@ use Rattle.services.specs.Item.{itemId}
 use Rattle.services.specs.Table.{Tables, rising}
 use Rattle.services.specs.Message.{startOf, numberOf, filterOf, Finding, fine, bad}
 use Rattle.services.specs.Get.{AnswerEntry, overflow, roomForEntries, listing, getFinding, inRequest, itemEntry, descriptionEntry, valueEntry, passes, asked, handingOut}
+use Rattle.services.specs.Indication.{needs, goes, roomAfter, Choice, choices, reported, afterReport, indicationOf, indication}
 use Rattle.services.specs.Gather.{isBehind, isWithin, isWanted, entryOf, leftOf, ended, withEntry, measured, walked, nothingGathered, built, left}
 
 -- ---- rising IDs taken apart
@@ -584,3 +585,243 @@ module _ (m : List ℕ) (k : ℕ) where
       }
   unfolding handingOut
   handed-out-left t rises front = rw (values-left (t .datapoints) rises front)
+
+-- ---- the indication
+abbrev isMarked : Datapoint → Bool
+isMarked d = d .mark
+
+-- two functions that agree where a test holds
+map-same-where : {A B : Type 0} (q : A → Bool) (f f′ : A → B) → ((x : A) → T (q x) → f x ≡ f′ x) → (xs : List A) → T (every q xs) → map f xs ≡ map f′ xs
+map-same-where q f f′ h [] t = refl
+map-same-where q f f′ h (x ∷ xs) t =
+    let e = h x (WordLaws.left (q x) (every q xs) t) in
+    let r = map-same-where q f f′ h xs (WordLaws.right (q x) (every q xs) t) in
+    λ i. e i ∷ r i
+
+keep-same-where : {A : Type 0} (q p p′ : A → Bool) → ((x : A) → T (q x) → p x ≡ p′ x) → (xs : List A) → T (every q xs) → keep p xs ≡ keep p′ xs
+keep-same-where q p p′ h [] t = refl
+keep-same-where {A} q p p′ h (x ∷ xs) t =
+    go (p′ x) refl (h x (WordLaws.left (q x) (every q xs) t)) (keep-same-where q p p′ h xs (WordLaws.right (q x) (every q xs) t))
+  where
+    go : (u : Bool) → p′ x ≡ u → p x ≡ p′ x → keep p xs ≡ keep p′ xs → keep p (x ∷ xs) ≡ keep p′ (x ∷ xs)
+    go true b e r = keep-one p x xs (e ∙ b) ∙ ap (λ (ys : List A). x ∷ ys) r ∙ sym (keep-one p′ x xs b)
+    go false b e r = keep-none p x xs (e ∙ b) ∙ r ∙ sym (keep-none p′ x xs b)
+
+-- choices made by a test alone
+abbrev pub carrying : (Datapoint → Bool) → Datapoint → Choice
+carrying p d = record { datapoint = d; carried = p d }
+
+pub reported-carrying : (p : Datapoint → Bool) (ds : List Datapoint) → reported (map (carrying p) ds) ≡ keep p ds
+unfolding reported
+reported-carrying p [] = refl
+reported-carrying p (d ∷ ds) = go (p d) refl (reported-carrying p ds)
+  where
+    go : (u : Bool) → p d ≡ u → reported (map (carrying p) ds) ≡ keep p ds → reported (map (carrying p) (d ∷ ds)) ≡ keep p (d ∷ ds)
+    go true b r = simp (b, r)
+    go false b r = simp (b, r)
+
+pub after-carrying : (p : Datapoint → Bool) (ds : List Datapoint) → afterReport (map (carrying p) ds) ≡ map (λ (d : Datapoint). if p d then withMark false (handedOut d) else d) ds
+unfolding afterReport
+after-carrying p [] = refl
+after-carrying p (d ∷ ds) = ap (λ (xs : List Datapoint). (if p d then withMark false (handedOut d) else d) ∷ xs) (after-carrying p ds)
+
+choice-more : (p : Datapoint → Bool) (room rest : ℕ) (d : Datapoint) (ds : List Datapoint) → goes room d ≡ p d → roomAfter room d ≡ rest → choices rest ds ≡ map (carrying p) ds
+    → choices room (d ∷ ds) ≡ map (carrying p) (d ∷ ds)
+unfolding choices
+choice-more p room rest d ds a b c =
+    let e : choices (roomAfter room d) ds ≡ map (carrying p) ds = ap (λ (r : ℕ). choices r ds) b ∙ c in
+    λ i. record { datapoint = d; carried = a i } ∷ e i
+
+-- what one datapoint takes, and leaves
+module _ (room : ℕ) (d : Datapoint) where
+  goes-unmarked : d .mark ≡ false → (goes room d ≡ false) × (roomAfter room d ≡ room)
+  unfolding goes roomAfter
+  goes-unmarked e = (simp e, simp e)
+
+  goes-fitting : d .mark ≡ true → length (valueEntry d .bytes) ≤ room → (goes room d ≡ true) × (roomAfter room d ≡ room - length (valueEntry d .bytes))
+  unfolding goes roomAfter needs
+  goes-fitting e h = (simp (e, le-leb (length (valueEntry d .bytes)) room h), simp (e, le-leb (length (valueEntry d .bytes)) room h))
+
+  goes-over : d .mark ≡ true → room < length (valueEntry d .bytes) → (goes room d ≡ false) × (roomAfter room d ≡ 0)
+  unfolding goes roomAfter needs
+  goes-over e h = (simp (e, lt-leb (length (valueEntry d .bytes)) room h), simp (e, lt-leb (length (valueEntry d .bytes)) room h))
+
+some-bytes : (d : Datapoint) → 0 < length (valueEntry d .bytes)
+unfolding valueEntry
+some-bytes d = omega arith
+
+goes-nothing : (d : Datapoint) → (goes 0 d ≡ false) × (roomAfter 0 d ≡ 0)
+goes-nothing d = go (d .mark) refl
+  where
+    go : (u : Bool) → d .mark ≡ u → (goes 0 d ≡ false) × (roomAfter 0 d ≡ 0)
+    go true e = goes-over 0 d e (some-bytes d)
+    go false e = goes-unmarked 0 d e
+
+-- after the first that does not fit, none goes: all wait
+choices-none : (over last : ℕ) (ds : List Datapoint) → T (rising last (map datapointId ds)) → 1 ≤ over → over ≤ suc last → choices 0 ds ≡ map (carrying (before datapointId isMarked over)) ds
+choices-none over last [] t p h = unfold choices in refl
+choices-none over last (d ∷ ds) t p h =
+    let k : last < d .id = rising-head last (d .id) (map datapointId ds) t in
+    choice-more (before datapointId isMarked over) 0 0 d ds
+    (goes-nothing d .0
+    ∙ sym (ap (λ (b : Bool). d .mark && b) (simp (ne-eqb over 0 (λ e. omega (arith, e)), le-ltb (d .id) over (omega arith))) ∙ and-false (d .mark)))
+    (goes-nothing d .1) (choices-none over (d .id) ds (rising-tail last (d .id) (map datapointId ds) t) p (omega arith))
+
+-- the first marked datapoint that does not fit, or 0
+abbrev firstOver : ℕ → List Datapoint → ℕ
+firstOver room ds = getD (overflow room (map valueEntry (keep isMarked ds))) 0 0
+
+module _ (room : ℕ) (d : Datapoint) (ds : List Datapoint) where
+  over-unmarked : d .mark ≡ false → firstOver room (d ∷ ds) ≡ firstOver room ds
+  over-unmarked e = rw (keep-none isMarked d ds e)
+
+  over-fitting : d .mark ≡ true → length (valueEntry d .bytes) ≤ room → firstOver room (d ∷ ds) ≡ firstOver (room - length (valueEntry d .bytes)) ds
+  over-fitting e h = rw (keep-one isMarked d ds e, overflow-later room (valueEntry d) (map valueEntry (keep isMarked ds)) h)
+
+  over-here : d .mark ≡ true → room < length (valueEntry d .bytes) → firstOver room (d ∷ ds) ≡ d .id
+  over-here e h = rw (keep-one isMarked d ds e, overflow-here room (valueEntry d) (map valueEntry (keep isMarked ds)) h) (unfold valueEntry in refl)
+
+over-above : (room last : ℕ) (ds : List Datapoint) → T (rising last (map datapointId ds)) → T (noneOrAbove last (firstOver room ds))
+over-above room last [] t = rw (overflow-none room) tt
+over-above room last (d ∷ ds) t =
+    go (d .mark) (ltb room (length (valueEntry d .bytes))) refl refl (λ r. over-above r (d .id) ds (rising-tail last (d .id) (map datapointId ds) t))
+  where
+    head : last < d .id
+    head = rising-head last (d .id) (map datapointId ds) t
+
+    go : (u v : Bool) → d .mark ≡ u → ltb room (length (valueEntry d .bytes)) ≡ v → ((r : ℕ) → T (noneOrAbove (d .id) (firstOver r ds))) → T (noneOrAbove last (firstOver room (d ∷ ds)))
+    go false v a b r = rw (over-unmarked room d ds a) (none-or-above-less last (d .id) (firstOver room ds) (omega (arith, head)) (r room))
+    go true false a b r =
+        rw (over-fitting room d ds a (ltb-false room (length (valueEntry d .bytes)) b))
+        (none-or-above-less last (d .id) (firstOver (room - length (valueEntry d .bytes)) ds) (omega (arith, head)) (r (room - length (valueEntry d .bytes))))
+    go true true a b r =
+        rw (over-here room d ds a (ltb-true room (length (valueEntry d .bytes)) b))
+        (none-or-above-less last last (d .id) (omega arith) (simp (ne-eqb (d .id) 0 (λ e. omega (arith, e, head)), lt-ltb last (d .id) head) tt))
+
+-- carried is what is marked and in front of the first that does not fit
+choices-before : (room last : ℕ) (ds : List Datapoint) → T (rising last (map datapointId ds)) → choices room ds ≡ map (carrying (before datapointId isMarked (firstOver room ds))) ds
+choices-before room last [] t = unfold choices in refl
+choices-before room last (d ∷ ds) t =
+    go (d .mark) (ltb room (length (valueEntry d .bytes))) refl refl (λ r. choices-before r (d .id) ds (rising-tail last (d .id) (map datapointId ds) t))
+  where
+    head : last < d .id
+    head = rising-head last (d .id) (map datapointId ds) t
+
+    go : (u v : Bool) → d .mark ≡ u → ltb room (length (valueEntry d .bytes)) ≡ v → ((r : ℕ) → choices r ds ≡ map (carrying (before datapointId isMarked (firstOver r ds))) ds)
+        → choices room (d ∷ ds) ≡ map (carrying (before datapointId isMarked (firstOver room (d ∷ ds)))) (d ∷ ds)
+    go false v a b r =
+        rw (over-unmarked room d ds a)
+        (choice-more (before datapointId isMarked (firstOver room ds)) room room d ds (goes-unmarked room d a .0 ∙ simp a) (goes-unmarked room d a .1) (r room))
+    go true false a b r =
+        let h : length (valueEntry d .bytes) ≤ room = ltb-false room (length (valueEntry d .bytes)) b in
+        let rest : ℕ = room - length (valueEntry d .bytes) in
+        let z : noneOrAbove (d .id) (firstOver rest ds) ≡ true
+        = WordLaws.T-true (noneOrAbove (d .id) (firstOver rest ds)) (over-above rest (d .id) ds (rising-tail last (d .id) (map datapointId ds) t)) in
+        rw (over-fitting room d ds a h)
+        (choice-more (before datapointId isMarked (firstOver rest ds)) room rest d ds (goes-fitting room d a h .0 ∙ simp (a, z)) (goes-fitting room d a h .1) (r rest))
+    go true true a b r =
+        let h : room < length (valueEntry d .bytes) = ltb-true room (length (valueEntry d .bytes)) b in
+        let z : noneOrAbove (d .id) (d .id) ≡ false = simp (ne-eqb (d .id) 0 (λ e. omega (arith, e, head)), le-ltb (d .id) (d .id) (omega arith)) in
+        rw (over-here room d ds a h)
+        (choice-more (before datapointId isMarked (d .id)) room 0 d ds (goes-over room d a h .0 ∙ simp (a, z)) (goes-over room d a h .1)
+        (choices-none (d .id) (d .id) ds (rising-tail last (d .id) (map datapointId ds) t) (omega (arith, head)) (omega arith)))
+
+-- what an indication wants: marked datapoints in front of an ID
+abbrev pub markedUpTo : ℕ → Wanted
+markedUpTo end = record { start = 0; end = end; filter = 0; values = true; marked = true }
+
+-- the end of the second pass: the first entry that does not fit, and no bound where all fit
+abbrev pub endBefore : ℕ → ℕ
+endBefore over = if eqb over 0 then 65536 else over
+
+-- IDs have two bytes
+abbrev pub shortId : Datapoint → Bool
+shortId d = ltb (d .id) 65536
+
+wanted-marked : (over : ℕ) (d : Datapoint) → T (shortId d) → isWanted (markedUpTo (endBefore over)) d ≡ before datapointId isMarked over d
+unfolding isWanted isWithin passes
+wanted-marked over d t = go (eqb over 0) (d .mark) (ltb (d .id) over) refl refl refl
+  where
+    go : (u v x : Bool) → eqb over 0 ≡ u → d .mark ≡ v → ltb (d .id) over ≡ x → isWanted (markedUpTo (endBefore over)) d ≡ before datapointId isMarked over d
+    go true true x a b c = simp (a, b, le-leb 0 (d .id) (omega arith), WordLaws.T-true (shortId d) t)
+    go true false x a b c = simp (a, b, le-leb 0 (d .id) (omega arith), WordLaws.T-true (shortId d) t)
+    go false true true a b c = simp (a, b, c, le-leb 0 (d .id) (omega arith))
+    go false true false a b c = simp (a, b, c, le-leb 0 (d .id) (omega arith))
+    go false false true a b c = simp (a, b, c, le-leb 0 (d .id) (omega arith))
+    go false false false a b c = simp (a, b, c, le-leb 0 (d .id) (omega arith))
+
+wanted-mark : (d : Datapoint) → T (shortId d) → isWanted (markedUpTo 65536) d ≡ d .mark
+wanted-mark d t = wanted-marked 0 d t ∙ and-true (d .mark)
+
+module _ (ds : List Datapoint) (rises : T (rising 0 (map datapointId ds))) (short : T (every shortId ds)) where
+  -- the first pass
+  abbrev pub marks : Gathered
+  marks = datapointsGathered (markedUpTo 65536) ds
+
+  -- the second pass wants those in front of the first that does not fit
+  abbrev pub fitting : Wanted
+  fitting = markedUpTo (endBefore (marks .over))
+
+  marks-over : firstOver roomForEntries ds ≡ marks .over
+  unfolding entryOf
+  marks-over =
+      ap (λ (xs : List Datapoint). getD (overflow roomForEntries (map valueEntry xs)) 0 0) (sym (keep-same-where shortId (isWanted (markedUpTo 65536)) isMarked wanted-mark ds short))
+      ∙ datapoints-pass (markedUpTo 65536) (omega arith) 0 ds rises tt .over
+
+  indication-choices : choices roomForEntries ds ≡ map (carrying (isWanted fitting)) ds
+  indication-choices =
+      choices-before roomForEntries 0 ds rises
+      ∙ ap (λ (over : ℕ). map (carrying (before datapointId isMarked over)) ds) marks-over
+      ∙ map-same-where shortId (carrying (before datapointId isMarked (marks .over))) (carrying (isWanted fitting)) (λ d t. ap (λ (b : Bool). record { datapoint = d; carried = b }) (sym (wanted-marked (marks .over) d t))) ds short
+
+  pub indication-reported : reported (choices roomForEntries ds) ≡ keep (isWanted fitting) ds
+  indication-reported = ap reported indication-choices ∙ reported-carrying (isWanted fitting) ds
+
+  pub indication-after : afterReport (choices roomForEntries ds) ≡ map (λ (d : Datapoint). if isWanted fitting d then leftOf fitting d else d) ds
+  unfolding leftOf
+  indication-after = ap afterReport indication-choices ∙ after-carrying (isWanted fitting) ds
+
+  pub indication-left : datapointsLeft fitting ds ≡ afterReport (choices roomForEntries ds)
+  indication-left = datapoints-left fitting (omega arith) 0 ds rises tt ∙ sym indication-after
+
+  pub indication-bytes : datapointsBuilt fitting ds ≡ entryBytes (map valueEntry (reported (choices roomForEntries ds)))
+  unfolding entryOf
+  indication-bytes =
+      datapoints-pass fitting (omega arith) 0 ds rises tt .built
+      ∙ ap (λ (xs : List Datapoint). entryBytes (map valueEntry xs)) (sym indication-reported)
+
+  marks-measure : Measure datapointId (isWanted (markedUpTo 65536)) (entryOf (markedUpTo 65536)) 0 ds nothingGathered marks
+  unfolding isBehind
+  marks-measure =
+      measured-all datapointId (isWanted (markedUpTo 65536)) (entryOf (markedUpTo 65536)) 65536 (wanted-below (markedUpTo 65536)) (entry-id (markedUpTo 65536)) 0 ds nothingGathered rises refl refl (omega arith)
+
+  marks-kept : keep (before datapointId (isWanted (markedUpTo 65536)) (marks .over)) ds ≡ reported (choices roomForEntries ds)
+  marks-kept =
+      keep-same-where shortId (before datapointId (isWanted (markedUpTo 65536)) (marks .over)) (isWanted fitting)
+      (λ d t. ap (λ (b : Bool). b && noneOrAbove (d .id) (marks .over)) (wanted-mark d t) ∙ sym (wanted-marked (marks .over) d t)) ds short
+      ∙ sym indication-reported
+
+  -- the first pass counts what the indication carries, whether or not all fit
+  pub indication-count : marks .count ≡ length (reported (choices roomForEntries ds))
+  indication-count = omega (arith, marks-measure .count, ap (λ (xs : List Datapoint). length xs) marks-kept)
+
+  pub indication-size : marks .size ≡ length (entryBytes (map valueEntry (reported (choices roomForEntries ds))))
+  unfolding entryOf
+  indication-size = omega (arith, marks-measure .size, ap (λ (xs : List Datapoint). length (entryBytes (map valueEntry xs))) marks-kept)
+
+  pub indication-silent : marks .count ≡ 0 → indicationOf (reported (choices roomForEntries ds)) ≡ []
+  indication-silent e = go (reported (choices roomForEntries ds)) (sym indication-count ∙ e)
+    where
+      go : (xs : List Datapoint) → length xs ≡ 0 → indicationOf xs ≡ []
+      go [] n = unfold indicationOf in refl
+      go (x ∷ xs) n = absurd (omega arith)
+
+  -- the first entry begins with the first one's ID
+  pub indication-says : 1 ≤ marks .count
+      → indicationOf (reported (choices roomForEntries ds)) ≡ 0xF0 ∷ 0xC1 ∷ take 2 (datapointsBuilt fitting ds) ++ twoBytes (marks .count) ++ datapointsBuilt fitting ds
+  indication-says h = rw (indication-bytes, indication-count) (go (reported (choices roomForEntries ds)) (omega (arith, indication-count)))
+    where
+      go : (xs : List Datapoint) → 1 ≤ length xs
+          → indicationOf xs ≡ 0xF0 ∷ 0xC1 ∷ take 2 (entryBytes (map valueEntry xs)) ++ twoBytes (length xs) ++ entryBytes (map valueEntry xs)
+      go [] n = absurd (omega arith)
+      go (x ∷ xs) n = unfold indicationOf listing valueEntry flatten in rw (length-map (x ∷ xs) valueEntry)

@@ -6,7 +6,7 @@ use mathlib.Core.Path.{_≡_, refl, sym, _∙_, ap}
 use native.Mathlib.Omega.{arith}
 use lib.Dec.{ltb, eqb}
 use lib.ListN.{length, getD}
-use Rattle.link.specs.Words.{put, isEmpty}
+use Rattle.link.specs.Words.{if_then_else_, put, isEmpty}
 use Rattle.services.specs.Gather.{filterAsked, sizeAsked, requestFinding}
 use Rattle.services.specs.Get.{AnswerEntry, overflow, roomForEntries, listing, getFinding, getting}
 use Rattle.services.specs.Message.{subService, startOf, numberOf, coded, Finding, fine, bad, verdictOf, Served, answerOf, afterOf, served}

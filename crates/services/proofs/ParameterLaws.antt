@@ -8,7 +8,7 @@ use lib.Dec.{leb, ltb, eqb}
 use lib.ListN.{length, take, drop, length-drop}
 use lib.Seq.{take-all, length-take-le}
 use borrow.Author.Tests.{lt-ltb, le-ltb, le-leb, lt-leb, eq-eqb, ne-eqb, ltb-true, ltb-false, eqb-false}
-use Rattle.link.specs.Words.{twoBytes, keep, isEmpty}
+use Rattle.link.specs.Words.{if_then_else_, twoBytes, keep, isEmpty}
 use Rattle.services.specs.Gather.{filterAsked, sizeAsked, requestFinding, parametersPresent}
 use Rattle.services.specs.Get.{AnswerEntry, inRequest, overflow, listing, parameterEntries, getParameterByte}
 use Rattle.services.specs.Message.{subService, startOf, numberOf, coded, verdictOf, Served}
