@@ -14,3 +14,4 @@ pub mod PlaceLaws
 pub mod GetLaws
 pub mod ParameterLaws
 pub mod GatherLaws
+pub mod PassLaws

@@ -2,14 +2,20 @@
 use mathlib.Core.Path.{refl}
 use Prim.Native.Nat.{ℕ, _+_, _*_, _<_, _^_}
 use native.Mathlib.Omega.{arith}
-use mir.Syntax.{w16, w64}
+use lib.Dec.{lit<}
+use mir.Syntax.{w8, w16, w64}
 use denote.Struct.Laws as LL
 use Rattle.services.specs.declared.datapoint.Datapoint.{Datapoint}
 use Rattle.services.specs.declared.item.Item.{Item}
+use Rattle.services.specs.Gather.{nothingGathered}
 use Rattle.services.proofs.datapoint.Datapoint as D
 use Rattle.services.proofs.datapoint.Datapoint.Laws as D′
 use Rattle.services.proofs.item.Item as I
 use Rattle.services.proofs.item.Item.Laws as I′
+use Rattle.services.proofs.gather.Wanted as W
+use Rattle.services.proofs.gather.Wanted.Laws as W′
+use Rattle.services.proofs.gather.Gathered as G
+use Rattle.services.proofs.gather.Gathered.Laws as G′
 use Rattle.walks.proofs.Data.{Data, Good, structD, uintD}
 
 abbrev pub datapointD : Data
@@ -17,6 +23,15 @@ datapointD = structD D.the-type D′.the-laws D′.the-plain (λ x f. refl)
 
 abbrev pub itemD : Data
 itemD = structD I.the-type I′.the-laws I′.the-plain (λ x f. refl)
+
+abbrev pub wantedD : Data
+wantedD = structD W.the-type W′.the-laws W′.the-plain (λ x f. refl)
+
+abbrev pub gatheredD : Data
+gatheredD = structD G.the-type G′.the-laws G′.the-plain (λ x f. refl)
+
+abbrev pub byteD : Data
+byteD = uintD w8
 
 abbrev pub idD : Data
 idD = uintD w16
@@ -29,6 +44,9 @@ datapoint-id-fits d g = LL.owed D.the-type D′.the-laws d _ g .0 .1
 
 pub item-id-fits : (i : Item) → Good itemD i → i .id < 2 ^ 16
 item-id-fits i g = LL.owed I.the-type I′.the-laws i _ g .0 .1
+
+pub nothing-good : Good gatheredD nothingGathered
+nothing-good = LL.owes G.the-type G′.the-laws nothingGathered ((refl, lit< tt), ((refl, lit< tt), ((refl, lit< tt), (refl, tt))))
 
 -- the byte offset of record i fits: a datapoint has 22 bytes, an item 20
 pub datapoint-offset-fits : (n i : ℕ) → n * 22 < 2 ^ 63 → i < n → i * 22 < 2 ^ 64

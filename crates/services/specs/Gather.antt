@@ -14,6 +14,7 @@ use Rattle.services.specs.Datapoint.{withMark, handedOut}
 use Rattle.services.specs.declared.message.Verdict.{Verdict}
 use Rattle.services.specs.Message.{startOf, numberOf, filterOf, Finding, fine, bad}
 use Rattle.services.specs.Get.{AnswerEntry, roomForEntries, descriptionEntry, valueEntry, passes}
+use Rattle.services.specs.Get.{AnswerEntry, roomForEntries, itemEntry, descriptionEntry, valueEntry, passes}
 
 -- ---- which records, and what is said of one and left of it
 -- behind the range, as all records after it are
@@ -108,3 +109,18 @@ parametersPresent count start number =
     if eqb start 0 then 0
     else if ltb number (count - (start - 1)) then number
     else count - (start - 1)
+-- ---- the passes over the two tables
+abbrev pub datapointStep : Wanted → Datapoint → Gathered → Gathered
+datapointStep w d g = measured (isBehind w (d .id)) (isWanted w d) (entryOf w d) g
+
+abbrev pub itemStep : Wanted → Item → Gathered → Gathered
+itemStep w i g = measured (isBehind w (i .id)) (isWithin w (i .id)) (itemEntry i) g
+
+abbrev pub datapointsBuilt : Wanted → List Datapoint → List ℕ
+datapointsBuilt w ds = built (λ (d : Datapoint). isBehind w (d .id)) (isWanted w) (entryOf w) ds
+
+abbrev pub datapointsLeft : Wanted → List Datapoint → List Datapoint
+datapointsLeft w ds = left (λ (d : Datapoint). isBehind w (d .id)) (isWanted w) (leftOf w) ds
+
+abbrev pub itemsBuilt : Wanted → List Item → List ℕ
+itemsBuilt w is = built (λ (i : Item). isBehind w (i .id)) (λ (i : Item). isWithin w (i .id)) itemEntry is

@@ -1,11 +1,15 @@
 // Gathering entries into an answer: the core by value. Two passes over a table: the first measures, and nothing is written before it is known that all
 // entries fit; the second builds.
 ghost use mathlib.Core.Path.{_≡_};
+ghost use mathlib.Core.Bool.{true};
 ghost use Prim.Native.Nat.{_+_, _≤_};
-ghost use lib.ListN.{length};
+ghost use lib.ListN.{length, drop};
 ghost use Rattle.link.specs.Words.{put};
 ghost use Rattle.services.specs.Get.{itemEntry};
-ghost use Rattle.services.specs.Gather.{isBehind, isWithin, isWanted, entryOf, leftOf, ended, withEntry, measured};
+ghost use Rattle.services.specs.Datapoint.{datapointId, datapointOk};
+ghost use Rattle.services.specs.Item.{itemId, itemOk};
+ghost use Rattle.services.specs.Table.{tableOk};
+ghost use Rattle.services.specs.Gather.{isBehind, isWithin, isWanted, entryOf, leftOf, ended, withEntry, measured, walked, nothingGathered, datapointStep, itemStep};
 use crate::datapoint::Datapoint;
 use crate::datapoint::handed_out;
 use crate::datapoint::passes_filter;
@@ -155,6 +159,50 @@ pub fn item_measured(w: Wanted, i: Item, g: Gathered) -> Gathered
     }
     if is_within(w, i.id) {
         return with_entry(g, i.id, 3 + i.size as usize);
+    }
+    g
+}
+
+// The first pass over the datapoints, from a place on.
+pub fn measure_datapoints(table: &[Datapoint], from: usize, w: Wanted) -> Gathered
+    requires { ⌜ (tableOk 1000 datapointId datapointOk (now table) ≡ true) × (from ≤ length (now table)) ⌝ }
+    ensures { λ r. ⌜ r ≡ walked (datapointStep w) nothingGathered (drop from (now (table .entry))) ⌝ }
+{
+    let mut g = Gathered {
+        count: 0,
+        size: 0,
+        over: 0,
+        ended: false,
+    };
+    let mut i = from;
+    while i < table.len() {
+        g = measured(w, table[i], g);
+        if g.ended {
+            return g;
+        }
+        i += 1;
+    }
+    g
+}
+
+// The first pass over the items, from a place on.
+pub fn measure_items(table: &[Item], from: usize, w: Wanted) -> Gathered
+    requires { ⌜ (tableOk 64 itemId itemOk (now table) ≡ true) × (from ≤ length (now table)) ⌝ }
+    ensures { λ r. ⌜ r ≡ walked (itemStep w) nothingGathered (drop from (now (table .entry))) ⌝ }
+{
+    let mut g = Gathered {
+        count: 0,
+        size: 0,
+        over: 0,
+        ended: false,
+    };
+    let mut i = from;
+    while i < table.len() {
+        g = item_measured(w, table[i], g);
+        if g.ended {
+            return g;
+        }
+        i += 1;
     }
     g
 }
