@@ -43,7 +43,7 @@ module _ {A : Type 0} (idOf : A → ℕ) (blank : A) where
   above last (x ∷ xs) t zero l = first-above last x xs t
   above last (x ∷ xs) t (suc j) l = omega (arith, first-above last x xs t, above (idOf x) xs (rest-rises last x xs t) j (le-of-suc-le-suc l))
 
-  rises : (last : ℕ) (xs : List A) → T (rising last (map idOf xs)) → Rising xs
+  pub rises : (last : ℕ) (xs : List A) → T (rising last (map idOf xs)) → Rising xs
   rises last [] t i j u l = absurd (not-suc-le-zero l)
   rises last (x ∷ xs) t i zero u l = absurd (not-suc-le-zero u)
   rises last (x ∷ xs) t zero (suc j) u l = above (idOf x) xs (rest-rises last x xs t) j (le-of-suc-le-suc l)

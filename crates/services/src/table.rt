@@ -1,11 +1,12 @@
 // The tables: runs of records with rising IDs, lent by their owner.
 ghost use mathlib.Core.Path.{_≡_};
 ghost use mathlib.Core.Bool.{true};
-ghost use Prim.Native.Nat.{_<_};
+ghost use mathlib.Core.List.{map};
+ghost use Prim.Native.Nat.{_<_, _≤_};
 ghost use lib.ListN.{length, getD, set};
 ghost use Rattle.services.specs.Datapoint.{datapointId, datapointOk, zeroDatapoint};
 ghost use Rattle.services.specs.Item.{itemId, itemOk, zeroItem};
-ghost use Rattle.services.specs.Table.{tableOk, place};
+ghost use Rattle.services.specs.Table.{tableOk, place, rising};
 use crate::datapoint::Datapoint;
 use crate::datapoint::fits_after;
 use crate::item::Item;
@@ -53,7 +54,7 @@ pub fn items_well_formed(table: &[Item]) -> bool
 
 // How many datapoints have a lower ID: where the datapoint of this ID stands if there is one. The width falls 1023, 511, .. 1, 0 whatever is found, so that the loop is unrolled and each choice is a conditional move.
 pub fn datapoint_place(table: &[Datapoint], id: u16) -> usize
-    requires { ⌜ tableOk 1000 datapointId datapointOk (now table) ≡ true ⌝ }
+    requires { ⌜ (length (now table) ≤ 1000) × (rising 0 (map datapointId (now table)) ≡ true) ⌝ }
     ensures { λ r. ⌜ r ≡ place datapointId id (now (table .entry)) ⌝ }
 {
     let n = table.len();
@@ -74,7 +75,7 @@ pub fn datapoint_place(table: &[Datapoint], id: u16) -> usize
 
 // How many items have a lower ID.
 pub fn item_place(table: &[Item], id: u16) -> usize
-    requires { ⌜ tableOk 64 itemId itemOk (now table) ≡ true ⌝ }
+    requires { ⌜ (length (now table) ≤ 64) × (rising 0 (map itemId (now table)) ≡ true) ⌝ }
     ensures { λ r. ⌜ r ≡ place itemId id (now (table .entry)) ⌝ }
 {
     let n = table.len();
