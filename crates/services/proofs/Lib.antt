@@ -7,6 +7,7 @@ pub mod ValueLaws
 pub mod EntryLaws
 pub mod MaskLaws
 pub mod SetLaws
+pub mod EntriesLaws
 pub mod MeasureLaws
 pub mod Types
 pub mod RisenLaws

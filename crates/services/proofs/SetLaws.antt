@@ -19,6 +19,11 @@ none-left at s l = go (drop at s) refl
     go [] e = sym (eq-eqb at (length s) (omega (arith, length-drop at s, ap length e)))
     go (x ∷ r) e = sym (ne-eqb at (length s) (λ q. omega (arith, length-drop at s, ap length e, q)))
 
+-- an entry has its head
+pub span-head : (h : ℕ) (s : List ℕ) → h ≤ span h s
+unfolding span
+span-head h s = omega arith
+
 module _ (h n at : ℕ) (s : List ℕ) where
   -- there is one more entry
   more : 1 ≤ n → fills h n (drop at s) ≡ fills h (suc (n - 1)) (drop at s)
@@ -29,7 +34,7 @@ module _ (h n at : ℕ) (s : List ℕ) where
   filled-end l = none-left at s l
 
   -- how far the entry from byte `at` on goes
-  span-at : 1 ≤ h → span h (drop at s) ≡ h + getD s (at + h - 1) 0
+  pub span-at : 1 ≤ h → span h (drop at s) ≡ h + getD s (at + h - 1) 0
   unfolding span
   span-at p = ap (λ (b : ℕ). h + b) (getD-drop at s (h - 1) 0 ∙ ap (λ (i : ℕ). getD s i 0) {x = at + (h - 1)} {y = at + h - 1} (omega arith))
 

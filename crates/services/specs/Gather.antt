@@ -109,6 +109,7 @@ parametersPresent count start number =
     if eqb start 0 then 0
     else if ltb number (count - (start - 1)) then number
     else count - (start - 1)
+
 -- ---- the passes over the two tables
 abbrev pub datapointStep : Wanted → Datapoint → Gathered → Gathered
 datapointStep w d g = measured (isBehind w (d .id)) (isWanted w d) (entryOf w d) g

@@ -1,7 +1,26 @@
-// The sets: the entries of a request.
+// The sets: the entries of a request. An entry is given by the request's bytes and the place where it begins.
 ghost use mathlib.Core.Path.{_≡_};
-ghost use Prim.Native.Nat.{_≤_};
-ghost use Rattle.services.specs.Set.{fills};
+ghost use mathlib.Core.List.{[], _∷_};
+ghost use Prim.Native.Nat.{_≤_, _+_};
+ghost use lib.ListN.{length, getD, drop};
+ghost use lib.Dec.{eqb};
+ghost use Rattle.link.specs.Words.{if_then_else_, ofTwoBytes};
+ghost use Rattle.services.specs.Datapoint.{datapointId};
+ghost use Rattle.services.specs.Item.{itemId};
+ghost use Rattle.services.specs.Table.{found};
+ghost use Rattle.services.specs.Set.{fills, span, firstDatapointEntry, firstItemEntry, judgedDatapoint, judgedItem, setDatapoint, setItem};
+use crate::datapoint::Datapoint;
+use crate::datapoint::command;
+use crate::datapoint::entry_code;
+use crate::item::Item;
+use crate::item::item_code;
+use crate::item::with_bytes;
+
+// What is found of a set's entries: the ID and the code of the first bad one, 0 and 0 where there is none.
+pub struct Verdict {
+    pub id: u16,
+    pub code: u8,
+}
 
 // Whether n entries with heads of so many bytes fill the bytes exactly.
 pub fn is_filled(s: &[u8], head: usize, n: u16) -> bool
@@ -22,4 +41,81 @@ pub fn is_filled(s: &[u8], head: usize, n: u16) -> bool
         left -= 1;
     }
     at == s.len()
+}
+
+// The ID of an entry.
+pub fn entry_id(s: &[u8], at: usize) -> u16
+    requires { ⌜ at + 2 ≤ length (now s) ⌝ }
+    ensures { λ r. ⌜ r ≡ ofTwoBytes (getD (drop at (now (s .entry))) 0 0) (getD (drop at (now (s .entry))) 1 0) ⌝ }
+{
+    s[at] as u16 * 256 + s[at + 1] as u16
+}
+
+// Where an entry with a head of so many bytes ends.
+pub fn entry_end(s: &[u8], at: usize, head: usize) -> usize
+    requires { ⌜ (1 ≤ head) × (head ≤ 4) × (at + span head (drop at (now s)) ≤ length (now s)) ⌝ }
+    ensures { λ r. ⌜ r ≡ at + span head (drop at (now (s .entry))) ⌝ }
+{
+    at + head + s[at + head - 1] as usize
+}
+
+// The ID of an entry with its code.
+pub fn verdict_at(s: &[u8], at: usize, code: u8) -> Verdict
+    requires { ⌜ at + 2 ≤ length (now s) ⌝ }
+    ensures { λ r. ⌜ r ≡ record { id = ofTwoBytes (getD (drop at (now (s .entry))) 0 0) (getD (drop at (now (s .entry))) 1 0); code = code } ⌝ }
+{
+    let id = entry_id(s, at);
+    Verdict { id: id, code: code }
+}
+
+// The code of an entry, judged by the datapoint that stands where its ID belongs: that may have another.
+pub fn datapoint_code_at(s: &[u8], at: usize, d: Datapoint) -> u8
+    requires { ⌜ at + span 4 (drop at (now s)) ≤ length (now s) ⌝ }
+    ensures { λ r. ⌜ r ≡ judgedDatapoint (found datapointId (firstDatapointEntry (drop at (now (s .entry))) .id) (d ∷ [])) (firstDatapointEntry (drop at (now (s .entry)))) ⌝ }
+{
+    let id = entry_id(s, at);
+    if d.id == id {
+        let end = entry_end(s, at, 4);
+        return entry_code(d, s[at + 2], &s[at + 4..end]);
+    }
+    7
+}
+
+// The datapoint that stands where an entry's ID belongs, once the entry is applied.
+pub fn datapoint_set_at(s: &[u8], at: usize, d: Datapoint) -> Datapoint
+    requires { ⌜ (at + span 4 (drop at (now s)) ≤ length (now s)) × (length (firstDatapointEntry (drop at (now s)) .value) ≤ 14) ⌝ }
+    ensures { λ r. ⌜ r ≡ (if eqb (d .id) (firstDatapointEntry (drop at (now (s .entry))) .id) then setDatapoint (firstDatapointEntry (drop at (now (s .entry)))) d else d) ⌝ }
+{
+    let id = entry_id(s, at);
+    if d.id == id {
+        let end = entry_end(s, at, 4);
+        return command(d, s[at + 2], &s[at + 4..end]);
+    }
+    d
+}
+
+// The code of an entry, judged by the item that stands where its ID belongs.
+pub fn item_code_at(s: &[u8], at: usize, i: Item) -> u8
+    requires { ⌜ at + span 3 (drop at (now s)) ≤ length (now s) ⌝ }
+    ensures { λ r. ⌜ r ≡ judgedItem (found itemId (firstItemEntry (drop at (now (s .entry))) .id) (i ∷ [])) (firstItemEntry (drop at (now (s .entry)))) ⌝ }
+{
+    let id = entry_id(s, at);
+    if i.id == id {
+        let end = entry_end(s, at, 3);
+        return item_code(i, &s[at + 3..end]);
+    }
+    7
+}
+
+// The item that stands where an entry's ID belongs, once the entry is applied.
+pub fn item_set_at(s: &[u8], at: usize, i: Item) -> Item
+    requires { ⌜ (at + span 3 (drop at (now s)) ≤ length (now s)) × (length (firstItemEntry (drop at (now s)) .value) ≤ 16) ⌝ }
+    ensures { λ r. ⌜ r ≡ (if eqb (i .id) (firstItemEntry (drop at (now (s .entry))) .id) then setItem (firstItemEntry (drop at (now (s .entry)))) i else i) ⌝ }
+{
+    let id = entry_id(s, at);
+    if i.id == id {
+        let end = entry_end(s, at, 3);
+        return with_bytes(i, &s[at + 3..end]);
+    }
+    i
 }
