@@ -5,8 +5,8 @@ use mathlib.Core.Bool.{Bool, true, false, not, _&&_, _||_}
 use mathlib.Core.List.{List, [], _∷_, _++_, map, flatten}
 use native.Mathlib.Omega.{arith}
 use lib.ListN.{length, getD, take, drop, length-append, length-map, take-append-drop}
-use lib.Dec.{T, leb, ltb, eqb, ltb→lt, leb→le}
-use borrow.Author.Tests.{lt-ltb, le-ltb, le-leb, lt-leb, eq-eqb, ne-eqb, ltb-true, ltb-false, leb-true, leb-false, eqb-true, eqb-false}
+use lib.Dec.{T, leb, ltb, eqb, ltb→lt, lt→ltb, leb→le}
+use borrow.Author.Tests.{lt-ltb, le-ltb, le-leb, lt-leb, eq-eqb, ne-eqb, ltb-true, ltb-false, leb-true, eqb-true, eqb-false}
 use Rattle.link.specs.Words.{if_then_else_, twoBytes, isEmpty, every, keep}
 use Rattle.link.proofs.WordLaws
 use Rattle.services.specs.declared.datapoint.Datapoint.{Datapoint}
@@ -16,9 +16,9 @@ use Rattle.services.specs.declared.gather.Gathered.{Gathered}
 use Rattle.services.specs.Datapoint.{datapointId, withMark, handedOut}
 use Rattle.services.specs.Item.{itemId}
 use Rattle.services.specs.Table.{Tables, rising}
-use Rattle.services.specs.Message.{startOf, numberOf, filterOf, Finding, fine, bad}
+use Rattle.services.specs.Message.{startOf, numberOf, filterOf, fine, bad}
 use Rattle.services.specs.Get.{AnswerEntry, overflow, roomForEntries, listing, getFinding, inRequest, itemEntry, descriptionEntry, valueEntry, passes, asked, handingOut}
-use Rattle.services.specs.Indication.{needs, goes, roomAfter, Choice, choices, reported, afterReport, indicationOf, indication}
+use Rattle.services.specs.Indication.{needs, goes, roomAfter, Choice, choices, reported, afterReport, indicationOf}
 use Rattle.services.specs.Gather.{isBehind, isWithin, isWanted, entryOf, leftOf, ended, withEntry, measured, walked, nothingGathered, built, left}
 
 -- ---- rising IDs taken apart
@@ -380,6 +380,18 @@ module _ {A : Type 0} (idOf : A → ℕ) (wanted : A → Bool) (start end : ℕ)
       simp (front-unwanted x h, front-not-behind x h, e)
       (walked-skipped entry xs ys g e (WordLaws.right (inFront idOf start x) (every (inFront idOf start) xs) t))
 
+-- the place that a search has found: IDs rise, so where the record in front of it is in front of the range, all there are
+pub front-of-place : {A : Type 0} (idOf : A → ℕ) (start last k : ℕ) (xs : List A) → T (rising last (map idOf xs)) → k < length xs → getD (map idOf xs) k 0 < start → T (every (inFront idOf start) (take (suc k) xs))
+front-of-place idOf start last k [] t h e = absurd (omega arith)
+front-of-place idOf start last zero (x ∷ xs) t h e = WordLaws.both (inFront idOf start x) true (lt→ltb (idOf x) start e) tt
+front-of-place idOf start last (suc k) (x ∷ []) t h e = absurd (omega arith)
+front-of-place idOf start last (suc k) (x ∷ y ∷ ys) t h e =
+    let s : T (rising (idOf x) (map idOf (y ∷ ys))) = rising-tail last (idOf x) (map idOf (y ∷ ys)) t in
+    let r : T (every (inFront idOf start) (take (suc k) (y ∷ ys))) = front-of-place idOf start (idOf x) k (y ∷ ys) s (omega arith) e in
+    let p : idOf x < idOf y = rising-head (idOf x) (idOf y) (map idOf ys) s in
+    let q : idOf y < start = ltb→lt (idOf y) start (WordLaws.left (inFront idOf start y) (every (inFront idOf start) (take k ys)) r) in
+    WordLaws.both (inFront idOf start x) (every (inFront idOf start) (take (suc k) (y ∷ ys))) (lt→ltb (idOf x) start (omega arith)) r
+
 -- ---- what both passes say of the entries to return
 pub record Passed (es : List AnswerEntry) (g : Gathered) (bytes : List ℕ) : Type 0 where
   pub empty : isEmpty es ≡ (eqb (g .count) 0 && eqb (g .over) 0)
@@ -533,6 +545,26 @@ module _ (w : Wanted) where
   unfolding isBehind
   items-pass range k is rises front =
       gathered-passes itemId (λ (i : Item). isWithin w (i .id)) itemEntry (w .start) (w .end) range (λ i. within-from (i .id)) (λ i. within-below (i .id)) (λ i. unfold itemEntry in refl) k is rises front
+
+-- each entry has bytes, so the numbers stay small
+entry-bytes : (w : Wanted) (d : Datapoint) → 1 ≤ length (entryOf w d .bytes)
+unfolding entryOf valueEntry descriptionEntry
+entry-bytes w d = go (w .values) refl
+  where
+    go : (u : Bool) → w .values ≡ u → 1 ≤ length (entryOf w d .bytes)
+    go true e = simp e (omega arith)
+    go false e = simp e (omega arith)
+
+item-bytes : (i : Item) → 1 ≤ length (itemEntry i .bytes)
+unfolding itemEntry
+item-bytes i = omega arith
+
+pub datapoints-small : (w : Wanted) (ds : List Datapoint) → (datapointsGathered w ds .count ≤ datapointsGathered w ds .size) × (datapointsGathered w ds .size ≤ roomForEntries)
+datapoints-small w ds = walked-keeps (λ (d : Datapoint). isBehind w (d .id)) (isWanted w) (entryOf w) (entry-bytes w) ds nothingGathered (omega arith) (omega arith)
+
+pub items-small : (w : Wanted) (is : List Item) → (itemsGathered w is .count ≤ itemsGathered w is .size) × (itemsGathered w is .size ≤ roomForEntries)
+items-small w is =
+    walked-keeps (λ (i : Item). isBehind w (i .id)) (λ (i : Item). isWithin w (i .id)) itemEntry item-bytes is nothingGathered (omega arith) (omega arith)
 
 and-true : (a : Bool) → (a && true) ≡ a
 and-true true = refl
