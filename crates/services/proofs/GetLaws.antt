@@ -68,6 +68,25 @@ module _ (values : Bool) (m : List ℕ) (es : List AnswerEntry) where
     unfolding getting served answerOf afterOf afterwards
     all-there z n o = ap (λ (f : Finding). served f m (listing (subService m + 0x80) (startOf m) es) t t′) {y = fine} (asked-first ∙ ap afterwards (fine-where z) ∙ simp (n, o))
 
+    -- the same, by what is empty
+    pub empty-refused : verdictOf (requestFinding values m) .code ≡ 0 → isEmpty es ≡ true → gets values es t t′ m ≡ record { says = coded m (startOf m) 2; after = t }
+    unfolding getting served answerOf afterOf afterwards
+    empty-refused z n =
+        ap (λ (f : Finding). served f m (listing (subService m + 0x80) (startOf m) es) t t′) {y = bad (startOf m) 2} (asked-first ∙ ap afterwards (fine-where z) ∙ simp n)
+
+    pub over-refused : verdictOf (requestFinding values m) .code ≡ 0 → isEmpty es ≡ false → isEmpty (overflow roomForEntries es) ≡ false
+        → gets values es t t′ m ≡ record { says = coded m (getD (overflow roomForEntries es) 0 0) 3; after = t }
+    unfolding getting served answerOf afterOf afterwards
+    over-refused z n o =
+        ap (λ (f : Finding). served f m (listing (subService m + 0x80) (startOf m) es) t t′) {y = bad (getD (overflow roomForEntries es) 0 0) 3}
+        (asked-first ∙ ap afterwards (fine-where z) ∙ simp (n, o))
+
+    pub fits-answered : verdictOf (requestFinding values m) .code ≡ 0 → isEmpty es ≡ false → isEmpty (overflow roomForEntries es) ≡ true
+        → gets values es t t′ m ≡ record { says = listing (subService m + 0x80) (startOf m) es; after = t′ }
+    unfolding getting served answerOf afterOf afterwards
+    fits-answered z n o =
+        ap (λ (f : Finding). served f m (listing (subService m + 0x80) (startOf m) es) t t′) {y = fine} (asked-first ∙ ap afterwards (fine-where z) ∙ simp (n, o))
+
 -- an answer of seven bytes was put where the answer is due
 pub coded-says : {o : List ℕ} {n : ℕ} (l : List ℕ) (at : ℕ) (m : List ℕ) (i c : ℕ) {says : List ℕ} → (o ≡ put l at (coded m i c)) × (n ≡ at + 7)
     → says ≡ coded m i c → (o ≡ put l at says) × (n ≡ at + length says)

@@ -16,3 +16,4 @@ pub mod GetLaws
 pub mod ParameterLaws
 pub mod GatherLaws
 pub mod PassLaws
+pub mod AnsweredLaws

@@ -12,9 +12,10 @@ use Rattle.services.specs.declared.gather.Wanted.{Wanted}
 use Rattle.services.specs.declared.gather.Gathered.{Gathered}
 use Rattle.services.specs.Datapoint.{withMark, handedOut}
 use Rattle.services.specs.declared.message.Verdict.{Verdict}
-use Rattle.services.specs.Message.{startOf, numberOf, filterOf, Finding, fine, bad}
-use Rattle.services.specs.Get.{AnswerEntry, roomForEntries, descriptionEntry, valueEntry, passes}
-use Rattle.services.specs.Get.{AnswerEntry, roomForEntries, itemEntry, descriptionEntry, valueEntry, passes}
+use Rattle.services.specs.Table.{Tables}
+use Rattle.services.specs.Message.{startOf, numberOf, filterOf, Finding, fine, bad, Served}
+use Rattle.services.specs.Get.{AnswerEntry, roomForEntries, itemEntry, descriptionEntry, getDatapointDescription, valueEntry, passes, getDatapointValue}
+use Rattle.services.specs.Get.{AnswerEntry, roomForEntries, itemEntry, descriptionEntry, getDatapointDescription, valueEntry, passes, getDatapointValue}
 
 -- ---- which records, and what is said of one and left of it
 -- behind the range, as all records after it are
@@ -125,3 +126,15 @@ datapointsLeft w ds = left (λ (d : Datapoint). isBehind w (d .id)) (isWanted w)
 
 abbrev pub itemsBuilt : Wanted → List Item → List ℕ
 itemsBuilt w is = built (λ (i : Item). isBehind w (i .id)) (λ (i : Item). isWithin w (i .id)) itemEntry is
+
+-- the two gets of datapoints
+unfoldable pub getDatapoints : Bool → Tables → List ℕ → Served
+getDatapoints values t m = if values then getDatapointValue t m else getDatapointDescription t m
+
+-- ---- an indication around the two passes
+abbrev pub markedWanted : Wanted
+markedWanted = record { start = 0; end = 0x1_0000; filter = 0; values = true; marked = true }
+
+-- the first that does not fit, and all after it, wait
+unfoldable pub fittingOf : Gathered → Wanted
+fittingOf g = record { start = 0; end = if eqb (g .over) 0 then 0x1_0000 else g .over; filter = 0; values = true; marked = true }
