@@ -1,17 +1,20 @@
 -- The two passes, record by record, as the loops go. One set of laws for items and datapoints.
 use mathlib.Core.Path.{_≡_, refl, sym, _∙_, ap, subst}
-use Prim.Native.Nat.{ℕ, _+_, _<_, _≤_}
+use Prim.Native.Nat.{ℕ, zero, suc, _+_, _<_, _≤_}
 use native.Mathlib.Omega.{arith}
 use native.Mathlib.Numerals.{add-one}
+use native.Mathlib.Nat.{not-suc-le-zero, le-of-suc-le-suc}
 use mathlib.Core.Bool.{Bool, true, false, not}
-use mathlib.Core.List.{List, _∷_}
-use lib.ListN.{length, getD, take, drop, drop-of-length-le, take-append-drop}
+use mathlib.Core.List.{List, [], _∷_, _++_}
+use lib.ListN.{length, getD, set, take, drop, drop-of-length-le, length-append, take-append-drop}
 use lib.Dec.{T, leb, ltb, leb→le}
 use borrow.Author.Tests.{ltb-false}
-use Rattle.link.specs.Words.{if_then_else_, every}
+use Rattle.link.specs.Words.{if_then_else_, every, put}
 use Rattle.link.proofs.WordLaws.{left as left-part, right as right-part, parts3, padded-decided, every-suffix}
+use Rattle.link.proofs.ByteLaws.{length-put, put-put}
+use Rattle.link.proofs.EventLaws.{put-none}
 use Rattle.services.specs.Datapoint.{datapointOk}
-use Rattle.services.specs.Gather.{entryOf, withEntry, ended, measured, walked}
+use Rattle.services.specs.Gather.{entryOf, withEntry, ended, measured, walked, built, left}
 use Rattle.services.specs.Get.{AnswerEntry, roomForEntries, itemEntry, descriptionEntry, valueEntry}
 use Rattle.services.specs.Item.{itemOk}
 use Rattle.services.specs.Table.{rising, tableOk}
@@ -32,6 +35,31 @@ is-passed false a b t = refl
 
 drop-next : {A : Type 0} (xs : List A) (i : ℕ) (blank : A) → i < length xs → drop i xs ≡ getD xs i blank ∷ drop (i + 1) xs
 drop-next xs i blank l = drop-step xs i blank l ∙ ap (λ (k : ℕ). getD xs i blank ∷ drop k xs) (sym (add-one i))
+
+-- a record put in place i: it is the last of the first i + 1, and those behind it stay
+take-suc : {A : Type 0} (xs : List A) (i : ℕ) (blank : A) (r : List A) → i < length xs → take (suc i) xs ++ r ≡ take i xs ++ (getD xs i blank ∷ r)
+take-suc [] i blank r l = absurd (not-suc-le-zero l)
+take-suc (x ∷ xs) zero blank r l = refl
+take-suc (x ∷ xs) (suc i) blank r l = ap (λ (s : List _). x ∷ s) (take-suc xs i blank r (le-of-suc-le-suc l))
+
+set-suc : {A : Type 0} (xs : List A) (i : ℕ) (y : A) (r : List A) → i < length xs → take (suc i) (set xs i y) ++ r ≡ take i xs ++ (y ∷ r)
+set-suc [] i y r l = absurd (not-suc-le-zero l)
+set-suc (x ∷ xs) zero y r l = refl
+set-suc (x ∷ xs) (suc i) y r l = ap (λ (s : List _). x ∷ s) (set-suc xs i y r (le-of-suc-le-suc l))
+
+drop-suc : {A : Type 0} (xs : List A) (i : ℕ) (y : A) → drop (suc i) (set xs i y) ≡ drop (suc i) xs
+drop-suc [] i y = refl
+drop-suc (x ∷ xs) zero y = refl
+drop-suc (x ∷ xs) (suc i) y = drop-suc xs i y
+
+take-next : {A : Type 0} (xs : List A) (i : ℕ) (blank : A) (r : List A) → i < length xs → take (i + 1) xs ++ r ≡ take i xs ++ (getD xs i blank ∷ r)
+take-next xs i blank r l = ap (λ (k : ℕ). take k xs ++ r) (add-one i) ∙ take-suc xs i blank r l
+
+take-set : {A : Type 0} (xs : List A) (i : ℕ) (y : A) (r : List A) → i < length xs → take (i + 1) (set xs i y) ++ r ≡ take i xs ++ (y ∷ r)
+take-set xs i y r l = ap (λ (k : ℕ). take k (set xs i y) ++ r) (add-one i) ∙ set-suc xs i y r l
+
+pub drop-set : {A : Type 0} (xs : List A) (i : ℕ) (y : A) → drop (i + 1) (set xs i y) ≡ drop (i + 1) xs
+drop-set xs i y = ap (λ (k : ℕ). drop k (set xs i y)) (add-one i) ∙ drop-suc xs i y ∙ ap (λ (k : ℕ). drop k xs) (sym (add-one i))
 
 -- ---- each record of a table, and of what is left of it, passes its test
 module _ {A : Type 0} (ok : A → Bool) where
@@ -99,3 +127,79 @@ module _ {A : Type 0} (step : A → Gathered → Gathered) (blank : A) (xs : Lis
   pub pass-done : length xs ≤ i → walked step g (drop i xs) ≡ r → g ≡ r
   unfolding walked
   pass-done l e = sym (ap (walked step g) (drop-of-length-le xs l)) ∙ e
+
+-- ---- the second pass: what record i adds to the bytes, and what is left of the table
+module _ {A : Type 0} (behind wanted : A → Bool) (blank : A) (xs : List A) (i : ℕ) where
+  abbrev x : A
+  x = getD xs i blank
+
+  module _ (entry : A → AnswerEntry) where
+    pub built-end : length xs ≤ i → built behind wanted entry (drop i xs) ≡ []
+    unfolding built
+    built-end l = ap (built behind wanted entry) (drop-of-length-le xs l)
+
+    pub built-behind : i < length xs → T (behind x) → built behind wanted entry (drop i xs) ≡ []
+    unfolding built
+    built-behind l b = ap (built behind wanted entry) (drop-next xs i blank l) ∙ is-taken (behind x) _ _ b
+
+    pub built-wanted : i < length xs → T (not (behind x)) → T (wanted x) → built behind wanted entry (drop i xs) ≡ entry x .bytes ++ built behind wanted entry (drop (i + 1) xs)
+    unfolding built
+    built-wanted l b t = ap (built behind wanted entry) (drop-next xs i blank l) ∙ is-passed (behind x) _ _ b ∙ is-taken (wanted x) _ _ t
+
+    pub built-other : i < length xs → T (not (behind x)) → T (not (wanted x)) → built behind wanted entry (drop i xs) ≡ built behind wanted entry (drop (i + 1) xs)
+    unfolding built
+    built-other l b t = ap (built behind wanted entry) (drop-next xs i blank l) ∙ is-passed (behind x) _ _ b ∙ is-passed (wanted x) _ _ t
+
+  module _ (change : A → A) where
+    -- the records before i as they are now, and behind them what is left of the others
+    abbrev pub all-left : List A
+    all-left = take i xs ++ left behind wanted change (drop i xs)
+
+    pub left-end : length xs ≤ i → xs ≡ all-left
+    unfolding left
+    left-end l = sym (ap (λ (r : List A). take i xs ++ left behind wanted change r) (drop-of-length-le xs l) ∙ ap (λ (r : List A). take i xs ++ r) (sym (drop-of-length-le xs l)) ∙ take-append-drop i xs)
+
+    pub left-behind : i < length xs → T (behind x) → xs ≡ all-left
+    unfolding left
+    left-behind l b =
+        sym (ap (λ (r : List A). take i xs ++ r) (ap (left behind wanted change) (drop-next xs i blank l) ∙ is-taken (behind x) _ _ b ∙ sym (drop-next xs i blank l)) ∙ take-append-drop i xs)
+
+    pub left-wanted : i < length xs → T (not (behind x)) → T (wanted x) → take (i + 1) (set xs i (change x)) ++ left behind wanted change (drop (i + 1) (set xs i (change x))) ≡ all-left
+    unfolding left
+    left-wanted l b t =
+        ap (λ (r : List A). take (i + 1) (set xs i (change x)) ++ left behind wanted change r) (drop-set xs i (change x)) ∙ take-set xs i (change x) _ l
+        ∙ sym (ap (λ (r : List A). take i xs ++ r) (ap (left behind wanted change) (drop-next xs i blank l) ∙ is-passed (behind x) _ _ b ∙ is-taken (wanted x) _ _ t))
+
+    pub left-other : i < length xs → T (not (behind x)) → T (not (wanted x)) → take (i + 1) xs ++ left behind wanted change (drop (i + 1) xs) ≡ all-left
+    unfolding left
+    left-other l b t =
+        take-next xs i blank _ l
+        ∙ sym (ap (λ (r : List A). take i xs ++ r) (ap (left behind wanted change) (drop-next xs i blank l) ∙ is-passed (behind x) _ _ b ∙ is-passed (wanted x) _ _ t))
+
+-- ---- entries put one behind the other: what is still to be put, the bytes `rest` at `end`, comes to what is to be put in all
+pub record Putting (out : List ℕ) (at : ℕ) (all bs : List ℕ) (end : ℕ) (rest : List ℕ) : Type 0 where
+  pub long : length bs ≡ length out
+  pub fits : end + length rest ≤ length bs
+  pub ends : end + length rest ≡ at + length all
+  pub same : put bs end rest ≡ put out at all
+
+module _ (out : List ℕ) (at : ℕ) (all : List ℕ) where
+  pub putting-all : at + length all ≤ length out → Putting out at all out at all
+  putting-all l = record { long = refl; fits = l; ends = refl; same = refl }
+
+  module _ (bs : List ℕ) (end : ℕ) where
+    pub putting-none : Putting out at all bs end [] → (bs ≡ put out at all) × (end ≡ at + length all)
+    putting-none p = (put-none bs end ∙ p .same, omega (arith, p .ends))
+
+    module _ (vs rest : List ℕ) where
+      pub entry-fits : Putting out at all bs end (vs ++ rest) → end + length vs ≤ length bs
+      entry-fits p = omega (arith, p .fits, length-append vs rest)
+
+      pub putting-next : Putting out at all bs end (vs ++ rest) → Putting out at all (put bs end vs) (end + length vs) rest
+      putting-next p =
+          record {
+            long = length-put bs end vs (entry-fits p) ∙ p .long;
+            fits = omega (arith, p .fits, length-append vs rest, length-put bs end vs (entry-fits p));
+            ends = omega (arith, p .ends, length-append vs rest);
+            same = put-put bs end (end + length vs) vs rest refl (omega (arith, p .fits, length-append vs rest)) ∙ p .same;
+          }

@@ -1,15 +1,16 @@
-// Gathering entries into an answer: the core by value. Two passes over a table: the first measures, and nothing is written before it is known that all
-// entries fit; the second builds.
+// Gathering entries into an answer: the core by value, and the two passes over a lent table. The first measures, and nothing is written before it is known
+// that all entries fit; the second builds.
 ghost use mathlib.Core.Path.{_≡_};
 ghost use mathlib.Core.Bool.{true};
+ghost use mathlib.Core.List.{_++_};
 ghost use Prim.Native.Nat.{_+_, _≤_};
-ghost use lib.ListN.{length, drop};
+ghost use lib.ListN.{length, take, drop};
 ghost use Rattle.link.specs.Words.{put};
 ghost use Rattle.services.specs.Get.{itemEntry};
 ghost use Rattle.services.specs.Datapoint.{datapointId, datapointOk};
 ghost use Rattle.services.specs.Item.{itemId, itemOk};
 ghost use Rattle.services.specs.Table.{tableOk};
-ghost use Rattle.services.specs.Gather.{isBehind, isWithin, isWanted, entryOf, leftOf, ended, withEntry, measured, walked, nothingGathered, datapointStep, itemStep};
+ghost use Rattle.services.specs.Gather.{isBehind, isWithin, isWanted, entryOf, leftOf, ended, withEntry, measured, walked, nothingGathered, datapointStep, itemStep, datapointsBuilt, datapointsLeft, itemsBuilt};
 use crate::datapoint::Datapoint;
 use crate::datapoint::handed_out;
 use crate::datapoint::passes_filter;
@@ -18,6 +19,7 @@ use crate::datapoint::put_value;
 use crate::datapoint::reported;
 use crate::datapoint::size_of;
 use crate::item::Item;
+use crate::item::put_item;
 
 // What is to be gathered.
 pub struct Wanted {
@@ -205,4 +207,52 @@ pub fn measure_items(table: &[Item], from: usize, w: Wanted) -> Gathered
         i += 1;
     }
     g
+}
+
+// The second pass over the datapoints, from a place on: the entries go into the buffer at `at`, and each record is left as it is after its entry was built.
+// Answers where the entries end.
+pub fn build_datapoints(
+    table: &mut [Datapoint],
+    from: usize,
+    w: Wanted,
+    out: &mut [u8],
+    at: usize,
+) -> usize
+    requires { ⌜ (tableOk 1000 datapointId datapointOk (now table) ≡ true) × (from ≤ length (now table)) × (at + length (datapointsBuilt w (drop from (now table))) ≤ length (now out)) ⌝ }
+    ensures { λ r. ⌜ (now (table .exit) ≡ take from (now (table .entry)) ++ datapointsLeft w (drop from (now (table .entry)))) × (now (out .exit) ≡ put (now (out .entry)) at (datapointsBuilt w (drop from (now (table .entry))))) × (r ≡ at + length (datapointsBuilt w (drop from (now (table .entry))))) ⌝ }
+{
+    let mut i = from;
+    let mut end = at;
+    while i < table.len() {
+        let d = table[i];
+        if is_behind(w, d.id) {
+            return end;
+        }
+        if is_wanted(w, d) {
+            end = put_entry(out, end, w, d);
+            table[i] = left_of(w, d);
+        }
+        i += 1;
+    }
+    end
+}
+
+// The second pass over the items, which stay as they are.
+pub fn build_items(table: &[Item], from: usize, w: Wanted, out: &mut [u8], at: usize) -> usize
+    requires { ⌜ (tableOk 64 itemId itemOk (now table) ≡ true) × (from ≤ length (now table)) × (at + length (itemsBuilt w (drop from (now table))) ≤ length (now out)) ⌝ }
+    ensures { λ r. ⌜ (now (out .exit) ≡ put (now (out .entry)) at (itemsBuilt w (drop from (now (table .entry))))) × (r ≡ at + length (itemsBuilt w (drop from (now (table .entry))))) ⌝ }
+{
+    let mut i = from;
+    let mut end = at;
+    while i < table.len() {
+        let item = table[i];
+        if is_behind(w, item.id) {
+            return end;
+        }
+        if is_within(w, item.id) {
+            end = put_item(out, end, item);
+        }
+        i += 1;
+    }
+    end
 }
