@@ -1,19 +1,21 @@
 -- The entries of a set: one, read from byte `at` on, and judged or applied by the record that stands where its ID belongs.
-use Prim.Native.Nat.{ℕ, _+_, _-_, _*_, _≤_}
-use mathlib.Core.Bool.{Bool}
-use mathlib.Core.List.{List, [], _∷_}
-use mathlib.Core.Path.{_≡_, sym, _∙_, ap, subst}
+use Prim.Native.Nat.{ℕ, _+_, _-_, _*_, _≤_, _<_}
+use mathlib.Core.Bool.{Bool, true, false, _&&_}
+use mathlib.Core.List.{List, [], _∷_, map}
+use mathlib.Core.Path.{_≡_, refl, sym, _∙_, ap, subst}
 use native.Mathlib.Nat.{add-zero}
 use native.Mathlib.Omega.{arith}
 use lib.Dec.{eqb}
-use lib.ListN.{length, getD, take, drop}
-use lib.Seq.{getD-drop, drop-drop}
-use borrow.Author.Tests.{eq-eqb, ne-eqb}
+use lib.ListN.{length, getD, take, drop, set}
+use lib.Seq.{getD-drop, drop-drop, set-getD}
+use borrow.Author.Tests.{eq-eqb, ne-eqb, lt-ltb, le-ltb}
 use Rattle.link.specs.Words.{if_then_else_, ofTwoBytes}
-use Rattle.services.specs.Datapoint.{datapointId, commanded}
-use Rattle.services.specs.Item.{itemId, withBytes}
-use Rattle.services.specs.Set.{span, firstDatapointEntry, firstItemEntry, datapointCode, itemCode, judgedDatapoint, judgedItem, setDatapoint, setItem}
-use Rattle.services.specs.Table.{found}
+use Rattle.services.specs.Datapoint.{datapointId, zeroDatapoint, commanded}
+use Rattle.services.specs.Item.{itemId, zeroItem, withBytes}
+use Rattle.services.specs.Set.{SetEntry, span, firstDatapointEntry, firstItemEntry, datapointCode, itemCode, judgedDatapoint, judgedItem, setDatapoint, setItem}
+use Rattle.services.specs.Table.{found, changed, place, rising}
+use Rattle.link.proofs.WordLaws.{true-T}
+use Rattle.services.proofs.PlaceLaws.{found-at, changed-at}
 use Rattle.services.specs.declared.datapoint.Datapoint.{Datapoint}
 use Rattle.services.specs.declared.item.Item.{Item}
 
@@ -91,3 +93,46 @@ module _ (at : ℕ) (s : List ℕ) where
     pub item-set-other : (i .id ≡ idBytes → ⊥) → i ≡ (if eqb (i .id) (firstItemEntry (drop at s) .id) then setItem (firstItemEntry (drop at s)) i else i)
     unfolding firstItemEntry
     item-set-other q = ap (λ (y : Bool). if y then setItem (firstItemEntry (drop at s)) i else i) (sym (ne-eqb (i .id) idBytes q))
+
+-- ---- one search: what is found and changed goes by the record at the place
+module _ {A : Type 0} (idOf : A → ℕ) (blank : A) (n : ℕ) (xs : List A) (t : rising 0 (map idOf xs) ≡ true) where
+  abbrev here : A
+  here = getD xs (place idOf n xs) blank
+
+  pub found-here : place idOf n xs < length xs → found idOf n xs ≡ found idOf n (here ∷ [])
+  unfolding found
+  found-here l =
+      found-at idOf blank n 0 xs (true-T t) ∙ ap (λ (y : Bool). if y && eqb (idOf here) n then here ∷ [] else []) (lt-ltb (place idOf n xs) (length xs) l)
+
+  pub found-nowhere : length xs ≤ place idOf n xs → found idOf n xs ≡ []
+  found-nowhere l =
+      found-at idOf blank n 0 xs (true-T t) ∙ ap (λ (y : Bool). if y && eqb (idOf here) n then here ∷ [] else []) (le-ltb (place idOf n xs) (length xs) l)
+
+  pub changed-here : (f : A → A) → place idOf n xs < length xs → changed idOf n f xs ≡ set xs (place idOf n xs) (if eqb (idOf here) n then f here else here)
+  changed-here f l =
+      changed-at idOf blank n f 0 xs (true-T t) ∙ ap (λ (y : Bool). if y && eqb (idOf here) n then set xs (place idOf n xs) (f here) else xs) (lt-ltb (place idOf n xs) (length xs) l)
+      ∙ go (eqb (idOf here) n)
+    where
+      go : (y : Bool) → (if y then set xs (place idOf n xs) (f here) else xs) ≡ set xs (place idOf n xs) (if y then f here else here)
+      go true = refl
+      go false = sym (set-getD xs (place idOf n xs) blank)
+
+  pub changed-nowhere : (f : A → A) → length xs ≤ place idOf n xs → changed idOf n f xs ≡ xs
+  changed-nowhere f l =
+      changed-at idOf blank n f 0 xs (true-T t) ∙ ap (λ (y : Bool). if y && eqb (idOf here) n then set xs (place idOf n xs) (f here) else xs) (le-ltb (place idOf n xs) (length xs) l)
+
+pub none-datapoint : (e : SetEntry) (ys : List Datapoint) → rising 0 (map datapointId ys) ≡ true → length ys ≤ place datapointId (e .id) ys → 7 ≡ judgedDatapoint (found datapointId (e .id) ys) e
+unfolding judgedDatapoint
+none-datapoint e ys t l = ap (λ (fs : List Datapoint). judgedDatapoint fs e) (sym (found-nowhere datapointId zeroDatapoint (e .id) ys t l))
+
+pub none-item : (e : SetEntry) (ys : List Item) → rising 0 (map itemId ys) ≡ true → length ys ≤ place itemId (e .id) ys → 7 ≡ judgedItem (found itemId (e .id) ys) e
+unfolding judgedItem
+none-item e ys t l = ap (λ (fs : List Item). judgedItem fs e) (sym (found-nowhere itemId zeroItem (e .id) ys t l))
+
+pub datapoint-entry-id : (at : ℕ) (s : List ℕ) → idBytes at s ≡ firstDatapointEntry (drop at s) .id
+unfolding firstDatapointEntry
+datapoint-entry-id at s = refl
+
+pub item-entry-id : (at : ℕ) (s : List ℕ) → idBytes at s ≡ firstItemEntry (drop at s) .id
+unfolding firstItemEntry
+item-entry-id at s = refl

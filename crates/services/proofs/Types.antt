@@ -16,6 +16,8 @@ use Rattle.services.proofs.gather.Wanted as W
 use Rattle.services.proofs.gather.Wanted.Laws as W′
 use Rattle.services.proofs.gather.Gathered as G
 use Rattle.services.proofs.gather.Gathered.Laws as G′
+use Rattle.services.proofs.set.Verdict as Judged
+use Rattle.services.proofs.set.Verdict.Laws as Judged′
 use Rattle.walks.proofs.Data.{Data, Good, structD, uintD}
 
 abbrev pub datapointD : Data
@@ -29,6 +31,8 @@ wantedD = structD W.the-type W′.the-laws W′.the-plain (λ x f. refl)
 
 abbrev pub gatheredD : Data
 gatheredD = structD G.the-type G′.the-laws G′.the-plain (λ x f. refl)
+abbrev pub verdictD : Data
+verdictD = structD Judged.the-type Judged′.the-laws Judged′.the-plain (λ x f. refl)
 
 abbrev pub byteD : Data
 byteD = uintD w8

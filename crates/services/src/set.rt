@@ -1,13 +1,14 @@
 // The sets: the entries of a request. An entry is given by the request's bytes and the place where it begins.
 ghost use mathlib.Core.Path.{_≡_};
-ghost use mathlib.Core.List.{[], _∷_};
+ghost use mathlib.Core.Bool.{true};
+ghost use mathlib.Core.List.{[], _∷_, map};
 ghost use Prim.Native.Nat.{_≤_, _+_};
 ghost use lib.ListN.{length, getD, drop};
 ghost use lib.Dec.{eqb};
 ghost use Rattle.link.specs.Words.{if_then_else_, ofTwoBytes};
 ghost use Rattle.services.specs.Datapoint.{datapointId};
 ghost use Rattle.services.specs.Item.{itemId};
-ghost use Rattle.services.specs.Table.{found};
+ghost use Rattle.services.specs.Table.{found, changed, rising};
 ghost use Rattle.services.specs.Set.{fills, span, firstDatapointEntry, firstItemEntry, judgedDatapoint, judgedItem, setDatapoint, setItem};
 use crate::datapoint::Datapoint;
 use crate::datapoint::command;
@@ -15,6 +16,12 @@ use crate::datapoint::entry_code;
 use crate::item::Item;
 use crate::item::item_code;
 use crate::item::with_bytes;
+use crate::table::datapoint_at;
+use crate::table::datapoint_place;
+use crate::table::item_at;
+use crate::table::item_place;
+use crate::table::put_datapoint_at;
+use crate::table::put_item_at;
 
 // What is found of a set's entries: the ID and the code of the first bad one, 0 and 0 where there is none.
 pub struct Verdict {
@@ -118,4 +125,64 @@ pub fn item_set_at(s: &[u8], at: usize, i: Item) -> Item
         return with_bytes(i, &s[at + 3..end]);
     }
     i
+}
+
+// The code of an entry, judged by the table.
+pub fn judge_datapoint(table: &[Datapoint], s: &[u8], at: usize) -> u8
+    requires { ⌜ (length (now table) ≤ 1000) × (rising 0 (map datapointId (now table)) ≡ true) × (at + span 4 (drop at (now s)) ≤ length (now s)) ⌝ }
+    ensures { λ r. ⌜ r ≡ judgedDatapoint (found datapointId (firstDatapointEntry (drop at (now (s .entry))) .id) (now (table .entry))) (firstDatapointEntry (drop at (now (s .entry)))) ⌝ }
+{
+    let id = entry_id(s, at);
+    let place = datapoint_place(table, id);
+    if place >= table.len() {
+        return 7;
+    }
+    let d = datapoint_at(table, place);
+    let code = datapoint_code_at(s, at, d);
+    code
+}
+
+// An entry applied: the datapoint of its ID is changed, if there is one.
+pub fn apply_datapoint(table: &mut [Datapoint], s: &[u8], at: usize)
+    requires { ⌜ (length (now table) ≤ 1000) × (rising 0 (map datapointId (now table)) ≡ true) × (at + span 4 (drop at (now s)) ≤ length (now s)) × (length (firstDatapointEntry (drop at (now s)) .value) ≤ 14) ⌝ }
+    ensures { λ _. ⌜ now (table .exit) ≡ changed datapointId (firstDatapointEntry (drop at (now (s .entry))) .id) (setDatapoint (firstDatapointEntry (drop at (now (s .entry))))) (now (table .entry)) ⌝ }
+{
+    let id = entry_id(s, at);
+    let place = datapoint_place(table, id);
+    if place >= table.len() {
+        return;
+    }
+    let d = datapoint_at(table, place);
+    let c = datapoint_set_at(s, at, d);
+    put_datapoint_at(table, place, c);
+}
+
+// The code of an entry, judged by the table of items.
+pub fn judge_item(table: &[Item], s: &[u8], at: usize) -> u8
+    requires { ⌜ (length (now table) ≤ 64) × (rising 0 (map itemId (now table)) ≡ true) × (at + span 3 (drop at (now s)) ≤ length (now s)) ⌝ }
+    ensures { λ r. ⌜ r ≡ judgedItem (found itemId (firstItemEntry (drop at (now (s .entry))) .id) (now (table .entry))) (firstItemEntry (drop at (now (s .entry)))) ⌝ }
+{
+    let id = entry_id(s, at);
+    let place = item_place(table, id);
+    if place >= table.len() {
+        return 7;
+    }
+    let i = item_at(table, place);
+    let code = item_code_at(s, at, i);
+    code
+}
+
+// An entry of an item applied: the item of its ID is changed, if there is one.
+pub fn apply_item(table: &mut [Item], s: &[u8], at: usize)
+    requires { ⌜ (length (now table) ≤ 64) × (rising 0 (map itemId (now table)) ≡ true) × (at + span 3 (drop at (now s)) ≤ length (now s)) × (length (firstItemEntry (drop at (now s)) .value) ≤ 16) ⌝ }
+    ensures { λ _. ⌜ now (table .exit) ≡ changed itemId (firstItemEntry (drop at (now (s .entry))) .id) (setItem (firstItemEntry (drop at (now (s .entry))))) (now (table .entry)) ⌝ }
+{
+    let id = entry_id(s, at);
+    let place = item_place(table, id);
+    if place >= table.len() {
+        return;
+    }
+    let i = item_at(table, place);
+    let c = item_set_at(s, at, i);
+    put_item_at(table, place, c);
 }
