@@ -2,3 +2,4 @@ pub mod Opened
 pub mod ComputedExamples
 pub mod GeneralExamples
 pub mod Examples
+pub mod SessionLaws
