@@ -3,3 +3,4 @@ pub mod ComputedExamples
 pub mod GeneralExamples
 pub mod Examples
 pub mod SessionLaws
+pub mod CallRuns
