@@ -4,3 +4,4 @@ pub mod GeneralExamples
 pub mod Examples
 pub mod SessionLaws
 pub mod CallRuns
+pub mod Demand3

@@ -1,0 +1,274 @@
+-- Demand 3, proved over the calls: a request that is delivered more than once, sound or damaged, is carried out once.
+use Prim.Native.Nat.{ℕ, _≤_}
+use mathlib.Core.Path.{_≡_, refl, sym, _∙_, ap, subst}
+use mathlib.Core.Logic.{_⊎_, inl, inr}
+use mathlib.Core.Bool.{Bool, true, false, not, _||_}
+use mathlib.Core.List.{List, [], _∷_, _++_}
+use lib.ListN.{length, getD, take}
+use lib.Dec.{T, ltb}
+use Rattle.link.specs.Words.{if_then_else_, isEmpty, areBytes}
+use Rattle.link.specs.declared.record.Link.{Link}
+use Rattle.link.specs.Frame.{acknowledgement, longestMessage, dataFrame}
+use Rattle.link.specs.Record.{Line, lineOf, linkOf, hostControl, memoryOk, lineOk, inRange}
+use Rattle.link.specs.Rules.{acknowledged, message, atStart, cleared, holding, expecting, onIdleMark, onMessage}
+use Rattle.link.specs.Delivery.{Delivery, sound, changed, lost, isSound, arrives, Possible, Run, delivered}
+use Rattle.link.proofs.WordLaws.{right, true-T}
+use Rattle.link.proofs.EventLaws.{range-stays}
+use Rattle.link.proofs.HearingLaws.{quiet, acknowledges, repeat-heard}
+use Rattle.link.proofs.DeliveryLaws.{damaged-either, host-control}
+use Rattle.services.specs.Table.{Tables, wellFormed}
+use Rattle.services.specs.Service.{carriedOut}
+use Rattle.server.specs.Call.{Done, saying}
+use Rattle.server.proofs.CallLaws.{InOrder}
+use Rattle.demands.specs.Run.{Ran, run}
+use Rattle.demands.specs.Session.{inTurn, thenIdle, delivery, Session, session, Start, Request, requestFrame, EachPossible, someSound, draws, Once, Demand3}
+use Rattle.demands.proofs.SessionLaws.{noMessage, thenMarked, delivery-leaves, request-carried}
+use Rattle.demands.proofs.CallRuns.{ranOf, idle-run, idle-lasts}
+
+-- ---- words
+not-not : (b : Bool) → not (not b) ≡ b
+not-not true = refl
+not-not false = refl
+
+-- taking a message back leaves the expected bit
+message-expected : (s : List ℕ) (l : Line) → onMessage s l .line .expected ≡ l .expected
+message-expected s l = go (isEmpty s || ltb longestMessage (length s) || not (isEmpty (l .outstanding))) refl
+  where
+    go : (u : Bool) → (isEmpty s || ltb longestMessage (length s) || not (isEmpty (l .outstanding))) ≡ u → onMessage s l .line .expected ≡ l .expected
+    go true e = unfold onMessage in simp e
+    go false e = unfold onMessage holding in simp e
+
+-- an acknowledgement, or an E5 that is ignored, leaves the expected bit and the receiver at a frame start
+acknowledges-expected : (l : Line) → acknowledges l .line .expected ≡ l .expected
+acknowledges-expected l = go (isEmpty (l .outstanding)) refl
+  where
+    go : (u : Bool) → isEmpty (l .outstanding) ≡ u → acknowledges l .line .expected ≡ l .expected
+    go true e = simp e
+    go false e = unfold cleared in simp e
+
+acknowledges-no-message : (l : Line) → T (noMessage (acknowledges l .ups))
+acknowledges-no-message l = go (isEmpty (l .outstanding)) refl
+  where
+    go : (u : Bool) → isEmpty (l .outstanding) ≡ u → T (noMessage (acknowledges l .ups))
+    go true e = unfold noMessage in simp e tt
+    go false e = unfold noMessage in simp e tt
+
+-- behind an idle mark the receiver is at a frame start
+marked-start : (l : Line) → onIdleMark l .line ≡ atStart (onIdleMark l .line)
+unfolding onIdleMark atStart
+marked-start l = refl
+
+delivered-start : (bs : List ℕ) (l : Line) → delivered bs l .line ≡ atStart (delivered bs l .line)
+unfolding delivered
+delivered-start bs l = marked-start _
+
+-- where the session stands between two deliveries
+record Ready (t : Tables) (l : Line) : Type 0 where
+  tables : T (wellFormed t)
+  line : T (lineOk l)
+  start : l ≡ atStart l
+
+abbrev ran : List ℕ → Tables → Line → Ran
+ran s t l = record { sent = s; tables = t; link = linkOf l }
+
+module _ (out : List ℕ) (room : 262 ≤ length out) (m : List ℕ) (request : Request m) (bit : Bool) where
+  abbrev f : List ℕ
+  f = dataFrame (hostControl bit) m
+
+  -- ---- one delivery
+  -- with no message handed up: what the link sends, and the line it leaves
+  unheeded : (d : Delivery) (t : Tables) (l : Line) → Ready t l → (r : Run) → delivered (arrives f d) l ≡ r → T (noMessage (r .ups)) → delivery out f d t (linkOf l) ≡ ran (r .sent) t (r .line)
+  unfolding delivery
+  unheeded d t l ready r e n =
+      idle-run out room (arrives f d) t l (ready .tables) (ready .line)
+      ∙ ap ranOf (delivery-leaves (arrives f d) t l (rw e n))
+      ∙ ap (λ (x : Run). ran (x .sent) t (x .line)) e
+
+  unheeded-ready : (d : Delivery) (t : Tables) (l : Line) → Ready t l → (r : Run) → delivered (arrives f d) l ≡ r → T (noMessage (r .ups)) → Ready t (r .line)
+  unheeded-ready d t l ready r e n =
+      let lasts = idle-lasts (arrives f d) t l (ready .tables) (ready .line) in
+      let same = delivery-leaves (arrives f d) t l (rw e n) ∙ ap (λ (x : Run). record { sent = x .sent; tables = t; line = x .line }) e in
+      record {
+        tables = ready .tables;
+        line = subst (λ (x : Done). T (lineOk (x .line))) same (lasts .line);
+        start = subst (λ (x : Run). x .line ≡ atStart (x .line)) e (delivered-start (arrives f d) l);
+      }
+
+  -- "a damaged one draws none": at most it acts as the acknowledgement of what is outstanding
+  record Leaves (d : Delivery) (t : Tables) (l : Line) : Type 0 where
+    line : Line
+    drawn : delivery out f d t (linkOf l) ≡ ran [] t line
+    ready : Ready t line
+    expected : line .expected ≡ l .expected
+    free : isEmpty (l .outstanding) ≡ true → line ≡ l
+
+  damaged : (d : Delivery) (t : Tables) (l : Line) → Ready t l → isSound d ≡ false → Possible f d → Leaves d t l
+  damaged d t l ready u p = go (damaged-either (hostControl bit) (host-control bit) m d l (request .short) (request .bytes) (request .first) u p (ready .start))
+    where
+      go : (delivered (arrives f d) l ≡ quiet l) ⊎ (delivered (arrives f d) l ≡ acknowledges l) → Leaves d t l
+      go (inl e) =
+          record {
+            line = l;
+            drawn = unheeded d t l ready (quiet l) e (unfold noMessage in tt);
+            ready = ready;
+            expected = refl;
+            free = λ o. refl;
+          }
+      go (inr e) =
+          record {
+            line = acknowledges l .line;
+            drawn = unheeded d t l ready (acknowledges l) e (acknowledges-no-message l);
+            ready = unheeded-ready d t l ready (acknowledges l) e (acknowledges-no-message l);
+            expected = acknowledges-expected l;
+            free = λ o. simp o;
+          }
+
+  -- "Other bit: E5, message dropped."
+  repeated : (t : Tables) (l : Line) → Ready t l → l .expected ≡ not bit → delivery out f sound t (linkOf l) ≡ ran acknowledgement t l
+  repeated t l ready x = unheeded sound t l ready (record { sent = acknowledgement; ups = []; line = l }) heard (unfold noMessage in tt)
+    where
+      other : hostControl bit ≡ hostControl (not (l .expected))
+      other = ap hostControl (sym (not-not bit) ∙ ap not (sym x))
+
+      heard : delivered (arrives f sound) l ≡ record { sent = acknowledgement; ups = []; line = l }
+      heard = unfold delivered arrives onIdleMark in rw (repeat-heard (hostControl bit) m l (request .short) (ready .start) other) (ap (λ (k : Line). record { sent = acknowledgement; ups = []; line = k }) (sym (ready .start)))
+
+  -- the first sound one
+  module _ (t : Tables) (l : Line) (ready : Ready t l) (x : l .expected ≡ bit) (o : isEmpty (l .outstanding) ≡ true) where
+    done : Done
+    done = thenMarked (saying acknowledgement (carriedOut t m) (expecting (not (l .expected)) l))
+
+    carries : inTurn (thenIdle f) t l ≡ done
+    unfolding done
+    carries = request-carried (hostControl bit) m t l (request .short) (ready .start) (ap hostControl (sym x)) o
+
+    first-drawn : delivery out f sound t (linkOf l) ≡ ranOf done
+    unfolding delivery arrives
+    first-drawn = idle-run out room f t l (ready .tables) (ready .line) ∙ ap ranOf carries
+
+    first-ready : Ready (done .tables) (done .line)
+    first-ready =
+        let lasts = idle-lasts f t l (ready .tables) (ready .line) in
+        record {
+          tables = subst (λ (d : Done). T (wellFormed (d .tables))) carries (lasts .tables);
+          line = subst (λ (d : Done). T (lineOk (d .line))) carries (lasts .line);
+          start = unfold done in marked-start _;
+        }
+
+    first-expected : done .line .expected ≡ not bit
+    unfolding done saying onIdleMark atStart
+    first-expected = message-expected (carriedOut t m .says) _ ∙ (unfold expecting in ap not x)
+
+    answerFrame : List ℕ
+    answerFrame = onMessage (carriedOut t m .says) (expecting (not (l .expected)) l) .sent
+
+    first-sent : done .sent ≡ acknowledgement ++ answerFrame
+    unfolding done saying answerFrame
+    first-sent = refl
+
+  -- ---- the session
+  -- what it shows from here on: the answer's frame that is still to be sent, and the tables that are left
+  record Went (answer : List ℕ) (t : Tables) (ds : List Delivery) (s : Session) : Type 0 where
+    drawn : s .sent ≡ draws answer ds
+    tables : s .tables ≡ t
+    expected : s .link .expected ≡ not bit
+
+  step : (d : Delivery) (ds : List Delivery) (answer later : List ℕ) (left t t′ : Tables) (k : Link) (l′ : Line) (s : List ℕ) → delivery out f d t k ≡ ran s t′ l′
+      → draws answer (d ∷ ds) ≡ s ∷ draws later ds → Went later left ds (session out f ds t′ (linkOf l′)) → Went answer left (d ∷ ds) (session out f (d ∷ ds) t k)
+  unfolding session
+  step d ds answer later left t t′ k l′ s e c went =
+      record {
+        drawn =
+            ap {B = List (List ℕ)} (λ (r : Ran). r .sent ∷ session out f ds (r .tables) (r .link) .sent) e ∙ ap {B = List (List ℕ)} (λ (r : List (List ℕ)). s ∷ r) (went .drawn) ∙ sym c;
+        tables = ap (λ (r : Ran). session out f ds (r .tables) (r .link) .tables) e ∙ went .tables;
+        expected = ap (λ (r : Ran). session out f ds (r .tables) (r .link) .link .expected) e ∙ went .expected;
+      }
+
+  damaged-draws : (d : Delivery) (ds : List Delivery) (answer : List ℕ) → isSound d ≡ false → draws answer (d ∷ ds) ≡ [] ∷ draws answer ds
+  unfolding draws
+  damaged-draws d ds answer u = simp u
+
+  sound-draws : (ds : List Delivery) (answer : List ℕ) → draws answer (sound ∷ ds) ≡ (acknowledgement ++ answer) ∷ draws [] ds
+  unfolding draws isSound
+  sound-draws ds answer = refl
+
+  -- after the first sound delivery
+  repeats : (ds : List Delivery) (t : Tables) (l : Line) → Ready t l → l .expected ≡ not bit → EachPossible f ds → Went [] t ds (session out f ds t (linkOf l))
+  repeats [] t l ready x p = record { drawn = unfold session draws in refl; tables = unfold session in refl; expected = unfold session linkOf in x }
+  repeats (sound ∷ ds) t l ready x p = step sound ds [] [] t t t _ l acknowledgement (repeated t l ready x) (sound-draws ds []) (repeats ds t l ready x (p .1))
+  repeats (changed i b ∷ ds) t l ready x p =
+      let left = damaged (changed i b) t l ready (unfold isSound in refl) (p .0) in
+      step (changed i b) ds [] [] t t t _ (left .line) [] (left .drawn) (damaged-draws (changed i b) ds [] (unfold isSound in refl))
+      (repeats ds t (left .line) (left .ready) (left .expected ∙ x) (p .1))
+  repeats (lost i ∷ ds) t l ready x p =
+      let left = damaged (lost i) t l ready (unfold isSound in refl) (p .0) in
+      step (lost i) ds [] [] t t t _ (left .line) [] (left .drawn) (damaged-draws (lost i) ds [] (unfold isSound in refl))
+      (repeats ds t (left .line) (left .ready) (left .expected ∙ x) (p .1))
+
+  -- up to it: with nothing outstanding a damaged delivery leaves all as it was
+  module _ (t : Tables) (l : Line) (ready : Ready t l) (x : l .expected ≡ bit) (o : isEmpty (l .outstanding) ≡ true) where
+    abbrev answer : List ℕ
+    answer = answerFrame t l ready x o
+
+    abbrev after : Done
+    after = done t l ready x o
+
+    unharmed : (d : Delivery) (ds : List Delivery) → isSound d ≡ false → Possible f d → Went answer (after .tables) ds (session out f ds t (linkOf l))
+        → Went answer (after .tables) (d ∷ ds) (session out f (d ∷ ds) t (linkOf l))
+    unharmed d ds u p went =
+        let left = damaged d t l ready u p in
+        step d ds answer answer (after .tables) t t _ l [] (left .drawn ∙ ap (ran [] t) (left .free o)) (damaged-draws d ds answer u) went
+
+    goes : (ds : List Delivery) → EachPossible f ds → T (someSound ds) → Went answer (after .tables) ds (session out f ds t (linkOf l))
+    unfolding someSound isSound
+    goes [] p s = absurd s
+    goes (sound ∷ ds) p s =
+        step sound ds answer [] (after .tables) t (after .tables) _ (after .line) (acknowledgement ++ answer)
+        (first-drawn t l ready x o ∙ ap (λ (r : List ℕ). ran r (after .tables) (after .line)) (first-sent t l ready x o)) (sound-draws ds answer)
+        (repeats ds (after .tables) (after .line) (first-ready t l ready x o) (first-expected t l ready x o) (p .1))
+    goes (changed i b ∷ ds) p s = unharmed (changed i b) ds refl (p .0) (goes ds (p .1) s)
+    goes (lost i ∷ ds) p s = unharmed (lost i) ds refl (p .0) (goes ds (p .1) s)
+
+    once : (ds : List Delivery) → EachPossible f ds → T (someSound ds) → Once out f ds t (linkOf l)
+    once ds p s =
+        let went = goes ds p s in
+        let first = first-drawn t l ready x o in
+        record {
+          answer = answer;
+          alone = ap (λ (r : Ran). r .sent) first ∙ first-sent t l ready x o;
+          drawn = went .drawn;
+          tables = went .tables ∙ sym (ap (λ (r : Ran). r .tables) first);
+          expected = went .expected ∙ sym (ap (λ (r : Ran). r .link .expected) first ∙ (unfold linkOf in first-expected t l ready x o));
+        }
+
+-- ---- the start, in the link record
+module _ (out : List ℕ) (t : Tables) (k : Link) (start : Start out t k) where
+  at-start : lineOf k ≡ atStart (lineOf k)
+  unfolding lineOf atStart
+  at-start =
+      λ i. record {
+        gathered = ap (λ (n : ℕ). take n (k .receiver)) (start .received) i;
+        dropping = start .dropping i;
+        expected = k .expected;
+        send = k .send;
+        outstanding = take (k .held) (k .outstanding);
+        resends = k .resends;
+      }
+
+  in-order : T (lineOk (lineOf k))
+  in-order = unfold inRange in right (memoryOk k) (lineOk (lineOf k)) (start .link)
+
+  nothing-held : isEmpty (lineOf k .outstanding) ≡ true
+  unfolding lineOf
+  nothing-held = rw (start .held)
+
+  same-bit : lineOf k .expected ≡ k .expected
+  unfolding lineOf
+  same-bit = refl
+
+pub demand-3 : Demand3
+unfolding requestFrame
+demand-3 out m ds t k start request p s =
+    subst (Once out (dataFrame (hostControl (k .expected)) m) ds t) (sym (range-stays k (start .link)))
+    (once out (start .output) m request (k .expected) t (lineOf k) (record { tables = start .tables; line = in-order out t k start; start = at-start out t k start })
+    (same-bit out t k start) (nothing-held out t k start) ds p s)
