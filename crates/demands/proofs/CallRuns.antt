@@ -1,5 +1,5 @@
 -- Calls of host bytes and an idle mark: from tables, link record and room that no call refuses none is refused, and they do what the events do in turn.
-use Prim.Native.Nat.{ℕ, _≤_}
+use Prim.Native.Nat.{ℕ, suc, _≤_}
 use mathlib.Core.Path.{_≡_, refl, sym, _∙_, ap}
 use mathlib.Core.Bool.{Bool, true, false}
 use mathlib.Core.List.{List, [], _∷_, _++_, map, append-nil}
@@ -17,37 +17,49 @@ use Rattle.server.specs.Event.{busOk}
 use Rattle.server.specs.Call.{Done, quiet, happens, refusal, Called, accepted, call}
 use Rattle.server.proofs.CallLaws.{refusal-0, InOrder, happens-lasts}
 use Rattle.demands.specs.Run.{Ran, sentOf, before, run}
-use Rattle.demands.specs.Session.{following, inTurn, thenIdle}
+use Rattle.demands.specs.Session.{following, inTurn, Lent, calls, thenIdle}
 
 -- what was done, in the link record
 abbrev pub ranOf : Done → Ran
 ranOf d = record { sent = d .sent; tables = d .tables; link = linkOf (d .line) }
 
-module _ (out : List ℕ) (room : 262 ≤ length out) where
-  -- one call that is not refused
-  module _ (e : Event) (t : Tables) (l : Line) (w : T (wellFormed t)) (o : T (lineOk l)) (free : T (busOk e [] t)) where
-    call-is : call e [] t (linkOf l) out ≡ accepted out (happens e [] t l)
-    unfolding call
-    call-is =
-        rw (refusal-0 e [] t (linkOf l) (length out) (T-true (wellFormed t) w) (T-true (inRange (linkOf l)) (line-in-range l o)) room (T-true (busOk e [] t) free), lineOf-linkOf l)
+-- one call that is not refused
+module _ (e : Event) (v : List ℕ) (t : Tables) (l : Line) (out : List ℕ) (w : T (wellFormed t)) (o : T (lineOk l)) (room : 262 ≤ length out) (free : T (busOk e v t)) where
+  call-is : call e v t (linkOf l) out ≡ accepted out (happens e v t l)
+  unfolding call
+  call-is =
+      rw (refusal-0 e v t (linkOf l) (length out) (T-true (wellFormed t) w) (T-true (inRange (linkOf l)) (line-in-range l o)) room (T-true (busOk e v t) free), lineOf-linkOf l)
 
-    one-runs : (es : List Event) (d : Done) → happens e [] t l ≡ d → run out (e ∷ es) t (linkOf l) ≡ before (d .sent) (run out es (d .tables) (linkOf (d .line)))
-    unfolding run sentOf accepted
-    one-runs es d h = rw (call-is, h, take-append-seam (d .sent) (drop (length (d .sent)) out))
+one-call : (e : Event) (lent : ℕ → Lent) (t : Tables) (l : Line) → T (wellFormed t) → T (lineOk l) → 262 ≤ length (lent 0 .output) → T (busOk e (lent 0 .value) t)
+    → (es : List Event) (d : Done) → happens e (lent 0 .value) t l ≡ d
+    → calls lent (e ∷ es) t (linkOf l) ≡ before (d .sent) (calls (λ n. lent (suc n)) es (d .tables) (linkOf (d .line)))
+unfolding calls sentOf accepted
+one-call e lent t l w o room free es d h =
+    rw (call-is e (lent 0 .value) t l (lent 0 .output) w o room free, h, take-append-seam (d .sent) (drop (length (d .sent)) (lent 0 .output)))
 
-  bytes-run : (bs : List ℕ) (t : Tables) (l : Line) → T (wellFormed t) → T (lineOk l) → run out (map HostByte bs ++ IdleMark ∷ []) t (linkOf l) ≡ ranOf (inTurn (map HostByte bs ++ IdleMark ∷ []) t l)
-  unfolding inTurn
-  bytes-run [] t l w o = one-runs IdleMark t l w o (unfold busOk in tt) [] _ refl ∙ (unfold run before following in refl)
-  bytes-run (b ∷ bs) t l w o =
-      let d = happens (HostByte b) [] t l in
-      let lasts = happens-lasts (HostByte b) [] t l w o (unfold busOk in tt) in
-      one-runs (HostByte b) t l w o (unfold busOk in tt) (map HostByte bs ++ IdleMark ∷ []) d refl
-      ∙ ap (before (d .sent)) (bytes-run bs (d .tables) (d .line) (lasts .tables) (lasts .line))
-      ∙ (unfold before following in refl)
+bytes-run : (bs : List ℕ) (lent : ℕ → Lent) (t : Tables) (l : Line) → ((n : ℕ) → 262 ≤ length (lent n .output)) → T (wellFormed t) → T (lineOk l)
+    → calls lent (map HostByte bs ++ IdleMark ∷ []) t (linkOf l) ≡ ranOf (inTurn (map HostByte bs ++ IdleMark ∷ []) t l)
+unfolding inTurn
+bytes-run [] lent t l room w o = one-call IdleMark lent t l w o (room 0) (unfold busOk in tt) [] (happens IdleMark [] t l) (unfold happens in refl) ∙ (unfold calls before following in refl)
+bytes-run (b ∷ bs) lent t l room w o =
+    let d = happens (HostByte b) [] t l in
+    let lasts = happens-lasts (HostByte b) [] t l w o (unfold busOk in tt) in
+    one-call (HostByte b) lent t l w o (room 0) (unfold busOk in tt) (map HostByte bs ++ IdleMark ∷ []) d (unfold happens in refl)
+    ∙ ap (before (d .sent)) (bytes-run bs (λ n. lent (suc n)) (d .tables) (d .line) (λ n. room (suc n)) (lasts .tables) (lasts .line))
+    ∙ (unfold before following in refl)
 
-  pub idle-run : (bs : List ℕ) (t : Tables) (l : Line) → T (wellFormed t) → T (lineOk l) → run out (thenIdle bs) t (linkOf l) ≡ ranOf (inTurn (thenIdle bs) t l)
-  unfolding thenIdle
-  idle-run bs t l w o = bytes-run bs t l w o
+pub idle-run : (bs : List ℕ) (lent : ℕ → Lent) (t : Tables) (l : Line) → ((n : ℕ) → 262 ≤ length (lent n .output)) → T (wellFormed t) → T (lineOk l)
+    → calls lent (thenIdle bs) t (linkOf l) ≡ ranOf (inTurn (thenIdle bs) t l)
+unfolding thenIdle
+idle-run bs lent t l room w o = bytes-run bs lent t l room w o
+
+-- the examples lend every call the same
+pub same-lent : (out : List ℕ) (es : List Event) (t : Tables) (k : Link) → run out es t k ≡ calls (λ n. record { value = []; output = out }) es t k
+unfolding run calls
+same-lent out [] t k = refl
+same-lent out (e ∷ es) t k =
+    let c = call e [] t k out in
+    ap (before (sentOf (c .reply) (c .output))) (same-lent out es (c .tables) (c .link))
 
 -- what they leave is in order
 bytes-last : (bs : List ℕ) (t : Tables) (l : Line) → T (wellFormed t) → T (lineOk l) → InOrder (inTurn (map HostByte bs ++ IdleMark ∷ []) t l)

@@ -1,15 +1,16 @@
 -- Demand 3, proved over the calls: a request that is delivered more than once, sound or damaged, is carried out once.
-use Prim.Native.Nat.{ℕ, _≤_}
+use Prim.Native.Nat.{ℕ, suc, _≤_}
 use mathlib.Core.Path.{_≡_, refl, sym, _∙_, ap, subst}
 use mathlib.Core.Logic.{_⊎_, inl, inr}
 use mathlib.Core.Bool.{Bool, true, false, not, _||_}
 use mathlib.Core.List.{List, [], _∷_, _++_}
 use lib.ListN.{length, getD, take}
 use lib.Dec.{T, ltb}
+use borrow.Author.Tests.{le-ltb}
 use Rattle.link.specs.Words.{if_then_else_, isEmpty, areBytes}
 use Rattle.link.specs.declared.record.Link.{Link}
 use Rattle.link.specs.Frame.{acknowledgement, longestMessage, dataFrame}
-use Rattle.link.specs.Record.{Line, lineOf, linkOf, hostControl, memoryOk, lineOk, inRange}
+use Rattle.link.specs.Record.{Line, lineOf, linkOf, hostControl, serverControl, memoryOk, lineOk, inRange}
 use Rattle.link.specs.Rules.{acknowledged, message, atStart, cleared, holding, expecting, onIdleMark, onMessage}
 use Rattle.link.specs.Delivery.{Delivery, sound, changed, lost, isSound, arrives, Possible, Run, delivered}
 use Rattle.link.proofs.WordLaws.{right, true-T}
@@ -18,10 +19,11 @@ use Rattle.link.proofs.HearingLaws.{quiet, acknowledges, repeat-heard}
 use Rattle.link.proofs.DeliveryLaws.{damaged-either, host-control}
 use Rattle.services.specs.Table.{Tables, wellFormed}
 use Rattle.services.specs.Service.{carriedOut}
+use Rattle.services.proofs.AnswerLaws.{Sized, none, some, answer-sized}
 use Rattle.server.specs.Call.{Done, saying}
 use Rattle.server.proofs.CallLaws.{InOrder}
-use Rattle.demands.specs.Run.{Ran, run}
-use Rattle.demands.specs.Session.{inTurn, thenIdle, delivery, Session, session, Start, Request, requestFrame, EachPossible, someSound, draws, Once, Demand3}
+use Rattle.demands.specs.Run.{Ran}
+use Rattle.demands.specs.Session.{inTurn, Lent, thenIdle, delivery, Session, session, Start, Request, requestFrame, EachPossible, someSound, answerFrame, draws, Once, Demand3}
 use Rattle.demands.proofs.SessionLaws.{noMessage, thenMarked, delivery-leaves, request-carried}
 use Rattle.demands.proofs.CallRuns.{ranOf, idle-run, idle-lasts}
 
@@ -37,6 +39,13 @@ message-expected s l = go (isEmpty s || ltb longestMessage (length s) || not (is
     go : (u : Bool) → (isEmpty s || ltb longestMessage (length s) || not (isEmpty (l .outstanding))) ≡ u → onMessage s l .line .expected ≡ l .expected
     go true e = unfold onMessage in simp e
     go false e = unfold onMessage holding in simp e
+
+-- an answer is framed and sent, where there is one
+message-sent : (s : List ℕ) (l : Line) → Sized s → isEmpty (l .outstanding) ≡ true → onMessage s l .sent ≡ (if isEmpty s then [] else dataFrame (serverControl (l .send)) s)
+unfolding onMessage
+message-sent s l (none e) o = rw e
+message-sent [] l (some a b) o = refl
+message-sent (x ∷ s) l (some a b) o = simp (le-ltb 254 (length (x ∷ s)) b, o)
 
 -- an acknowledgement, or an E5 that is ignored, leaves the expected bit and the receiver at a frame start
 acknowledges-expected : (l : Line) → acknowledges l .line .expected ≡ l .expected
@@ -71,33 +80,36 @@ record Ready (t : Tables) (l : Line) : Type 0 where
 abbrev ran : List ℕ → Tables → Line → Ran
 ran s t l = record { sent = s; tables = t; link = linkOf l }
 
-module _ (out : List ℕ) (room : 262 ≤ length out) (m : List ℕ) (request : Request m) (bit : Bool) where
+-- calls with output room that none refuses
+abbrev Roomy : (ℕ → Lent) → Type 0
+Roomy lent = (n : ℕ) → 262 ≤ length (lent n .output)
+
+module _ (m : List ℕ) (request : Request m) (bit : Bool) where
   abbrev f : List ℕ
   f = dataFrame (hostControl bit) m
 
   -- ---- one delivery
   -- with no message handed up: what the link sends, and the line it leaves
-  unheeded : (d : Delivery) (t : Tables) (l : Line) → Ready t l → (r : Run) → delivered (arrives f d) l ≡ r → T (noMessage (r .ups)) → delivery out f d t (linkOf l) ≡ ran (r .sent) t (r .line)
-  unfolding delivery
-  unheeded d t l ready r e n =
-      idle-run out room (arrives f d) t l (ready .tables) (ready .line)
-      ∙ ap ranOf (delivery-leaves (arrives f d) t l (rw e n))
-      ∙ ap (λ (x : Run). ran (x .sent) t (x .line)) e
+  module _ (d : Delivery) (t : Tables) (l : Line) (ready : Ready t l) (r : Run) (e : delivered (arrives f d) l ≡ r) (n : T (noMessage (r .ups))) where
+    unheeded : (lent : ℕ → Lent) → Roomy lent → delivery lent f d t (linkOf l) ≡ ran (r .sent) t (r .line)
+    unfolding delivery
+    unheeded lent room =
+        idle-run (arrives f d) lent t l room (ready .tables) (ready .line) ∙ ap ranOf (delivery-leaves (arrives f d) t l (rw e n)) ∙ ap (λ (x : Run). ran (x .sent) t (x .line)) e
 
-  unheeded-ready : (d : Delivery) (t : Tables) (l : Line) → Ready t l → (r : Run) → delivered (arrives f d) l ≡ r → T (noMessage (r .ups)) → Ready t (r .line)
-  unheeded-ready d t l ready r e n =
-      let lasts = idle-lasts (arrives f d) t l (ready .tables) (ready .line) in
-      let same = delivery-leaves (arrives f d) t l (rw e n) ∙ ap (λ (x : Run). record { sent = x .sent; tables = t; line = x .line }) e in
-      record {
-        tables = ready .tables;
-        line = subst (λ (x : Done). T (lineOk (x .line))) same (lasts .line);
-        start = subst (λ (x : Run). x .line ≡ atStart (x .line)) e (delivered-start (arrives f d) l);
-      }
+    unheeded-ready : Ready t (r .line)
+    unheeded-ready =
+        let lasts = idle-lasts (arrives f d) t l (ready .tables) (ready .line) in
+        let same = delivery-leaves (arrives f d) t l (rw e n) ∙ ap (λ (x : Run). record { sent = x .sent; tables = t; line = x .line }) e in
+        record {
+          tables = ready .tables;
+          line = subst (λ (x : Done). T (lineOk (x .line))) same (lasts .line);
+          start = subst (λ (x : Run). x .line ≡ atStart (x .line)) e (delivered-start (arrives f d) l);
+        }
 
   -- "a damaged one draws none": at most it acts as the acknowledgement of what is outstanding
   record Leaves (d : Delivery) (t : Tables) (l : Line) : Type 0 where
     line : Line
-    drawn : delivery out f d t (linkOf l) ≡ ran [] t line
+    drawn : (lent : ℕ → Lent) → Roomy lent → delivery lent f d t (linkOf l) ≡ ran [] t line
     ready : Ready t line
     expected : line .expected ≡ l .expected
     free : isEmpty (l .outstanding) ≡ true → line ≡ l
@@ -124,7 +136,7 @@ module _ (out : List ℕ) (room : 262 ≤ length out) (m : List ℕ) (request : 
           }
 
   -- "Other bit: E5, message dropped."
-  repeated : (t : Tables) (l : Line) → Ready t l → l .expected ≡ not bit → delivery out f sound t (linkOf l) ≡ ran acknowledgement t l
+  repeated : (t : Tables) (l : Line) → Ready t l → l .expected ≡ not bit → (lent : ℕ → Lent) → Roomy lent → delivery lent f sound t (linkOf l) ≡ ran acknowledgement t l
   repeated t l ready x = unheeded sound t l ready (record { sent = acknowledgement; ups = []; line = l }) heard (unfold noMessage in tt)
     where
       other : hostControl bit ≡ hostControl (not (l .expected))
@@ -142,9 +154,9 @@ module _ (out : List ℕ) (room : 262 ≤ length out) (m : List ℕ) (request : 
     unfolding done
     carries = request-carried (hostControl bit) m t l (request .short) (ready .start) (ap hostControl (sym x)) o
 
-    first-drawn : delivery out f sound t (linkOf l) ≡ ranOf done
+    first-drawn : (lent : ℕ → Lent) → Roomy lent → delivery lent f sound t (linkOf l) ≡ ranOf done
     unfolding delivery arrives
-    first-drawn = idle-run out room f t l (ready .tables) (ready .line) ∙ ap ranOf carries
+    first-drawn lent room = idle-run f lent t l room (ready .tables) (ready .line) ∙ ap ranOf carries
 
     first-ready : Ready (done .tables) (done .line)
     first-ready =
@@ -159,12 +171,13 @@ module _ (out : List ℕ) (room : 262 ≤ length out) (m : List ℕ) (request : 
     unfolding done saying onIdleMark atStart
     first-expected = message-expected (carriedOut t m .says) _ ∙ (unfold expecting in ap not x)
 
-    answerFrame : List ℕ
-    answerFrame = onMessage (carriedOut t m .says) (expecting (not (l .expected)) l) .sent
+    first-sent : done .sent ≡ acknowledgement ++ answerFrame t (linkOf l) m
+    unfolding done saying answerFrame linkOf expecting
+    first-sent = ap (λ (s : List ℕ). acknowledgement ++ s) (message-sent (carriedOut t m .says) (expecting (not (l .expected)) l) (answer-sized t m) o)
 
-    first-sent : done .sent ≡ acknowledgement ++ answerFrame
-    unfolding done saying answerFrame
-    first-sent = refl
+    first-carried : done .tables ≡ carriedOut t m .after
+    unfolding done saying
+    first-carried = refl
 
   -- ---- the session
   -- what it shows from here on: the answer's frame that is still to be sent, and the tables that are left
@@ -173,15 +186,15 @@ module _ (out : List ℕ) (room : 262 ≤ length out) (m : List ℕ) (request : 
     tables : s .tables ≡ t
     expected : s .link .expected ≡ not bit
 
-  step : (d : Delivery) (ds : List Delivery) (answer later : List ℕ) (left t t′ : Tables) (k : Link) (l′ : Line) (s : List ℕ) → delivery out f d t k ≡ ran s t′ l′
-      → draws answer (d ∷ ds) ≡ s ∷ draws later ds → Went later left ds (session out f ds t′ (linkOf l′)) → Went answer left (d ∷ ds) (session out f (d ∷ ds) t k)
+  step : (lent : ℕ → ℕ → Lent) (d : Delivery) (ds : List Delivery) (answer later : List ℕ) (left t t′ : Tables) (k : Link) (l′ : Line) (s : List ℕ) → delivery (lent 0) f d t k ≡ ran s t′ l′
+      → draws answer (d ∷ ds) ≡ s ∷ draws later ds → Went later left ds (session (λ i. lent (suc i)) f ds t′ (linkOf l′)) → Went answer left (d ∷ ds) (session lent f (d ∷ ds) t k)
   unfolding session
-  step d ds answer later left t t′ k l′ s e c went =
+  step lent d ds answer later left t t′ k l′ s e c went =
+      let behind : Ran → Session = λ r. session (λ i. lent (suc i)) f ds (r .tables) (r .link) in
       record {
-        drawn =
-            ap {B = List (List ℕ)} (λ (r : Ran). r .sent ∷ session out f ds (r .tables) (r .link) .sent) e ∙ ap {B = List (List ℕ)} (λ (r : List (List ℕ)). s ∷ r) (went .drawn) ∙ sym c;
-        tables = ap (λ (r : Ran). session out f ds (r .tables) (r .link) .tables) e ∙ went .tables;
-        expected = ap (λ (r : Ran). session out f ds (r .tables) (r .link) .link .expected) e ∙ went .expected;
+        drawn = ap {B = List (List ℕ)} (λ (r : Ran). r .sent ∷ behind r .sent) e ∙ ap {B = List (List ℕ)} (λ (r : List (List ℕ)). s ∷ r) (went .drawn) ∙ sym c;
+        tables = ap (λ (r : Ran). behind r .tables) e ∙ went .tables;
+        expected = ap (λ (r : Ran). behind r .link .expected) e ∙ went .expected;
       }
 
   damaged-draws : (d : Delivery) (ds : List Delivery) (answer : List ℕ) → isSound d ≡ false → draws answer (d ∷ ds) ≡ [] ∷ draws answer ds
@@ -193,56 +206,62 @@ module _ (out : List ℕ) (room : 262 ≤ length out) (m : List ℕ) (request : 
   sound-draws ds answer = refl
 
   -- after the first sound delivery
-  repeats : (ds : List Delivery) (t : Tables) (l : Line) → Ready t l → l .expected ≡ not bit → EachPossible f ds → Went [] t ds (session out f ds t (linkOf l))
-  repeats [] t l ready x p = record { drawn = unfold session draws in refl; tables = unfold session in refl; expected = unfold session linkOf in x }
-  repeats (sound ∷ ds) t l ready x p = step sound ds [] [] t t t _ l acknowledgement (repeated t l ready x) (sound-draws ds []) (repeats ds t l ready x (p .1))
-  repeats (changed i b ∷ ds) t l ready x p =
+  repeats : (ds : List Delivery) (lent : ℕ → ℕ → Lent) → ((i : ℕ) → Roomy (lent i)) → (t : Tables) (l : Line) → Ready t l → l .expected ≡ not bit → EachPossible f ds
+      → Went [] t ds (session lent f ds t (linkOf l))
+  repeats [] lent room t l ready x p = record { drawn = unfold session draws in refl; tables = unfold session in refl; expected = unfold session linkOf in x }
+  repeats (sound ∷ ds) lent room t l ready x p =
+      step lent sound ds [] [] t t t _ l acknowledgement (repeated t l ready x (lent 0) (room 0)) (sound-draws ds [])
+      (repeats ds (λ i. lent (suc i)) (λ i. room (suc i)) t l ready x (p .1))
+  repeats (changed i b ∷ ds) lent room t l ready x p =
       let left = damaged (changed i b) t l ready (unfold isSound in refl) (p .0) in
-      step (changed i b) ds [] [] t t t _ (left .line) [] (left .drawn) (damaged-draws (changed i b) ds [] (unfold isSound in refl))
-      (repeats ds t (left .line) (left .ready) (left .expected ∙ x) (p .1))
-  repeats (lost i ∷ ds) t l ready x p =
+      step lent (changed i b) ds [] [] t t t _ (left .line) [] (left .drawn (lent 0) (room 0)) (damaged-draws (changed i b) ds [] (unfold isSound in refl))
+      (repeats ds (λ j. lent (suc j)) (λ j. room (suc j)) t (left .line) (left .ready) (left .expected ∙ x) (p .1))
+  repeats (lost i ∷ ds) lent room t l ready x p =
       let left = damaged (lost i) t l ready (unfold isSound in refl) (p .0) in
-      step (lost i) ds [] [] t t t _ (left .line) [] (left .drawn) (damaged-draws (lost i) ds [] (unfold isSound in refl))
-      (repeats ds t (left .line) (left .ready) (left .expected ∙ x) (p .1))
+      step lent (lost i) ds [] [] t t t _ (left .line) [] (left .drawn (lent 0) (room 0)) (damaged-draws (lost i) ds [] (unfold isSound in refl))
+      (repeats ds (λ j. lent (suc j)) (λ j. room (suc j)) t (left .line) (left .ready) (left .expected ∙ x) (p .1))
 
   -- up to it: with nothing outstanding a damaged delivery leaves all as it was
   module _ (t : Tables) (l : Line) (ready : Ready t l) (x : l .expected ≡ bit) (o : isEmpty (l .outstanding) ≡ true) where
     abbrev answer : List ℕ
-    answer = answerFrame t l ready x o
+    answer = answerFrame t (linkOf l) m
 
     abbrev after : Done
     after = done t l ready x o
 
-    unharmed : (d : Delivery) (ds : List Delivery) → isSound d ≡ false → Possible f d → Went answer (after .tables) ds (session out f ds t (linkOf l))
-        → Went answer (after .tables) (d ∷ ds) (session out f (d ∷ ds) t (linkOf l))
-    unharmed d ds u p went =
+    unharmed : (lent : ℕ → ℕ → Lent) → Roomy (lent 0) → (d : Delivery) (ds : List Delivery) → isSound d ≡ false → Possible f d
+        → Went answer (after .tables) ds (session (λ i. lent (suc i)) f ds t (linkOf l)) → Went answer (after .tables) (d ∷ ds) (session lent f (d ∷ ds) t (linkOf l))
+    unharmed lent room d ds u p went =
         let left = damaged d t l ready u p in
-        step d ds answer answer (after .tables) t t _ l [] (left .drawn ∙ ap (ran [] t) (left .free o)) (damaged-draws d ds answer u) went
+        step lent d ds answer answer (after .tables) t t _ l [] (left .drawn (lent 0) room ∙ ap (ran [] t) (left .free o)) (damaged-draws d ds answer u) went
 
-    goes : (ds : List Delivery) → EachPossible f ds → T (someSound ds) → Went answer (after .tables) ds (session out f ds t (linkOf l))
+    goes : (ds : List Delivery) (lent : ℕ → ℕ → Lent) → ((i : ℕ) → Roomy (lent i)) → EachPossible f ds → T (someSound ds) → Went answer (after .tables) ds (session lent f ds t (linkOf l))
     unfolding someSound isSound
-    goes [] p s = absurd s
-    goes (sound ∷ ds) p s =
-        step sound ds answer [] (after .tables) t (after .tables) _ (after .line) (acknowledgement ++ answer)
-        (first-drawn t l ready x o ∙ ap (λ (r : List ℕ). ran r (after .tables) (after .line)) (first-sent t l ready x o)) (sound-draws ds answer)
-        (repeats ds (after .tables) (after .line) (first-ready t l ready x o) (first-expected t l ready x o) (p .1))
-    goes (changed i b ∷ ds) p s = unharmed (changed i b) ds refl (p .0) (goes ds (p .1) s)
-    goes (lost i ∷ ds) p s = unharmed (lost i) ds refl (p .0) (goes ds (p .1) s)
+    goes [] lent room p s = absurd s
+    goes (sound ∷ ds) lent room p s =
+        step lent sound ds answer [] (after .tables) t (after .tables) _ (after .line) (acknowledgement ++ answer)
+        (first-drawn t l ready x o (lent 0) (room 0) ∙ ap (λ (r : List ℕ). ran r (after .tables) (after .line)) (first-sent t l ready x o)) (sound-draws ds answer)
+        (repeats ds (λ i. lent (suc i)) (λ i. room (suc i)) (after .tables) (after .line) (first-ready t l ready x o) (first-expected t l ready x o) (p .1))
+    goes (changed i b ∷ ds) lent room p s = unharmed lent (room 0) (changed i b) ds refl (p .0) (goes ds (λ j. lent (suc j)) (λ j. room (suc j)) (p .1) s)
+    goes (lost i ∷ ds) lent room p s = unharmed lent (room 0) (lost i) ds refl (p .0) (goes ds (λ j. lent (suc j)) (λ j. room (suc j)) (p .1) s)
 
-    once : (ds : List Delivery) → EachPossible f ds → T (someSound ds) → Once out f ds t (linkOf l)
-    once ds p s =
-        let went = goes ds p s in
-        let first = first-drawn t l ready x o in
-        record {
-          answer = answer;
-          alone = ap (λ (r : Ran). r .sent) first ∙ first-sent t l ready x o;
-          drawn = went .drawn;
-          tables = went .tables ∙ sym (ap (λ (r : Ran). r .tables) first);
-          expected = went .expected ∙ sym (ap (λ (r : Ran). r .link .expected) first ∙ (unfold linkOf in first-expected t l ready x o));
-        }
+-- from a line at a frame start with nothing outstanding
+from-line : (lent : ℕ → ℕ → Lent) → ((i : ℕ) → Roomy (lent i)) → (m : List ℕ) → Request m → (ds : List Delivery) (t : Tables) (l : Line) → Ready t l → isEmpty (l .outstanding) ≡ true
+    → EachPossible (requestFrame (linkOf l) m) ds → T (someSound ds) → Once lent m ds t (linkOf l)
+unfolding requestFrame linkOf
+from-line lent room m request ds t l ready o p s =
+    let went = goes m request (l .expected) t l ready refl o ds lent room p s in
+    let first = first-drawn m request (l .expected) t l ready refl o (lent 0) (room 0) in
+    record {
+      alone = ap (λ (r : Ran). r .sent) first ∙ first-sent m request (l .expected) t l ready refl o;
+      carried = ap (λ (r : Ran). r .tables) first ∙ first-carried m request (l .expected) t l ready refl o;
+      drawn = went .drawn;
+      tables = went .tables ∙ sym (ap (λ (r : Ran). r .tables) first);
+      expected = went .expected ∙ sym (ap (λ (r : Ran). r .link .expected) first ∙ first-expected m request (l .expected) t l ready refl o);
+    }
 
 -- ---- the start, in the link record
-module _ (out : List ℕ) (t : Tables) (k : Link) (start : Start out t k) where
+module _ (lent : ℕ → ℕ → Lent) (t : Tables) (k : Link) (start : Start lent t k) where
   at-start : lineOf k ≡ atStart (lineOf k)
   unfolding lineOf atStart
   at-start =
@@ -262,13 +281,9 @@ module _ (out : List ℕ) (t : Tables) (k : Link) (start : Start out t k) where
   unfolding lineOf
   nothing-held = rw (start .held)
 
-  same-bit : lineOf k .expected ≡ k .expected
-  unfolding lineOf
-  same-bit = refl
-
 pub demand-3 : Demand3
-unfolding requestFrame
-demand-3 out m ds t k start request p s =
-    subst (Once out (dataFrame (hostControl (k .expected)) m) ds t) (sym (range-stays k (start .link)))
-    (once out (start .output) m request (k .expected) t (lineOf k) (record { tables = start .tables; line = in-order out t k start; start = at-start out t k start })
-    (same-bit out t k start) (nothing-held out t k start) ds p s)
+demand-3 lent m ds t k start request p s =
+    let same = sym (range-stays k (start .link)) in
+    subst (Once lent m ds t) same
+    (from-line lent (start .output) m request ds t (lineOf k) (record { tables = start .tables; line = in-order lent t k start; start = at-start lent t k start })
+    (nothing-held lent t k start) (subst (λ (j : Link). EachPossible (requestFrame j m) ds) (sym same) p) s)

@@ -1,20 +1,21 @@
 -- Demand 3: one request delivered any number of times, an idle mark behind each delivery.
-use Prim.Native.Nat.{ℕ, _≤_}
+use Prim.Native.Nat.{ℕ, suc, _≤_}
 use mathlib.Core.Path.{_≡_}
 use mathlib.Core.Bool.{Bool, true, false, _||_}
 use mathlib.Core.List.{List, [], _∷_, _++_, map}
 use lib.ListN.{length, getD}
 use lib.Dec.{T}
-use Rattle.link.specs.Words.{if_then_else_, areBytes}
+use Rattle.link.specs.Words.{if_then_else_, isEmpty, areBytes}
 use Rattle.link.specs.declared.record.Link.{Link}
 use Rattle.link.specs.Frame.{acknowledgement, dataFrame, longestMessage}
-use Rattle.link.specs.Record.{Line, hostControl, inRange}
+use Rattle.link.specs.Record.{Line, hostControl, serverControl, inRange}
 use Rattle.link.specs.Delivery.{Delivery, sound, isSound, arrives, Possible}
 use Rattle.services.specs.Table.{Tables, wellFormed}
+use Rattle.services.specs.Service.{carriedOut}
 use Rattle.server.specs.declared.event.Event.{Event}
 use Rattle.server.specs.declared.event.Event.the-variants.{HostByte, IdleMark}
-use Rattle.server.specs.Call.{Done, quiet, happens}
-use Rattle.demands.specs.Run.{Ran, run}
+use Rattle.server.specs.Call.{Done, quiet, happens, call}
+use Rattle.demands.specs.Run.{Ran, sentOf, before}
 
 -- ---- events in turn where no call is refused, over tables and line; no value lent beside them
 unfoldable pub following : List ℕ → Done → Done
@@ -27,13 +28,26 @@ inTurn (e ∷ es) t l =
     following (d .sent) (inTurn es (d .tables) (d .line))
 
 -- ---- the deliveries
+-- What is lent to a call beside tables and link record: "other events ignore what is lent there", and an output buffer, which may be as the call before
+-- left it, or any other.
+pub record Lent : Type 0 where
+  pub value : List ℕ
+  pub output : List ℕ
+
+-- the events in turn, the n-th with lent n
+unfoldable pub calls : (ℕ → Lent) → List Event → Tables → Link → Ran
+calls lent [] t k = record { sent = []; tables = t; link = k }
+calls lent (e ∷ es) t k =
+    let c = call e (lent 0 .value) t k (lent 0 .output) in
+    before (sentOf (c .reply) (c .output)) (calls (λ n. lent (suc n)) es (c .tables) (c .link))
+
 -- host bytes, and the idle mark that each delivery "is followed by"
 unfoldable pub thenIdle : List ℕ → List Event
 thenIdle bs = map HostByte bs ++ IdleMark ∷ []
 
--- one delivery of the frame f: each event is a call, with the output buffer out
-unfoldable pub delivery : List ℕ → List ℕ → Delivery → Tables → Link → Ran
-delivery out f d t k = run out (thenIdle (arrives f d)) t k
+-- one delivery of the frame f: each event is a call
+unfoldable pub delivery : (ℕ → Lent) → List ℕ → Delivery → Tables → Link → Ran
+delivery lent f d t k = calls lent (thenIdle (arrives f d)) t k
 
 -- what was sent during each delivery, and the tables and the link record after the last
 pub record Session : Type 0 where
@@ -41,19 +55,20 @@ pub record Session : Type 0 where
   pub tables : Tables
   pub link : Link
 
-unfoldable pub session : List ℕ → List ℕ → List Delivery → Tables → Link → Session
-session out f [] t k = record { sent = []; tables = t; link = k }
-session out f (d ∷ ds) t k =
-    let r = delivery out f d t k in
-    let s = session out f ds (r .tables) (r .link) in
+-- the i-th delivery has lent i
+unfoldable pub session : (ℕ → ℕ → Lent) → List ℕ → List Delivery → Tables → Link → Session
+session lent f [] t k = record { sent = []; tables = t; link = k }
+session lent f (d ∷ ds) t k =
+    let r = delivery (lent 0) f d t k in
+    let s = session (λ i. lent (suc i)) f ds (r .tables) (r .link) in
     record { sent = r .sent ∷ s .sent; tables = s .tables; link = s .link }
 
 -- ---- the premises
 -- "Start with tables, link record and output room that no call refuses, the receiver at a frame start and nothing outstanding."
-pub record Start (out : List ℕ) (t : Tables) (k : Link) : Type 0 where
+pub record Start (lent : ℕ → ℕ → Lent) (t : Tables) (k : Link) : Type 0 where
   pub tables : T (wellFormed t)
   pub link : T (inRange k)
-  pub output : 262 ≤ length out
+  pub output : (i n : ℕ) → 262 ≤ length (lent i n .output)
   pub received : k .received ≡ 0
   pub dropping : k .dropping ≡ false
   pub held : k .held ≡ 0
@@ -79,23 +94,27 @@ someSound [] = false
 someSound (d ∷ ds) = isSound d || someSound ds
 
 -- ---- the conclusion
--- "Each sound delivery draws one acknowledgement, a damaged one draws none, and the answer is sent at most once": what each delivery draws, where the
--- answer's frame, which is none where there is no answer, is still to be sent
+-- the frame of the answer to m, under the send bit; none where m has no answer
+unfoldable pub answerFrame : Tables → Link → List ℕ → List ℕ
+answerFrame t k m = if isEmpty (carriedOut t m .says) then [] else dataFrame (serverControl (k .send)) (carriedOut t m .says)
+
+-- "Each sound delivery draws one acknowledgement, a damaged one draws none, and the answer is sent at most once": what each delivery draws, where this
+-- answer's frame is still to be sent
 unfoldable pub draws : List ℕ → List Delivery → List (List ℕ)
 draws answer [] = []
 draws answer (d ∷ ds) = (if isSound d then acknowledgement ++ answer else []) ∷ draws (if isSound d then [] else answer) ds
 
-pub record Once (out f : List ℕ) (ds : List Delivery) (t : Tables) (k : Link) : Type 0 where
-  -- the answer's frame: what one sound delivery sends behind its acknowledgement
-  pub answer : List ℕ
-  pub alone : delivery out f sound t k .sent ≡ acknowledgement ++ answer
-  -- no call is refused: a refusal would show among what was sent
-  pub drawn : session out f ds t k .sent ≡ draws answer ds
+pub record Once (lent : ℕ → ℕ → Lent) (m : List ℕ) (ds : List Delivery) (t : Tables) (k : Link) : Type 0 where
+  -- "exactly when one sound delivery would send it": what that sends, and what it does to the tables
+  pub alone : delivery (lent 0) (requestFrame k m) sound t k .sent ≡ acknowledgement ++ answerFrame t k m
+  pub carried : delivery (lent 0) (requestFrame k m) sound t k .tables ≡ carriedOut t m .after
+  -- so no call is refused: a refusal would show in what was sent
+  pub drawn : session lent (requestFrame k m) ds t k .sent ≡ draws (answerFrame t k m) ds
   -- "Then the tables and the expected bit are those after one sound delivery."
-  pub tables : session out f ds t k .tables ≡ delivery out f sound t k .tables
-  pub expected : session out f ds t k .link .expected ≡ delivery out f sound t k .link .expected
+  pub tables : session lent (requestFrame k m) ds t k .tables ≡ delivery (lent 0) (requestFrame k m) sound t k .tables
+  pub expected : session lent (requestFrame k m) ds t k .link .expected ≡ delivery (lent 0) (requestFrame k m) sound t k .link .expected
 
 abbrev pub Demand3 : Type 0
 Demand3 =
-    (out m : List ℕ) (ds : List Delivery) (t : Tables) (k : Link) → Start out t k → Request m → EachPossible (requestFrame k m) ds → T (someSound ds)
-    → Once out (requestFrame k m) ds t k
+    (lent : ℕ → ℕ → Lent) (m : List ℕ) (ds : List Delivery) (t : Tables) (k : Link) → Start lent t k → Request m → EachPossible (requestFrame k m) ds → T (someSound ds)
+    → Once lent m ds t k
