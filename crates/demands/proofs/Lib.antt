@@ -5,3 +5,4 @@ pub mod Examples
 pub mod SessionLaws
 pub mod CallRuns
 pub mod Demand3
+pub mod Demand3Met

@@ -1,0 +1,64 @@
+-- Demand 3 says something: its premises hold at example 1, for a session with damaged deliveries before, between and after two sound ones.
+use Prim.Native.Nat.{ℕ, suc, _≤_}
+use mathlib.Core.Path.{_≡_, refl, sym, _∙_, ap}
+use mathlib.Core.Bool.{Bool, true, false}
+use mathlib.Core.List.{List, [], _∷_, _++_}
+use native.Mathlib.Omega.{arith}
+use lib.ListN.{length, getD, replicate}
+use lib.Dec.{T}
+use Rattle.link.specs.declared.record.Link.{Link}
+use Rattle.link.specs.Record.{linkOf, lineOk}
+use Rattle.link.specs.Delivery.{Delivery, sound, changed, lost, isSound}
+use Rattle.link.proofs.RecordLaws.{line-in-range}
+use Rattle.services.specs.Table.{Tables, wellFormed}
+use Rattle.demands.specs.Example.{lineAt, item1, answer1}
+use Rattle.demands.specs.Session.{Lent, session, Start, Request, requestFrame, EachPossible, someSound, answerFrame, draws, Once}
+use Rattle.demands.proofs.Opened.{opened}
+use Rattle.demands.proofs.Demand3.{demand-3}
+
+unfoldable pub lent : ℕ → ℕ → Lent
+lent i n = record { value = []; output = replicate 262 0 }
+
+unfoldable pub link : Link
+link = linkOf (lineAt true true [])
+
+unfoldable pub request : List ℕ
+request = 0xF0 ∷ 0x01 ∷ 0x00 ∷ 0x01 ∷ 0x00 ∷ 0x01 ∷ []
+
+-- the first byte turned into E5 while nothing is outstanding and while the answer is; a byte lost; another changed
+unfoldable pub deliveries : List Delivery
+deliveries = changed 0 0xE5 ∷ sound ∷ lost 3 ∷ sound ∷ changed 7 0x55 ∷ changed 0 0xE5 ∷ []
+
+at-start : Start lent item1 link
+unfolding opened lent link lineAt item1
+at-start =
+    record {
+      tables = tt;
+      link = line-in-range (lineAt true true []) tt;
+      output = λ i n. omega arith;
+      received = refl;
+      dropping = refl;
+      held = refl;
+    }
+
+asked : Request request
+unfolding opened request
+asked = record { first = refl; short = omega arith; bytes = tt }
+
+possible : EachPossible (requestFrame link request) deliveries
+unfolding opened link lineAt request requestFrame deliveries
+possible = ((omega arith, omega arith, (λ e. omega (arith, e))), (tt, (omega arith, (tt, ((omega arith, omega arith, (λ e. omega (arith, e))), ((omega arith, omega arith, (λ e. omega (arith, e))), tt))))))
+
+some-sound : T (someSound deliveries)
+unfolding someSound isSound deliveries
+some-sound = tt
+
+met : Once lent request deliveries item1 link
+met = demand-3 lent request deliveries item1 link at-start asked possible some-sound
+
+-- what the theorem then says of them
+pub met-sent : session lent (requestFrame link request) deliveries item1 link .sent ≡ [] ∷ (0xE5 ∷ answer1) ∷ [] ∷ (0xE5 ∷ []) ∷ [] ∷ [] ∷ []
+met-sent = met .drawn ∙ says
+  where
+    says : draws (answerFrame item1 link request) deliveries ≡ [] ∷ (0xE5 ∷ answer1) ∷ [] ∷ (0xE5 ∷ []) ∷ [] ∷ [] ∷ []
+    says = unfold opened answerFrame link lineAt request item1 answer1 draws isSound deliveries in refl
