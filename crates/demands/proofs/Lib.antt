@@ -6,3 +6,4 @@ pub mod SessionLaws
 pub mod CallRuns
 pub mod Demand3
 pub mod Demand3Met
+pub mod Demand1

@@ -1,3 +1,4 @@
 pub mod Run
 pub mod Example
 pub mod Session
+pub mod Refusals
