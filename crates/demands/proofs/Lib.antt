@@ -7,3 +7,4 @@ pub mod CallRuns
 pub mod Demand3
 pub mod Demand3Met
 pub mod Demand1
+pub mod ReadBack
