@@ -1,29 +1,31 @@
 -- Demand 3, proved over the calls: a request that is delivered more than once, sound or damaged, is carried out once.
 use Prim.Native.Nat.{ℕ, suc, _≤_}
 use mathlib.Core.Path.{_≡_, refl, sym, _∙_, ap, subst}
-use mathlib.Core.Logic.{_⊎_, inl, inr}
+use mathlib.Core.Logic.{_≢_}
 use mathlib.Core.Bool.{Bool, true, false, not, _||_}
 use mathlib.Core.List.{List, [], _∷_, _++_}
+use native.Mathlib.Decide.{ℕ-discrete}
 use lib.ListN.{length, getD, take}
-use lib.Dec.{T, ltb}
-use borrow.Author.Tests.{le-ltb}
+use lib.Dec.{T, ltb, eqb}
+use borrow.Author.Tests.{le-ltb, eq-eqb}
 use Rattle.link.specs.Words.{if_then_else_, isEmpty, areBytes}
 use Rattle.link.specs.declared.record.Link.{Link}
 use Rattle.link.specs.Frame.{acknowledgement, longestMessage, dataFrame}
 use Rattle.link.specs.Record.{Line, lineOf, linkOf, hostControl, serverControl, memoryOk, lineOk, inRange}
-use Rattle.link.specs.Rules.{acknowledged, message, atStart, cleared, holding, expecting, onIdleMark, onMessage}
+use Rattle.link.specs.Rules.{atStart, cleared, holding, expecting, onIdleMark, onMessage}
 use Rattle.link.specs.Delivery.{Delivery, sound, changed, lost, isSound, arrives, Possible, Run, delivered}
-use Rattle.link.proofs.WordLaws.{right, true-T}
+use Rattle.link.proofs.WordLaws.{left, right}
+use Rattle.link.proofs.RecordLaws.{lineOf-linkOf}
 use Rattle.link.proofs.EventLaws.{range-stays}
 use Rattle.link.proofs.HearingLaws.{quiet, acknowledges, repeat-heard}
-use Rattle.link.proofs.DeliveryLaws.{damaged-either, host-control}
+use Rattle.link.proofs.DeliveryLaws.{damaged-nothing, damaged-acknowledges, host-control}
 use Rattle.services.specs.Table.{Tables, wellFormed}
 use Rattle.services.specs.Service.{carriedOut}
 use Rattle.services.proofs.AnswerLaws.{Sized, none, some, answer-sized}
 use Rattle.server.specs.Call.{Done, saying}
 use Rattle.server.proofs.CallLaws.{InOrder}
 use Rattle.demands.specs.Run.{Ran}
-use Rattle.demands.specs.Session.{inTurn, Lent, thenIdle, delivery, Session, session, Start, Request, requestFrame, EachPossible, someSound, answerFrame, draws, Once, Demand3}
+use Rattle.demands.specs.Session.{inTurn, Lent, thenIdle, delivery, Session, session, Start, Request, requestFrame, EachPossible, someSound, answerFrame, draws, Rest, same, acknowledged, noneBeginsE5, Once, Demand3}
 use Rattle.demands.proofs.SessionLaws.{noMessage, thenMarked, delivery-leaves, request-carried}
 use Rattle.demands.proofs.CallRuns.{ranOf, idle-run, idle-lasts}
 
@@ -47,13 +49,32 @@ message-sent s l (none e) o = rw e
 message-sent [] l (some a b) o = refl
 message-sent (x ∷ s) l (some a b) o = simp (le-ltb 254 (length (x ∷ s)) b, o)
 
--- an acknowledgement, or an E5 that is ignored, leaves the expected bit and the receiver at a frame start
-acknowledges-expected : (l : Line) → acknowledges l .line .expected ≡ l .expected
-acknowledges-expected l = go (isEmpty (l .outstanding)) refl
+-- an acknowledgement, or an E5 that is ignored: the line is l, or l with its outstanding frame acknowledged
+data Acted (l l′ : Line) : Type 0 where
+  kept : l′ ≡ l → Acted l l′
+  clears : isEmpty (l .outstanding) ≡ false → l′ ≡ cleared (not (l .send)) l → Acted l l′
+
+acknowledges-acts : (l : Line) → Acted l (acknowledges l .line)
+acknowledges-acts l = go (isEmpty (l .outstanding)) refl
   where
-    go : (u : Bool) → isEmpty (l .outstanding) ≡ u → acknowledges l .line .expected ≡ l .expected
-    go true e = simp e
-    go false e = unfold cleared in simp e
+    go : (u : Bool) → isEmpty (l .outstanding) ≡ u → Acted l (acknowledges l .line)
+    go true e = kept (simp e)
+    go false e = clears e (simp e)
+
+acted-expected : {l l′ : Line} → Acted l l′ → l′ .expected ≡ l .expected
+unfolding cleared
+acted-expected (kept e) = ap (λ (k : Line). k .expected) e
+acted-expected (clears o e) = ap (λ (k : Line). k .expected) e
+
+acted-free : {l l′ : Line} → Acted l l′ → isEmpty (l .outstanding) ≡ true → l′ ≡ l
+acted-free (kept e) f = e
+acted-free (clears o e) f = absurd (subst (λ (b : Bool). T (not b)) (sym o ∙ f) tt)
+
+-- acknowledged once, nothing more is
+acted-again : {l l′ : Line} (l″ : Line) → Acted l l′ → Acted l′ l″ → Acted l l″
+unfolding cleared
+acted-again l″ (kept e) a = subst (λ (k : Line). Acted k l″) e a
+acted-again l″ (clears o e) a = clears o (acted-free a (ap (λ (k : Line). isEmpty (k .outstanding)) e) ∙ e)
 
 acknowledges-no-message : (l : Line) → T (noMessage (acknowledges l .ups))
 acknowledges-no-message l = go (isEmpty (l .outstanding)) refl
@@ -111,28 +132,34 @@ module _ (m : List ℕ) (request : Request m) (bit : Bool) where
     line : Line
     drawn : (lent : ℕ → Lent) → Roomy lent → delivery lent f d t (linkOf l) ≡ ran [] t line
     ready : Ready t line
-    expected : line .expected ≡ l .expected
-    free : isEmpty (l .outstanding) ≡ true → line ≡ l
+    acted : Acted l line
+    silent : T (not (eqb (getD (arrives f d) 0 0) 0xE5)) → line ≡ l
 
   damaged : (d : Delivery) (t : Tables) (l : Line) → Ready t l → isSound d ≡ false → Possible f d → Leaves d t l
-  damaged d t l ready u p = go (damaged-either (hostControl bit) (host-control bit) m d l (request .short) (request .bytes) (request .first) u p (ready .start))
+  damaged d t l ready u p = go (ℕ-discrete (getD (arrives f d) 0 0) 0xE5)
     where
-      go : (delivered (arrives f d) l ≡ quiet l) ⊎ (delivered (arrives f d) l ≡ acknowledges l) → Leaves d t l
-      go (inl e) =
+      nothing-else : getD (arrives f d) 0 0 ≢ 0xE5 → delivered (arrives f d) l ≡ quiet l
+      nothing-else r = damaged-nothing (hostControl bit) (host-control bit) m d l (request .short) (request .bytes) u p r (ready .start)
+
+      echo : getD (arrives f d) 0 0 ≡ 0xE5 → delivered (arrives f d) l ≡ acknowledges l
+      echo e = damaged-acknowledges (hostControl bit) (host-control bit) m d l (request .first) e (ready .start)
+
+      go : Dec (getD (arrives f d) 0 0 ≡ 0xE5) → Leaves d t l
+      go (no r) =
           record {
             line = l;
-            drawn = unheeded d t l ready (quiet l) e (unfold noMessage in tt);
+            drawn = unheeded d t l ready (quiet l) (nothing-else r) (unfold noMessage in tt);
             ready = ready;
-            expected = refl;
-            free = λ o. refl;
+            acted = kept refl;
+            silent = λ h. refl;
           }
-      go (inr e) =
+      go (yes e) =
           record {
             line = acknowledges l .line;
-            drawn = unheeded d t l ready (acknowledges l) e (acknowledges-no-message l);
-            ready = unheeded-ready d t l ready (acknowledges l) e (acknowledges-no-message l);
-            expected = acknowledges-expected l;
-            free = λ o. simp o;
+            drawn = unheeded d t l ready (acknowledges l) (echo e) (acknowledges-no-message l);
+            ready = unheeded-ready d t l ready (acknowledges l) (echo e) (acknowledges-no-message l);
+            acted = acknowledges-acts l;
+            silent = λ h. absurd (simp (eq-eqb (getD (arrives f d) 0 0) 0xE5 e) at h);
           }
 
   -- "Other bit: E5, message dropped."
@@ -180,22 +207,32 @@ module _ (m : List ℕ) (request : Request m) (bit : Bool) where
     first-carried = refl
 
   -- ---- the session
-  -- what it shows from here on: the answer's frame that is still to be sent, and the tables that are left
-  record Went (answer : List ℕ) (t : Tables) (ds : List Delivery) (s : Session) : Type 0 where
+  -- what it shows from here on: the answer's frame that is still to be sent, the tables that are left, the line after the first sound delivery, and the
+  -- line that is left if no delivery begins with E5
+  record Went (answer : List ℕ) (t : Tables) (l l′ : Line) (ds : List Delivery) (s : Session) : Type 0 where
     drawn : s .sent ≡ draws answer ds
     tables : s .tables ≡ t
-    expected : s .link .expected ≡ not bit
+    line : Line
+    link : s .link ≡ linkOf line
+    acted : Acted l line
+    undisturbed : T (noneBeginsE5 f ds) → line ≡ l′
 
-  step : (lent : ℕ → ℕ → Lent) (d : Delivery) (ds : List Delivery) (answer later : List ℕ) (left t t′ : Tables) (k : Link) (l′ : Line) (s : List ℕ) → delivery (lent 0) f d t k ≡ ran s t′ l′
-      → draws answer (d ∷ ds) ≡ s ∷ draws later ds → Went later left ds (session (λ i. lent (suc i)) f ds t′ (linkOf l′)) → Went answer left (d ∷ ds) (session lent f (d ∷ ds) t k)
-  unfolding session
-  step lent d ds answer later left t t′ k l′ s e c went =
-      let behind : Ran → Session = λ r. session (λ i. lent (suc i)) f ds (r .tables) (r .link) in
-      record {
-        drawn = ap {B = List (List ℕ)} (λ (r : Ran). r .sent ∷ behind r .sent) e ∙ ap {B = List (List ℕ)} (λ (r : List (List ℕ)). s ∷ r) (went .drawn) ∙ sym c;
-        tables = ap (λ (r : Ran). behind r .tables) e ∙ went .tables;
-        expected = ap (λ (r : Ran). behind r .link .expected) e ∙ went .expected;
-      }
+  module _ (lent : ℕ → ℕ → Lent) (d : Delivery) (ds : List Delivery) (answer later : List ℕ) (t t′ finally : Tables) (k : Link) (l′ : Line) (s : List ℕ) where
+    step : delivery (lent 0) f d t k ≡ ran s t′ l′ → draws answer (d ∷ ds) ≡ s ∷ draws later ds → (l next end : Line)
+        → (T (not (eqb (getD (arrives f d) 0 0) 0xE5)) → next ≡ end) → Went later finally l next ds (session (λ i. lent (suc i)) f ds t′ (linkOf l′))
+        → Went answer finally l end (d ∷ ds) (session lent f (d ∷ ds) t k)
+    unfolding session noneBeginsE5
+    step e c l next end h went =
+        let behind : Ran → Session = λ r. session (λ i. lent (suc i)) f ds (r .tables) (r .link) in
+        let first : Bool = not (eqb (getD (arrives f d) 0 0) 0xE5) in
+        record {
+          drawn = ap {B = List (List ℕ)} (λ (r : Ran). r .sent ∷ behind r .sent) e ∙ ap {B = List (List ℕ)} (λ (r : List (List ℕ)). s ∷ r) (went .drawn) ∙ sym c;
+          tables = ap (λ (r : Ran). behind r .tables) e ∙ went .tables;
+          line = went .line;
+          link = ap (λ (r : Ran). behind r .link) e ∙ went .link;
+          acted = went .acted;
+          undisturbed = λ n. went .undisturbed (right first (noneBeginsE5 f ds) n) ∙ h (left first (noneBeginsE5 f ds) n);
+        }
 
   damaged-draws : (d : Delivery) (ds : List Delivery) (answer : List ℕ) → isSound d ≡ false → draws answer (d ∷ ds) ≡ [] ∷ draws answer ds
   unfolding draws
@@ -205,21 +242,21 @@ module _ (m : List ℕ) (request : Request m) (bit : Bool) where
   unfolding draws isSound
   sound-draws ds answer = refl
 
-  -- after the first sound delivery
-  repeats : (ds : List Delivery) (lent : ℕ → ℕ → Lent) → ((i : ℕ) → Roomy (lent i)) → (t : Tables) (l : Line) → Ready t l → l .expected ≡ not bit → EachPossible f ds
-      → Went [] t ds (session lent f ds t (linkOf l))
-  repeats [] lent room t l ready x p = record { drawn = unfold session draws in refl; tables = unfold session in refl; expected = unfold session linkOf in x }
-  repeats (sound ∷ ds) lent room t l ready x p =
-      step lent sound ds [] [] t t t _ l acknowledgement (repeated t l ready x (lent 0) (room 0)) (sound-draws ds [])
-      (repeats ds (λ i. lent (suc i)) (λ i. room (suc i)) t l ready x (p .1))
-  repeats (changed i b ∷ ds) lent room t l ready x p =
-      let left = damaged (changed i b) t l ready (unfold isSound in refl) (p .0) in
-      step lent (changed i b) ds [] [] t t t _ (left .line) [] (left .drawn (lent 0) (room 0)) (damaged-draws (changed i b) ds [] (unfold isSound in refl))
-      (repeats ds (λ j. lent (suc j)) (λ j. room (suc j)) t (left .line) (left .ready) (left .expected ∙ x) (p .1))
-  repeats (lost i ∷ ds) lent room t l ready x p =
-      let left = damaged (lost i) t l ready (unfold isSound in refl) (p .0) in
-      step lent (lost i) ds [] [] t t t _ (left .line) [] (left .drawn (lent 0) (room 0)) (damaged-draws (lost i) ds [] (unfold isSound in refl))
-      (repeats ds (λ j. lent (suc j)) (λ j. room (suc j)) t (left .line) (left .ready) (left .expected ∙ x) (p .1))
+  -- after the first sound delivery, which left the line l
+  module _ (t : Tables) (l : Line) (x : l .expected ≡ not bit) where
+    repeats : (ds : List Delivery) (lent : ℕ → ℕ → Lent) → ((i : ℕ) → Roomy (lent i)) → (n : Line) → Ready t n → Acted l n → EachPossible f ds → Went [] t l n ds (session lent f ds t (linkOf n))
+    repeats [] lent room n ready a p = record { drawn = unfold session draws in refl; tables = unfold session in refl; line = n; link = unfold session in refl; acted = a; undisturbed = λ h. refl }
+    repeats (sound ∷ ds) lent room n ready a p =
+        step lent sound ds [] [] t t t _ n acknowledgement (repeated t n ready (acted-expected a ∙ x) (lent 0) (room 0)) (sound-draws ds []) l n n (λ h. refl)
+        (repeats ds (λ i. lent (suc i)) (λ i. room (suc i)) n ready a (p .1))
+    repeats (changed i b ∷ ds) lent room n ready a p =
+        let leaves = damaged (changed i b) t n ready (unfold isSound in refl) (p .0) in
+        step lent (changed i b) ds [] [] t t t _ (leaves .line) [] (leaves .drawn (lent 0) (room 0)) (damaged-draws (changed i b) ds [] (unfold isSound in refl)) l (leaves .line) n (leaves .silent)
+        (repeats ds (λ j. lent (suc j)) (λ j. room (suc j)) (leaves .line) (leaves .ready) (acted-again (leaves .line) a (leaves .acted)) (p .1))
+    repeats (lost i ∷ ds) lent room n ready a p =
+        let leaves = damaged (lost i) t n ready (unfold isSound in refl) (p .0) in
+        step lent (lost i) ds [] [] t t t _ (leaves .line) [] (leaves .drawn (lent 0) (room 0)) (damaged-draws (lost i) ds [] (unfold isSound in refl)) l (leaves .line) n (leaves .silent)
+        (repeats ds (λ j. lent (suc j)) (λ j. room (suc j)) (leaves .line) (leaves .ready) (acted-again (leaves .line) a (leaves .acted)) (p .1))
 
   -- up to it: with nothing outstanding a damaged delivery leaves all as it was
   module _ (t : Tables) (l : Line) (ready : Ready t l) (x : l .expected ≡ bit) (o : isEmpty (l .outstanding) ≡ true) where
@@ -229,21 +266,30 @@ module _ (m : List ℕ) (request : Request m) (bit : Bool) where
     abbrev after : Done
     after = done t l ready x o
 
-    unharmed : (lent : ℕ → ℕ → Lent) → Roomy (lent 0) → (d : Delivery) (ds : List Delivery) → isSound d ≡ false → Possible f d
-        → Went answer (after .tables) ds (session (λ i. lent (suc i)) f ds t (linkOf l)) → Went answer (after .tables) (d ∷ ds) (session lent f (d ∷ ds) t (linkOf l))
-    unharmed lent room d ds u p went =
-        let left = damaged d t l ready u p in
-        step lent d ds answer answer (after .tables) t t _ l [] (left .drawn (lent 0) room ∙ ap (ran [] t) (left .free o)) (damaged-draws d ds answer u) went
+    abbrev WentOn : (ℕ → ℕ → Lent) → List Delivery → Type 0
+    WentOn lent ds = Went answer (after .tables) (after .line) (after .line) ds (session lent f ds t (linkOf l))
 
-    goes : (ds : List Delivery) (lent : ℕ → ℕ → Lent) → ((i : ℕ) → Roomy (lent i)) → EachPossible f ds → T (someSound ds) → Went answer (after .tables) ds (session lent f ds t (linkOf l))
+    unharmed : (lent : ℕ → ℕ → Lent) → Roomy (lent 0) → (d : Delivery) (ds : List Delivery) → isSound d ≡ false → Possible f d → WentOn (λ i. lent (suc i)) ds → WentOn lent (d ∷ ds)
+    unharmed lent room d ds u p went =
+        let leaves = damaged d t l ready u p in
+        step lent d ds answer answer t t (after .tables) _ l [] (leaves .drawn (lent 0) room ∙ ap (ran [] t) (acted-free (leaves .acted) o)) (damaged-draws d ds answer u)
+        (after .line) (after .line) (after .line) (λ h. refl) went
+
+    goes : (ds : List Delivery) (lent : ℕ → ℕ → Lent) → ((i : ℕ) → Roomy (lent i)) → EachPossible f ds → T (someSound ds) → WentOn lent ds
     unfolding someSound isSound
     goes [] lent room p s = absurd s
     goes (sound ∷ ds) lent room p s =
-        step lent sound ds answer [] (after .tables) t (after .tables) _ (after .line) (acknowledgement ++ answer)
+        step lent sound ds answer [] t (after .tables) (after .tables) _ (after .line) (acknowledgement ++ answer)
         (first-drawn t l ready x o (lent 0) (room 0) ∙ ap (λ (r : List ℕ). ran r (after .tables) (after .line)) (first-sent t l ready x o)) (sound-draws ds answer)
-        (repeats ds (λ i. lent (suc i)) (λ i. room (suc i)) (after .tables) (after .line) (first-ready t l ready x o) (first-expected t l ready x o) (p .1))
+        (after .line) (after .line) (after .line) (λ h. refl)
+        (repeats (after .tables) (after .line) (first-expected t l ready x o) ds (λ i. lent (suc i)) (λ i. room (suc i)) (after .line) (first-ready t l ready x o) (kept refl) (p .1))
     goes (changed i b ∷ ds) lent room p s = unharmed lent (room 0) (changed i b) ds refl (p .0) (goes ds (λ j. lent (suc j)) (λ j. room (suc j)) (p .1) s)
     goes (lost i ∷ ds) lent room p s = unharmed lent (room 0) (lost i) ds refl (p .0) (goes ds (λ j. lent (suc j)) (λ j. room (suc j)) (p .1) s)
+
+-- what a line shows, its link record shows
+acted-rest : (l l′ : Line) (k k′ : Link) → k ≡ linkOf l → k′ ≡ linkOf l′ → Acted l l′ → Rest k k′
+acted-rest l l′ k k′ p q (kept e) = same (q ∙ ap linkOf e ∙ sym p)
+acted-rest l l′ k k′ p q (clears o e) = subst (λ (j : Link). Rest j k′) (sym p) (acknowledged (rw (lineOf-linkOf l) o) (q ∙ ap linkOf e ∙ rw (lineOf-linkOf l) (unfold linkOf in refl)))
 
 -- from a line at a frame start with nothing outstanding
 from-line : (lent : ℕ → ℕ → Lent) → ((i : ℕ) → Roomy (lent i)) → (m : List ℕ) → Request m → (ds : List Delivery) (t : Tables) (l : Line) → Ready t l → isEmpty (l .outstanding) ≡ true
@@ -257,7 +303,9 @@ from-line lent room m request ds t l ready o p s =
       carried = ap (λ (r : Ran). r .tables) first ∙ first-carried m request (l .expected) t l ready refl o;
       drawn = went .drawn;
       tables = went .tables ∙ sym (ap (λ (r : Ran). r .tables) first);
-      expected = went .expected ∙ sym (ap (λ (r : Ran). r .link .expected) first ∙ first-expected m request (l .expected) t l ready refl o);
+      expected = ap (λ (j : Link). j .expected) (went .link) ∙ acted-expected (went .acted) ∙ sym (ap (λ (r : Ran). r .link .expected) first);
+      rest = acted-rest _ (went .line) _ _ (ap (λ (r : Ran). r .link) first) (went .link) (went .acted);
+      undisturbed = λ n. went .link ∙ ap linkOf (went .undisturbed n) ∙ sym (ap (λ (r : Ran). r .link) first);
     }
 
 -- ---- the start, in the link record

@@ -1,14 +1,15 @@
 -- Demand 3: one request delivered any number of times, an idle mark behind each delivery.
 use Prim.Native.Nat.{ℕ, suc, _≤_}
 use mathlib.Core.Path.{_≡_}
-use mathlib.Core.Bool.{Bool, true, false, _||_}
+use mathlib.Core.Bool.{Bool, true, false, not, _||_}
 use mathlib.Core.List.{List, [], _∷_, _++_, map}
 use lib.ListN.{length, getD}
-use lib.Dec.{T}
-use Rattle.link.specs.Words.{if_then_else_, isEmpty, areBytes}
+use lib.Dec.{T, eqb}
+use Rattle.link.specs.Words.{if_then_else_, isEmpty, every, areBytes}
 use Rattle.link.specs.declared.record.Link.{Link}
 use Rattle.link.specs.Frame.{acknowledgement, dataFrame, longestMessage}
-use Rattle.link.specs.Record.{Line, hostControl, serverControl, inRange}
+use Rattle.link.specs.Record.{Line, lineOf, linkOf, hostControl, serverControl, inRange}
+use Rattle.link.specs.Rules.{cleared}
 use Rattle.link.specs.Delivery.{Delivery, sound, isSound, arrives, Possible}
 use Rattle.services.specs.Table.{Tables, wellFormed}
 use Rattle.services.specs.Service.{carriedOut}
@@ -104,6 +105,15 @@ unfoldable pub draws : List ℕ → List Delivery → List (List ℕ)
 draws answer [] = []
 draws answer (d ∷ ds) = (if isSound d then acknowledgement ++ answer else []) ∷ draws (if isSound d then [] else answer) ds
 
+-- "A damaged frame may begin with E5 [..]. It can then act as the acknowledgement of an outstanding frame and, if its message begins F0, does no more.":
+-- the link record k′ is k, or k with its outstanding frame acknowledged
+pub data Rest (k k′ : Link) : Type 0 where
+  same : k′ ≡ k → Rest k k′
+  acknowledged : isEmpty (lineOf k .outstanding) ≡ false → k′ ≡ linkOf (cleared (not (k .send)) (lineOf k)) → Rest k k′
+
+unfoldable pub noneBeginsE5 : List ℕ → List Delivery → Bool
+noneBeginsE5 f ds = every (λ (d : Delivery). not (eqb (getD (arrives f d) 0 0) 0xE5)) ds
+
 pub record Once (lent : ℕ → ℕ → Lent) (m : List ℕ) (ds : List Delivery) (t : Tables) (k : Link) : Type 0 where
   -- "exactly when one sound delivery would send it": what that sends, and what it does to the tables
   pub alone : delivery (lent 0) (requestFrame k m) sound t k .sent ≡ acknowledgement ++ answerFrame t k m
@@ -113,6 +123,9 @@ pub record Once (lent : ℕ → ℕ → Lent) (m : List ℕ) (ds : List Delivery
   -- "Then the tables and the expected bit are those after one sound delivery."
   pub tables : session lent (requestFrame k m) ds t k .tables ≡ delivery (lent 0) (requestFrame k m) sound t k .tables
   pub expected : session lent (requestFrame k m) ds t k .link .expected ≡ delivery (lent 0) (requestFrame k m) sound t k .link .expected
+  -- what the demand leaves open: the rest of the link record
+  pub rest : Rest (delivery (lent 0) (requestFrame k m) sound t k .link) (session lent (requestFrame k m) ds t k .link)
+  pub undisturbed : T (noneBeginsE5 (requestFrame k m) ds) → session lent (requestFrame k m) ds t k .link ≡ delivery (lent 0) (requestFrame k m) sound t k .link
 
 abbrev pub Demand3 : Type 0
 Demand3 =
