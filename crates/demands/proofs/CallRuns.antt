@@ -1,20 +1,19 @@
 -- Calls of host bytes and an idle mark: from tables, link record and room that no call refuses none is refused, and they do what the events do in turn.
 use Prim.Native.Nat.{ℕ, suc, _≤_}
-use mathlib.Core.Path.{_≡_, refl, sym, _∙_, ap}
-use mathlib.Core.Bool.{Bool, true, false}
-use mathlib.Core.List.{List, [], _∷_, _++_, map, append-nil}
-use lib.ListN.{length, take, drop}
+use mathlib.Core.Path.{_≡_, refl, _∙_, ap}
+use mathlib.Core.List.{List, [], _∷_, _++_, map}
+use lib.ListN.{length, drop}
 use lib.Seq.{take-append-seam}
 use lib.Dec.{T}
 use Rattle.link.specs.declared.record.Link.{Link}
-use Rattle.link.specs.Record.{Line, lineOf, linkOf, lineOk, inRange}
+use Rattle.link.specs.Record.{Line, linkOf, lineOk, inRange}
 use Rattle.link.proofs.WordLaws.{T-true}
 use Rattle.link.proofs.RecordLaws.{lineOf-linkOf, line-in-range}
 use Rattle.services.specs.Table.{Tables, wellFormed}
 use Rattle.server.specs.declared.event.Event.{Event}
 use Rattle.server.specs.declared.event.Event.the-variants.{HostByte, IdleMark}
 use Rattle.server.specs.Event.{busOk}
-use Rattle.server.specs.Call.{Done, quiet, happens, refusal, Called, accepted, call}
+use Rattle.server.specs.Call.{Done, happens, accepted, call}
 use Rattle.server.proofs.CallLaws.{refusal-0, InOrder, happens-lasts}
 use Rattle.demands.specs.Run.{Ran, sentOf, before, run}
 use Rattle.demands.specs.Session.{following, inTurn, Lent, calls, thenIdle}

@@ -1,15 +1,13 @@
 -- Demand 1, as far as the definitions say it.
-use Prim.Native.Nat.{ℕ, _≤_, _<_}
+use Prim.Native.Nat.{ℕ, _≤_}
 use mathlib.Core.Path.{_≡_, refl, sym, _∙_, ap}
 use mathlib.Core.Logic.{_≢_}
 use mathlib.Core.Bool.{Bool, true, false}
-use mathlib.Core.List.{List, [], _∷_}
+use mathlib.Core.List.{List}
 use native.Mathlib.Omega.{arith}
 use native.Mathlib.Decide.{ℕ-discrete}
 use lib.ListN.{length}
-use lib.Dec.{ltb, eqb}
-use borrow.Author.Tests.{ltb-true}
-use Rattle.link.specs.Words.{if_then_else_}
+use lib.Dec.{ltb}
 use Rattle.link.specs.declared.record.Link.{Link}
 use Rattle.link.specs.Record.{lineOf, inRange}
 use Rattle.services.specs.Table.{Tables, wellFormed}
@@ -20,7 +18,7 @@ use Rattle.server.specs.Event.{busOk}
 use Rattle.server.specs.Reply.{replyNumbers}
 use Rattle.server.specs.Call.{happens, refusal, Called, accepted, call}
 use Rattle.server.proofs.CallLaws.{refusal-0, refusal-1, refusal-2, refusal-3, refusal-4, refused-leaves}
-use Rattle.demands.specs.Refusals.{Refusals, Demand1}
+use Rattle.demands.specs.Refusals.{Demand1}
 
 -- a reply that is a refusal is no other one, and no acceptance
 refusals-told : (m n : ℕ) → Refused m ≡ Refused n → m ≡ n

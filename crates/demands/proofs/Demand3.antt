@@ -8,7 +8,7 @@ use native.Mathlib.Decide.{ℕ-discrete}
 use lib.ListN.{length, getD, take}
 use lib.Dec.{T, ltb, eqb}
 use borrow.Author.Tests.{le-ltb, eq-eqb}
-use Rattle.link.specs.Words.{if_then_else_, isEmpty, areBytes}
+use Rattle.link.specs.Words.{if_then_else_, isEmpty}
 use Rattle.link.specs.declared.record.Link.{Link}
 use Rattle.link.specs.Frame.{acknowledgement, longestMessage, dataFrame}
 use Rattle.link.specs.Record.{Line, lineOf, linkOf, hostControl, serverControl, memoryOk, lineOk, inRange}
@@ -23,7 +23,6 @@ use Rattle.services.specs.Table.{Tables, wellFormed}
 use Rattle.services.specs.Service.{carriedOut}
 use Rattle.services.proofs.AnswerLaws.{Sized, none, some, answer-sized}
 use Rattle.server.specs.Call.{Done, saying}
-use Rattle.server.proofs.CallLaws.{InOrder}
 use Rattle.demands.specs.Run.{Ran}
 use Rattle.demands.specs.Session.{inTurn, Lent, thenIdle, delivery, Session, session, Start, Request, requestFrame, EachPossible, someSound, answerFrame, draws, Rest, same, acknowledged, noneBeginsE5, Once, Demand3}
 use Rattle.demands.proofs.SessionLaws.{noMessage, thenMarked, delivery-leaves, request-carried}

@@ -1,18 +1,17 @@
 -- Demand 3 says something: its premises hold at example 1, for a session with damaged deliveries before, between and after two sound ones.
-use Prim.Native.Nat.{ℕ, suc, _≤_}
-use mathlib.Core.Path.{_≡_, refl, sym, _∙_, ap}
-use mathlib.Core.Bool.{Bool, true, false}
-use mathlib.Core.List.{List, [], _∷_, _++_}
+use Prim.Native.Nat.{ℕ}
+use mathlib.Core.Path.{_≡_, refl, _∙_}
+use mathlib.Core.Bool.{true}
+use mathlib.Core.List.{List, [], _∷_}
 use native.Mathlib.Omega.{arith}
-use lib.ListN.{length, getD, replicate}
-use lib.Dec.{T}
+use lib.ListN.{replicate}
+use lib.Dec.{T, eqb}
 use Rattle.link.specs.declared.record.Link.{Link}
-use Rattle.link.specs.Record.{linkOf, lineOk}
-use Rattle.link.specs.Delivery.{Delivery, sound, changed, lost, isSound}
+use Rattle.link.specs.Record.{linkOf}
+use Rattle.link.specs.Delivery.{Delivery, sound, changed, lost, isSound, arrives}
 use Rattle.link.proofs.RecordLaws.{line-in-range}
-use Rattle.services.specs.Table.{Tables, wellFormed}
 use Rattle.demands.specs.Example.{lineAt, item1, answer1}
-use Rattle.demands.specs.Session.{Lent, session, Start, Request, requestFrame, EachPossible, someSound, answerFrame, draws, Once}
+use Rattle.demands.specs.Session.{Lent, calls, thenIdle, delivery, session, Start, Request, requestFrame, EachPossible, someSound, answerFrame, draws, Once}
 use Rattle.demands.proofs.Opened.{opened}
 use Rattle.demands.proofs.Demand3.{demand-3}
 
@@ -62,3 +61,8 @@ met-sent = met .drawn ∙ says
   where
     says : draws (answerFrame item1 link request) deliveries ≡ [] ∷ (0xE5 ∷ answer1) ∷ [] ∷ (0xE5 ∷ []) ∷ [] ∷ [] ∷ []
     says = unfold opened answerFrame link lineAt request item1 answer1 draws isSound deliveries in refl
+
+-- and the exception is met too: the answer is outstanding after one sound delivery, and no more after the last of these, whose first byte is E5
+pub met-acknowledged : T (eqb (delivery (lent 0) (requestFrame link request) sound item1 link .link .held) 22) × T (eqb (session lent (requestFrame link request) deliveries item1 link .link .held) 0)
+unfolding opened lent link lineAt request item1 requestFrame deliveries arrives thenIdle calls delivery session
+met-acknowledged = (tt, tt)

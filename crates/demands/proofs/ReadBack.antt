@@ -1,20 +1,18 @@
 -- Each data frame that is sent reads back to its one message and count bit.
-use Prim.Native.Nat.{ℕ, suc, _+_, _≤_}
+use Prim.Native.Nat.{ℕ, _+_, _≤_}
 use mathlib.Core.Path.{_≡_, refl, sym, _∙_, ap, subst}
-use mathlib.Core.Bool.{Bool, true, false, not, _&&_, _||_}
-use mathlib.Core.List.{List, [], _∷_, _++_, append-nil}
-use lib.ListN.{length, take, drop}
+use mathlib.Core.Bool.{Bool, true, false, not}
+use mathlib.Core.List.{List, [], _++_}
+use lib.ListN.{length, drop}
 use lib.Seq.{take-append-seam}
-use lib.Dec.{T, ltb, eqb}
+use lib.Dec.{T, ltb}
 use borrow.Author.Tests.{ltb-false}
-use Rattle.link.specs.Words.{if_then_else_, isEmpty}
-use Rattle.link.specs.declared.record.Link.{Link}
+use Rattle.link.specs.Words.{isEmpty}
 use Rattle.link.specs.declared.rules.Heard.{Heard}
 use Rattle.link.specs.declared.rules.Heard.the-variants.{Gathered, Dropped, Ignored, Acknowledged, Reset, Repeat, Request}
-use Rattle.link.specs.Frame.{acknowledgement, fixedFrame, Whole, dataFrame}
-use Rattle.link.specs.Record.{Line, lineOf, linkOf, serverControl, memoryOk, lineOk, inRange, holds-nothing, holds-frame, OutstandingInRange}
-use Rattle.link.specs.Rules.{Moved, holding, cleared, heardAt, onHeard, onHostByte, onIdleMark, onAckWaitOver, onMessage}
-use Rattle.link.specs.Delivery.{ReadsAs}
+use Rattle.link.specs.Frame.{acknowledgement, dataFrame}
+use Rattle.link.specs.Record.{Line, lineOf, serverControl, memoryOk, lineOk, inRange, holds-nothing, holds-frame, OutstandingInRange}
+use Rattle.link.specs.Rules.{Moved, holding, heardAt, onHeard, onHostByte, onIdleMark, onAckWaitOver, onMessage}
 use Rattle.link.proofs.WordLaws.{right}
 use Rattle.link.proofs.RecordLaws.{lineOf-linkOf, outstanding-decided}
 use Rattle.link.proofs.RulesLaws.{outstanding-of}
@@ -25,7 +23,7 @@ use Rattle.services.specs.Service.{carriedOut}
 use Rattle.services.specs.Indication.{indication}
 use Rattle.server.specs.declared.event.Event.{Event}
 use Rattle.server.specs.declared.event.Event.the-variants.{HostByte, IdleMark, AckWaitOver, Poll, BusValue, TransmissionOutcome}
-use Rattle.server.specs.Call.{Done, quiet, saying, handedUp, onMoved, onPoll, happens, refusal, accepted, call}
+use Rattle.server.specs.Call.{saying, handedUp, onMoved, onPoll, happens, accepted, call}
 use Rattle.server.proofs.CallLaws.{not-refused}
 use Rattle.demands.specs.Run.{sentOf}
 use Rattle.demands.specs.SentFrames.{ReadsBack, Sends, nothing, acknowledges, resets, frames, answers, SentFramesRead}

@@ -1,17 +1,17 @@
 -- From what the link hears in host bytes to what the server does on them: unless the link hands up a message the tables stay, and a sound frame's one
 -- message is carried out.
-use Prim.Native.Nat.{ℕ, suc, _≤_}
+use Prim.Native.Nat.{ℕ, _≤_}
 use mathlib.Core.Path.{_≡_, refl, sym, _∙_, ap}
 use mathlib.Core.Bool.{Bool, true, false, not}
 use mathlib.Core.List.{List, [], _∷_, _++_, map, map-append, append-assoc, append-nil}
 use lib.ListN.{length}
 use lib.Dec.{T}
-use Rattle.link.specs.Words.{if_then_else_, isEmpty}
+use Rattle.link.specs.Words.{isEmpty}
 use Rattle.link.specs.Frame.{acknowledgement, dataFrame}
 use Rattle.link.specs.Receiver.{isBeginning}
 use Rattle.link.specs.Record.{Line, hostControl}
-use Rattle.link.specs.Rules.{Up, nothing, acknowledged, reset, message, Moved, atStart, gathering, expecting, onHostByte, onIdleMark, onMessage}
-use Rattle.link.specs.Delivery.{Run, ReadsAs, told, run, delivered}
+use Rattle.link.specs.Rules.{Up, nothing, acknowledged, reset, message, atStart, gathering, expecting, onHostByte, onIdleMark}
+use Rattle.link.specs.Delivery.{Run, told, run, delivered}
 use Rattle.link.proofs.WordLaws.{true-T}
 use Rattle.link.proofs.HearingLaws.{beginning-runs, frame-reads, request-heard}
 use Rattle.services.specs.Table.{Tables}

@@ -2,7 +2,7 @@
 -- refusal changes no byte of anything lent." (That no event faults or fails to end is proved of the functions.)
 use Prim.Native.Nat.{ℕ, _≤_, _<_}
 use mathlib.Core.Path.{_≡_}
-use mathlib.Core.Bool.{Bool, true, false}
+use mathlib.Core.Bool.{true, false}
 use mathlib.Core.List.{List}
 use lib.ListN.{length}
 use Rattle.link.specs.declared.record.Link.{Link}
@@ -11,7 +11,7 @@ use Rattle.services.specs.Table.{Tables, wellFormed}
 use Rattle.server.specs.declared.event.Event.{Event}
 use Rattle.server.specs.declared.reply.Reply.the-variants.{Refused, Accepted}
 use Rattle.server.specs.Event.{busOk}
-use Rattle.server.specs.Call.{happens, Called, call}
+use Rattle.server.specs.Call.{happens, call}
 
 pub record Refusals (e : Event) (v : List ℕ) (t : Tables) (k : Link) (out : List ℕ) : Type 0 where
   -- one of these five is met; "Several at once: the lowest number"

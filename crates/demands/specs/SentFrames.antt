@@ -10,7 +10,7 @@ use Rattle.link.specs.Record.{Line, lineOf, serverControl}
 use Rattle.link.specs.Delivery.{ReadsAs}
 use Rattle.services.specs.Table.{Tables}
 use Rattle.server.specs.declared.event.Event.{Event}
-use Rattle.server.specs.Call.{refusal, Called, call}
+use Rattle.server.specs.Call.{refusal, call}
 use Rattle.demands.specs.Run.{sentOf}
 
 -- the frame f reads as a message under this count bit, and as nothing else
