@@ -31,6 +31,7 @@ wantedD = structD W.the-type W′.the-laws W′.the-plain (λ x f. refl)
 
 abbrev pub gatheredD : Data
 gatheredD = structD G.the-type G′.the-laws G′.the-plain (λ x f. refl)
+
 abbrev pub verdictD : Data
 verdictD = structD Judged.the-type Judged′.the-laws Judged′.the-plain (λ x f. refl)
 
