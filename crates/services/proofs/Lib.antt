@@ -10,6 +10,8 @@ pub mod SetLaws
 pub mod EntriesLaws
 pub mod MeasureLaws
 pub mod Types
+pub mod Pairs
+pub mod LeftLaws
 pub mod RisenLaws
 pub mod PlaceLaws
 pub mod GetLaws

@@ -62,3 +62,7 @@ item-offset-fits n i g l = omega (arith, g, l)
 
 pub fits-next : (i n : ℕ) → n < 2 ^ 64 → i < n → i + 1 < 2 ^ 64
 fits-next i n g l = omega (arith, g, l)
+
+-- no fault
+pub zero-verdict : Good verdictD (record { id = 0; code = 0 })
+zero-verdict = LL.owes Judged.the-type Judged′.the-laws (record { id = 0; code = 0 }) ((refl, lit< tt), ((refl, lit< tt), tt))

@@ -9,7 +9,7 @@ ghost use Rattle.link.specs.Words.{if_then_else_, ofTwoBytes};
 ghost use Rattle.services.specs.Datapoint.{datapointId};
 ghost use Rattle.services.specs.Item.{itemId};
 ghost use Rattle.services.specs.Table.{found, changed, rising};
-ghost use Rattle.services.specs.Set.{fills, span, firstDatapointEntry, firstItemEntry, judgedDatapoint, judgedItem, setDatapoint, setItem};
+ghost use Rattle.services.specs.Set.{fills, span, firstDatapointEntry, firstItemEntry, judgedDatapoint, judgedItem, setDatapoint, setItem, setEntries, firstBad, applied, verdictOf, allShort};
 use crate::datapoint::Datapoint;
 use crate::datapoint::command;
 use crate::datapoint::entry_code;
@@ -185,4 +185,74 @@ pub fn apply_item(table: &mut [Item], s: &[u8], at: usize)
     let i = item_at(table, place);
     let c = item_set_at(s, at, i);
     put_item_at(table, place, c);
+}
+
+// The entries judged one after the other: the first bad one decides.
+pub fn judge_datapoints(table: &[Datapoint], s: &[u8], n: u16) -> Verdict
+    requires { ⌜ (length (now table) ≤ 1000) × (rising 0 (map datapointId (now table)) ≡ true) × (fills 4 n (now s) ≡ true) ⌝ }
+    ensures { λ r. ⌜ r ≡ verdictOf (firstBad (λ e. judgedDatapoint (found datapointId (e .id) (now (table .entry))) e) (setEntries firstDatapointEntry 4 n (now (s .entry)))) ⌝ }
+{
+    let mut at: usize = 0;
+    let mut left = n;
+    while 0 < left {
+        let code = judge_datapoint(table, s, at);
+        if code != 0 {
+            let v = verdict_at(s, at, code);
+            return v;
+        }
+        let end = entry_end(s, at, 4);
+        at = end;
+        left -= 1;
+    }
+    Verdict { id: 0, code: 0 }
+}
+
+// The entries applied in order.
+pub fn apply_datapoints(table: &mut [Datapoint], s: &[u8], n: u16)
+    requires { ⌜ (length (now table) ≤ 1000) × (rising 0 (map datapointId (now table)) ≡ true) × (fills 4 n (now s) ≡ true) × (allShort 14 (setEntries firstDatapointEntry 4 n (now s)) ≡ true) ⌝ }
+    ensures { λ _. ⌜ now (table .exit) ≡ applied datapointId setDatapoint (setEntries firstDatapointEntry 4 n (now (s .entry))) (now (table .entry)) ⌝ }
+{
+    let mut at: usize = 0;
+    let mut left = n;
+    while 0 < left {
+        apply_datapoint(table, s, at);
+        let end = entry_end(s, at, 4);
+        at = end;
+        left -= 1;
+    }
+}
+
+// The entries of items judged one after the other: the first bad one decides.
+pub fn judge_items(table: &[Item], s: &[u8], n: u16) -> Verdict
+    requires { ⌜ (length (now table) ≤ 64) × (rising 0 (map itemId (now table)) ≡ true) × (fills 3 n (now s) ≡ true) ⌝ }
+    ensures { λ r. ⌜ r ≡ verdictOf (firstBad (λ e. judgedItem (found itemId (e .id) (now (table .entry))) e) (setEntries firstItemEntry 3 n (now (s .entry)))) ⌝ }
+{
+    let mut at: usize = 0;
+    let mut left = n;
+    while 0 < left {
+        let code = judge_item(table, s, at);
+        if code != 0 {
+            let v = verdict_at(s, at, code);
+            return v;
+        }
+        let end = entry_end(s, at, 3);
+        at = end;
+        left -= 1;
+    }
+    Verdict { id: 0, code: 0 }
+}
+
+// The entries of items applied in order.
+pub fn apply_items(table: &mut [Item], s: &[u8], n: u16)
+    requires { ⌜ (length (now table) ≤ 64) × (rising 0 (map itemId (now table)) ≡ true) × (fills 3 n (now s) ≡ true) × (allShort 16 (setEntries firstItemEntry 3 n (now s)) ≡ true) ⌝ }
+    ensures { λ _. ⌜ now (table .exit) ≡ applied itemId setItem (setEntries firstItemEntry 3 n (now (s .entry))) (now (table .entry)) ⌝ }
+{
+    let mut at: usize = 0;
+    let mut left = n;
+    while 0 < left {
+        apply_item(table, s, at);
+        let end = entry_end(s, at, 3);
+        at = end;
+        left -= 1;
+    }
 }
