@@ -13,9 +13,9 @@ use Rattle.services.specs.declared.datapoint.Datapoint.{Datapoint}
 use Rattle.services.specs.declared.item.Item.{Item}
 use Rattle.services.specs.Datapoint.{datapointId}
 use Rattle.services.specs.Item.{itemId, withBytes}
-use Rattle.services.specs.Message.{Finding, bad}
+use Rattle.services.specs.Message.{Finding, bad, verdictOf}
 use Rattle.services.specs.Table.{changed}
-use Rattle.services.specs.Set.{SetEntry, span, fills, setEntries, firstBad, applied, verdictOf, allShort, setDatapoint, setItem}
+use Rattle.services.specs.Set.{SetEntry, span, fills, setEntries, firstBad, applied, allShort, setDatapoint, setItem}
 use Rattle.services.proofs.SetLaws.{span-head}
 use Rattle.services.proofs.DatapointLaws as DatapointLaws
 

@@ -16,8 +16,8 @@ use Rattle.services.proofs.gather.Wanted as W
 use Rattle.services.proofs.gather.Wanted.Laws as W′
 use Rattle.services.proofs.gather.Gathered as G
 use Rattle.services.proofs.gather.Gathered.Laws as G′
-use Rattle.services.proofs.set.Verdict as Judged
-use Rattle.services.proofs.set.Verdict.Laws as Judged′
+use Rattle.services.proofs.message.Verdict as Judged
+use Rattle.services.proofs.message.Verdict.Laws as Judged′
 use Rattle.walks.proofs.Data.{Data, Good, structD, uintD}
 
 abbrev pub datapointD : Data

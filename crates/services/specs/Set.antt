@@ -7,7 +7,6 @@ use lib.Dec.{leb, ltb, eqb}
 use Rattle.link.specs.Words.{if_then_else_, ofTwoBytes, isEmpty, every}
 use Rattle.services.specs.declared.datapoint.Datapoint.{Datapoint}
 use Rattle.services.specs.declared.item.Item.{Item}
-use Rattle.services.specs.declared.set.Verdict.{Verdict}
 use Rattle.services.specs.Datapoint.{datapointId, sizeOf, unusedBitsOk, commanded}
 use Rattle.services.specs.Item.{itemId, withBytes}
 use Rattle.services.specs.Table.{Tables, found, changed}
@@ -104,11 +103,6 @@ unfoldable pub setDatapointValue : Tables → List ℕ → Served
 setDatapointValue t m =
     setting 4 firstDatapointEntry (λ e. judgedDatapoint (found datapointId (e .id) (t .datapoints)) e)
     (λ es. record { datapoints = applied datapointId setDatapoint es (t .datapoints); items = t .items; parameters = t .parameters }) t m
-
--- what a walk over a set's entries answers: {0, 0} where nothing is wrong, else the ID and the code of the first bad entry
-unfoldable pub verdictOf : Finding → Verdict
-verdictOf fine = record { id = 0; code = 0 }
-verdictOf (bad id code) = record { id = id; code = code }
 
 -- no entry has more bytes of value than a record has room for
 unfoldable pub allShort : ℕ → List SetEntry → Bool

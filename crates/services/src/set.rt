@@ -9,25 +9,21 @@ ghost use Rattle.link.specs.Words.{if_then_else_, ofTwoBytes};
 ghost use Rattle.services.specs.Datapoint.{datapointId};
 ghost use Rattle.services.specs.Item.{itemId};
 ghost use Rattle.services.specs.Table.{found, changed, rising};
-ghost use Rattle.services.specs.Set.{fills, span, firstDatapointEntry, firstItemEntry, judgedDatapoint, judgedItem, setDatapoint, setItem, setEntries, firstBad, applied, verdictOf, allShort};
+ghost use Rattle.services.specs.Message.{verdictOf};
+ghost use Rattle.services.specs.Set.{fills, span, firstDatapointEntry, firstItemEntry, judgedDatapoint, judgedItem, setDatapoint, setItem, setEntries, firstBad, applied, allShort};
 use crate::datapoint::Datapoint;
 use crate::datapoint::command;
 use crate::datapoint::entry_code;
 use crate::item::Item;
 use crate::item::item_code;
 use crate::item::with_bytes;
+use crate::message::Verdict;
 use crate::table::datapoint_at;
 use crate::table::datapoint_place;
 use crate::table::item_at;
 use crate::table::item_place;
 use crate::table::put_datapoint_at;
 use crate::table::put_item_at;
-
-// What is found of a set's entries: the ID and the code of the first bad one, 0 and 0 where there is none.
-pub struct Verdict {
-    pub id: u16,
-    pub code: u8,
-}
 
 // Whether n entries with heads of so many bytes fill the bytes exactly.
 pub fn is_filled(s: &[u8], head: usize, n: u16) -> bool
@@ -187,20 +183,20 @@ pub fn apply_item(table: &mut [Item], s: &[u8], at: usize)
     put_item_at(table, place, c);
 }
 
-// The entries judged one after the other: the first bad one decides.
-pub fn judge_datapoints(table: &[Datapoint], s: &[u8], n: u16) -> Verdict
-    requires { ⌜ (length (now table) ≤ 1000) × (rising 0 (map datapointId (now table)) ≡ true) × (fills 4 n (now s) ≡ true) ⌝ }
-    ensures { λ r. ⌜ r ≡ verdictOf (firstBad (λ e. judgedDatapoint (found datapointId (e .id) (now (table .entry))) e) (setEntries firstDatapointEntry 4 n (now (s .entry)))) ⌝ }
+// The entries of a request judged one after the other: the first bad one decides.
+pub fn judge_datapoints(table: &[Datapoint], m: &[u8], n: u16) -> Verdict
+    requires { ⌜ (length (now table) ≤ 1000) × (rising 0 (map datapointId (now table)) ≡ true) × (fills 4 n (drop 6 (now m)) ≡ true) ⌝ }
+    ensures { λ r. ⌜ r ≡ verdictOf (firstBad (λ e. judgedDatapoint (found datapointId (e .id) (now (table .entry))) e) (setEntries firstDatapointEntry 4 n (drop 6 (now (m .entry))))) ⌝ }
 {
-    let mut at: usize = 0;
+    let mut at: usize = 6;
     let mut left = n;
     while 0 < left {
-        let code = judge_datapoint(table, s, at);
+        let code = judge_datapoint(table, m, at);
         if code != 0 {
-            let v = verdict_at(s, at, code);
+            let v = verdict_at(m, at, code);
             return v;
         }
-        let end = entry_end(s, at, 4);
+        let end = entry_end(m, at, 4);
         at = end;
         left -= 1;
     }
@@ -208,34 +204,34 @@ pub fn judge_datapoints(table: &[Datapoint], s: &[u8], n: u16) -> Verdict
 }
 
 // The entries applied in order.
-pub fn apply_datapoints(table: &mut [Datapoint], s: &[u8], n: u16)
-    requires { ⌜ (length (now table) ≤ 1000) × (rising 0 (map datapointId (now table)) ≡ true) × (fills 4 n (now s) ≡ true) × (allShort 14 (setEntries firstDatapointEntry 4 n (now s)) ≡ true) ⌝ }
-    ensures { λ _. ⌜ now (table .exit) ≡ applied datapointId setDatapoint (setEntries firstDatapointEntry 4 n (now (s .entry))) (now (table .entry)) ⌝ }
+pub fn apply_datapoints(table: &mut [Datapoint], m: &[u8], n: u16)
+    requires { ⌜ (length (now table) ≤ 1000) × (rising 0 (map datapointId (now table)) ≡ true) × (fills 4 n (drop 6 (now m)) ≡ true) × (allShort 14 (setEntries firstDatapointEntry 4 n (drop 6 (now m))) ≡ true) ⌝ }
+    ensures { λ _. ⌜ now (table .exit) ≡ applied datapointId setDatapoint (setEntries firstDatapointEntry 4 n (drop 6 (now (m .entry)))) (now (table .entry)) ⌝ }
 {
-    let mut at: usize = 0;
+    let mut at: usize = 6;
     let mut left = n;
     while 0 < left {
-        apply_datapoint(table, s, at);
-        let end = entry_end(s, at, 4);
+        apply_datapoint(table, m, at);
+        let end = entry_end(m, at, 4);
         at = end;
         left -= 1;
     }
 }
 
 // The entries of items judged one after the other: the first bad one decides.
-pub fn judge_items(table: &[Item], s: &[u8], n: u16) -> Verdict
-    requires { ⌜ (length (now table) ≤ 64) × (rising 0 (map itemId (now table)) ≡ true) × (fills 3 n (now s) ≡ true) ⌝ }
-    ensures { λ r. ⌜ r ≡ verdictOf (firstBad (λ e. judgedItem (found itemId (e .id) (now (table .entry))) e) (setEntries firstItemEntry 3 n (now (s .entry)))) ⌝ }
+pub fn judge_items(table: &[Item], m: &[u8], n: u16) -> Verdict
+    requires { ⌜ (length (now table) ≤ 64) × (rising 0 (map itemId (now table)) ≡ true) × (fills 3 n (drop 6 (now m)) ≡ true) ⌝ }
+    ensures { λ r. ⌜ r ≡ verdictOf (firstBad (λ e. judgedItem (found itemId (e .id) (now (table .entry))) e) (setEntries firstItemEntry 3 n (drop 6 (now (m .entry))))) ⌝ }
 {
-    let mut at: usize = 0;
+    let mut at: usize = 6;
     let mut left = n;
     while 0 < left {
-        let code = judge_item(table, s, at);
+        let code = judge_item(table, m, at);
         if code != 0 {
-            let v = verdict_at(s, at, code);
+            let v = verdict_at(m, at, code);
             return v;
         }
-        let end = entry_end(s, at, 3);
+        let end = entry_end(m, at, 3);
         at = end;
         left -= 1;
     }
@@ -243,15 +239,15 @@ pub fn judge_items(table: &[Item], s: &[u8], n: u16) -> Verdict
 }
 
 // The entries of items applied in order.
-pub fn apply_items(table: &mut [Item], s: &[u8], n: u16)
-    requires { ⌜ (length (now table) ≤ 64) × (rising 0 (map itemId (now table)) ≡ true) × (fills 3 n (now s) ≡ true) × (allShort 16 (setEntries firstItemEntry 3 n (now s)) ≡ true) ⌝ }
-    ensures { λ _. ⌜ now (table .exit) ≡ applied itemId setItem (setEntries firstItemEntry 3 n (now (s .entry))) (now (table .entry)) ⌝ }
+pub fn apply_items(table: &mut [Item], m: &[u8], n: u16)
+    requires { ⌜ (length (now table) ≤ 64) × (rising 0 (map itemId (now table)) ≡ true) × (fills 3 n (drop 6 (now m)) ≡ true) × (allShort 16 (setEntries firstItemEntry 3 n (drop 6 (now m))) ≡ true) ⌝ }
+    ensures { λ _. ⌜ now (table .exit) ≡ applied itemId setItem (setEntries firstItemEntry 3 n (drop 6 (now (m .entry)))) (now (table .entry)) ⌝ }
 {
-    let mut at: usize = 0;
+    let mut at: usize = 6;
     let mut left = n;
     while 0 < left {
-        apply_item(table, s, at);
-        let end = entry_end(s, at, 3);
+        apply_item(table, m, at);
+        let end = entry_end(m, at, 3);
         at = end;
         left -= 1;
     }

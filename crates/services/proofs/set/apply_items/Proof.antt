@@ -73,7 +73,7 @@ module _ {M : Type 1} (𝓤 : URA M) (H : Heap 𝓤) (A : Atoms 𝓤) (W : Given
     (known-apply-item : Triple 𝓤 (𝓣 .C #services·set·apply-item) (C-apply-item 𝓤 H A mem run))
     (known-entry-end : Triple 𝓤 (𝓣 .C #services·set·entry-end) (C-entry-end 𝓤 H A mem run))
     (κ0 κ1 : Lft) (q0 q1 : Share) (table : RefT (List Item)) (s : RefT (List ℕ)) (n : ℕ) (table-room : Room (itemD .row) (length (table .now))) (s-room : Room (byteD .row) (length (s .now))) (n-ok : Good idD n)
-    (ok : (length (table .now) ≤ 64) × (rising 0 (map itemId (table .now)) ≡ true) × (fills 3 n (s .now) ≡ true) × (allShort 16 (setEntries firstItemEntry 3 n (s .now)) ≡ true)) where
+    (ok : (length (table .now) ≤ 64) × (rising 0 (map itemId (table .now)) ≡ true) × (fills 3 n (drop 6 (s .now)) ≡ true) × (allShort 16 (setEntries firstItemEntry 3 n (drop 6 (s .now))) ≡ true)) where
   abbrev x : RefT (List Item) × (RefT (List ℕ) × (ℕ × Unit {0}))
   x = (table, (s, (n, tt)))
 
@@ -85,7 +85,7 @@ module _ {M : Type 1} (𝓤 : URA M) (H : Heap 𝓤) (A : Atoms 𝓤) (W : Given
 
   -- the table as the entries leave it
   abbrev last : List Item
-  last = applied itemId setItem (setEntries firstItemEntry 3 n bytes) ys
+  last = applied itemId setItem (setEntries firstItemEntry 3 n (drop 6 bytes)) ys
 
   abbrev Done : Val → SProp 𝓤
   Done = Ends 2 𝓤 H A W ps unitD (f.clauses 𝓤 H A mem run) (κ0, (κ1, tt)) (q0, (q1, tt)) x tt
@@ -193,7 +193,7 @@ module _ {M : Type 1} (𝓤 : URA M) (H : Heap 𝓤) (A : Atoms 𝓤) (W : Given
         falls m = omega (arith, m)
 
     abbrev start : State
-    start = (0, n, ys, (omega arith, omega arith, ok .2, ok .3, refl, ok .1, refl))
+    start = (6, n, ys, (omega arith, omega arith, ok .2, ok .3, refl, ok .1, refl))
 
     begins : Sq W (Inv start) (runs (𝓣 .C) (𝓣 .Λ) En part.t-3 (atRet En Done))
     begins = first ! $ blocks ! $ loops ! 𝓣 ≺ (by-measure (λ (st : State). st .1)) Inv turn start

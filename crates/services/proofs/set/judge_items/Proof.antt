@@ -36,16 +36,16 @@ use denote.Triple.Statement.{Contract, Triple}
 use denote.Triple.Table.{entered, cited}
 use denote.Triple.Walked.{needs}
 use Rattle.services.specs.declared.item.Item.{Item}
-use Rattle.services.specs.declared.set.Verdict.{Verdict}
+use Rattle.services.specs.declared.message.Verdict.{Verdict}
 use Rattle.services.specs.Item.{itemId}
 use Rattle.services.specs.Table.{found, rising}
-use Rattle.services.specs.Set.{SetEntry, span, fills, setEntries, firstBad, verdictOf, firstItemEntry, judgedItem}
+use Rattle.services.specs.Set.{SetEntry, span, fills, setEntries, firstBad, firstItemEntry, judgedItem}
 use Rattle.services.proofs.Types.{itemD, byteD, idD, placeD, verdictD}
 use Rattle.services.proofs.SetLaws.{span-head}
 use Rattle.services.proofs.Pairs.{calls-shrS-shrS}
 use Rattle.services.proofs.EntriesLaws.{item-entry-id}
 use Rattle.services.proofs.LeftLaws.{fills-next, judged-bad, judged-fine, judged-all}
-use Rattle.services.specs.Message.{Finding}
+use Rattle.services.specs.Message.{Finding, verdictOf}
 use Rattle.services.proofs.Types.{zero-verdict}
 use Rattle.services.proofs.set.judge_item as judge-item
 use Rattle.services.proofs.set.judge_item.Symbol as judge-item-def
@@ -86,7 +86,7 @@ module _ {M : Type 1} (𝓤 : URA M) (H : Heap 𝓤) (A : Atoms 𝓤) (W : Given
     (known-verdict-at : Triple 𝓤 (𝓣 .C #services·set·verdict-at) (C-verdict-at 𝓤 H A mem run))
     (known-entry-end : Triple 𝓤 (𝓣 .C #services·set·entry-end) (C-entry-end 𝓤 H A mem run))
     (κ0 κ1 : Lft) (q0 q1 : Share) (table : RefT (List Item)) (s : RefT (List ℕ)) (n : ℕ) (table-room : Room (itemD .row) (length (table .now))) (s-room : Room (byteD .row) (length (s .now))) (n-ok : Good idD n)
-    (ok : (length (table .now) ≤ 64) × (rising 0 (map itemId (table .now)) ≡ true) × (fills 3 n (s .now) ≡ true)) where
+    (ok : (length (table .now) ≤ 64) × (rising 0 (map itemId (table .now)) ≡ true) × (fills 3 n (drop 6 (s .now)) ≡ true)) where
   abbrev x : RefT (List Item) × (RefT (List ℕ) × (ℕ × Unit {0}))
   x = (table, (s, (n, tt)))
 
@@ -100,7 +100,7 @@ module _ {M : Type 1} (𝓤 : URA M) (H : Heap 𝓤) (A : Atoms 𝓤) (W : Given
   judge e = judgedItem (found itemId (e .id) ys) e
 
   abbrev finding : Finding
-  finding = firstBad judge (setEntries firstItemEntry 3 n bytes)
+  finding = firstBad judge (setEntries firstItemEntry 3 n (drop 6 bytes))
 
   abbrev verdict : ℕ → ℕ → Verdict
   verdict id code = record { id = id; code = code }
@@ -197,7 +197,7 @@ module _ {M : Type 1} (𝓤 : URA M) (H : Heap 𝓤) (A : Atoms 𝓤) (W : Given
         falls m = omega (arith, m)
 
     abbrev start : State
-    start = (0, n, (omega arith, omega arith, ok .2, refl))
+    start = (6, n, (omega arith, omega arith, ok .2, refl))
 
     begins : Sq W (Inv start) (runs (𝓣 .C) (𝓣 .Λ) En part.t-3 (atRet En Done))
     begins = first ! $ blocks ! $ loops ! 𝓣 ≺ (by-measure (λ (st : State). st .1)) Inv turn start

@@ -1,7 +1,7 @@
 use Prim.Native.Nat.{ℕ}
 use mathlib.Core.Path.{ap}
 use borrow.Author.Needs.{needs}
-use Rattle.services.specs.declared.set.Verdict.{Verdict}
+use Rattle.services.specs.declared.message.Verdict.{Verdict}
 use Rattle.services.proofs.set.verdict_at.Statement.{statement}
 use Rattle.services.proofs.set.verdict_at.Tie as tie
 
