@@ -12,16 +12,11 @@ use Rattle.link.specs.Words.{if_then_else_, every, isEmpty, isPadded, areZero}
 use Rattle.link.proofs.WordLaws.{left, right, true-T, T-true}
 use Rattle.services.specs.declared.datapoint.Datapoint.{Datapoint}
 use Rattle.services.specs.declared.item.Item.{Item}
-use Rattle.services.specs.Datapoint.{datapointId}
-use Rattle.services.specs.Item.{itemId, withBytes}
-use Rattle.services.specs.Message.{Finding, bad, verdictOf}
-use Rattle.services.specs.Table.{changed}
-use Rattle.services.specs.Set.{SetEntry, span, fills, setEntries, firstBad, applied, allShort, setDatapoint, setItem}
+use Rattle.services.specs.Message.{Finding, bad, verdictOf, fine}
+use Rattle.services.specs.Set.{SetEntry, span, fills, setEntries, firstBad, applied, allShort, setDatapoint, setItem, datapointCode, itemCode, judgedDatapoint, judgedItem}
 use Rattle.services.specs.Datapoint.{datapointId, sizeOf, unusedBitsOk}
 use Rattle.services.specs.Item.{itemId, itemOk, withBytes}
-use Rattle.services.specs.Message.{Finding, fine, bad}
 use Rattle.services.specs.Table.{rising, tableOk, found, changed}
-use Rattle.services.specs.Set.{SetEntry, span, fills, setEntries, datapointCode, itemCode, judgedDatapoint, judgedItem, firstBad, applied, verdictOf, allShort, setDatapoint, setItem}
 use Rattle.services.proofs.SetLaws.{span-head}
 use Rattle.services.proofs.DatapointLaws as DatapointLaws
 
@@ -146,11 +141,6 @@ fine-code judge (e ∷ es) z = go (fine-code judge es) (eqb (judge e) 0) refl z
     go : (verdictOf (firstBad judge es) .code ≡ 0 → firstBad judge es ≡ fine) → (y : Bool) → eqb (judge e) 0 ≡ y → verdictOf (if y then firstBad judge es else bad (e .id) (judge e)) .code ≡ 0 → (if y then firstBad judge es else bad (e .id) (judge e)) ≡ fine
     go r true q z = r z
     go r false q z = absurd (true-T (sym q ∙ eq-eqb (judge e) 0 z))
-
-pub bad-code : (f : Finding) → (verdictOf f .code ≡ 0 → ⊥) → f ≡ bad (verdictOf f .id) (verdictOf f .code)
-unfolding verdictOf
-bad-code fine z = absurd (z refl)
-bad-code (bad id code) z = refl
 
 -- ---- where nothing was found, each entry was judged 0
 pub each-fine : (judge : SetEntry → ℕ) (p : SetEntry → Bool) → ((e : SetEntry) → judge e ≡ 0 → T (p e)) → (es : List SetEntry) → firstBad judge es ≡ fine → every p es ≡ true

@@ -19,3 +19,4 @@ pub mod ParameterLaws
 pub mod GatherLaws
 pub mod PassLaws
 pub mod AnsweredLaws
+pub mod SettingLaws

@@ -107,3 +107,10 @@ setDatapointValue t m =
 -- no entry has more bytes of value than a record has room for
 unfoldable pub allShort : ℕ → List SetEntry → Bool
 allShort most es = every (λ e. leb (length (e .value)) most) es
+
+-- Rows 10 and 6, known before any entry is judged.
+unfoldable pub filledFinding : ℕ → List ℕ → Finding
+filledFinding h m =
+    if not (fills h (numberOf m) (drop 6 m)) then bad (startOf m) 10
+    else if eqb (numberOf m) 0 then bad (startOf m) 6
+    else fine

@@ -10,7 +10,7 @@ ghost use Rattle.services.specs.Datapoint.{datapointId};
 ghost use Rattle.services.specs.Item.{itemId};
 ghost use Rattle.services.specs.Table.{found, changed, rising};
 ghost use Rattle.services.specs.Message.{verdictOf};
-ghost use Rattle.services.specs.Set.{fills, span, firstDatapointEntry, firstItemEntry, judgedDatapoint, judgedItem, setDatapoint, setItem, setEntries, firstBad, applied, allShort};
+ghost use Rattle.services.specs.Set.{filledFinding, fills, span, firstDatapointEntry, firstItemEntry, judgedDatapoint, judgedItem, setDatapoint, setItem, setEntries, firstBad, applied, allShort};
 use crate::datapoint::Datapoint;
 use crate::datapoint::command;
 use crate::datapoint::entry_code;
@@ -18,6 +18,8 @@ use crate::item::Item;
 use crate::item::item_code;
 use crate::item::with_bytes;
 use crate::message::Verdict;
+use crate::message::number_of;
+use crate::message::start_of;
 use crate::table::datapoint_at;
 use crate::table::datapoint_place;
 use crate::table::item_at;
@@ -250,5 +252,24 @@ pub fn apply_items(table: &mut [Item], m: &[u8], n: u16)
         let end = entry_end(m, at, 3);
         at = end;
         left -= 1;
+    }
+}
+
+// Rows 10 and 6, for entries with heads of so many bytes.
+pub fn set_verdict(m: &[u8], head: usize) -> Verdict
+    requires { ⌜ (6 ≤ length (now m)) × (1 ≤ head) × (head ≤ 4) ⌝ }
+    ensures { λ r. ⌜ r ≡ verdictOf (filledFinding head (now (m .entry))) ⌝ }
+{
+    let start = start_of(m);
+    let n = number_of(m);
+    if is_filled(&m[6..], head, n) {
+        if n == 0 {
+            return Verdict { id: start, code: 6 };
+        }
+        return Verdict { id: 0, code: 0 };
+    }
+    Verdict {
+        id: start,
+        code: 10,
     }
 }
