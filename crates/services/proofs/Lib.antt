@@ -20,3 +20,4 @@ pub mod GatherLaws
 pub mod PassLaws
 pub mod AnsweredLaws
 pub mod SettingLaws
+pub mod AnswerJoins
