@@ -20,9 +20,9 @@ use Rattle.services.specs.Item.{itemId, itemOk}
 use Rattle.services.specs.Message.{subService, startOf, coded, verdictOf, Served}
 use Rattle.services.specs.Get.{AnswerEntry, getServerItem}
 use Rattle.services.specs.Gather.{requestFinding, gatheredVerdict, walked, nothingGathered, datapointStep, itemStep, datapointsBuilt, datapointsLeft, itemsBuilt, wantedOf, getDatapoints}
-use Rattle.services.proofs.TableLaws
 use Rattle.link.proofs.WordLaws.{parts3}
-use Rattle.services.proofs.GetLaws.{gets, refused-first, coded-says}
+use Rattle.services.proofs.TableLaws.{ids-rise}
+use Rattle.services.proofs.GetLaws.{refused-first, coded-says}
 use Rattle.services.proofs.GatherLaws.{Passed, datapoints-small, items-small}
 use Rattle.services.proofs.AnsweredLaws.{answered-bad, answered-fine, datapointEntries, datapointsAfter, datapoints-passed, gets-datapoints, itemEntries, items-passed, gets-items}
 
@@ -56,7 +56,7 @@ module _ {A : Type 0} (most : ℕ) (idOf : A → ℕ) (ok : A → Bool) (xs : Li
   is-ok = subst T (sym e) tt
 
   pub they-rise : T (rising 0 (map idOf xs))
-  they-rise = TableLaws.ids-rise idOf most ok xs is-ok
+  they-rise = ids-rise idOf most ok xs is-ok
 
   pub sought : (length xs ≤ most) × (rising 0 (map idOf xs) ≡ true)
   unfolding tableOk
@@ -70,18 +70,19 @@ module _ {A : Type 0} (most : ℕ) (idOf : A → ℕ) (ok : A → Bool) (xs : Li
 abbrev Said : List ℕ → ℕ → Served → List ℕ → ℕ → Type 0
 Said out at s o r = (o ≡ put out at (s .says)) × (r ≡ at + length (s .says))
 
-module _ (values : Bool) (m : List ℕ) (out : List ℕ) (at : ℕ) (s : Served) where
+-- what stands in front of n entries
+abbrev pub headOf : List ℕ → ℕ → List ℕ
+headOf m n = 0xF0 ∷ (subService m + 0x80) ∷ twoBytes (startOf m) ++ twoBytes n
+
+module _ (m : List ℕ) (out : List ℕ) (at : ℕ) (s : Served) where
   said-coded : (i c : ℕ) (t : Tables) → s ≡ record { says = coded m i c; after = t } → Said out at s (put out at (coded m i c)) (at + 7)
   said-coded i c t e = coded-says out at m i c (refl, refl) (ap (λ (x : Served). x .says) e)
 
-  abbrev headOf : ℕ → List ℕ
-  headOf n = 0xF0 ∷ (subService m + 0x80) ∷ twoBytes (startOf m) ++ twoBytes n
-
-  said-fine : (n : ℕ) (bytes : List ℕ) (t : Tables) → at + 254 ≤ length out → length bytes ≤ 248 → s ≡ record { says = headOf n ++ bytes; after = t }
-      → Said out at s (put (put out at (headOf n)) (at + 6) bytes) (at + 6 + length bytes)
+  said-fine : (n : ℕ) (bytes : List ℕ) (t : Tables) → at + 254 ≤ length out → length bytes ≤ 248 → s ≡ record { says = headOf m n ++ bytes; after = t }
+      → Said out at s (put (put out at (headOf m n)) (at + 6) bytes) (at + 6 + length bytes)
   said-fine n bytes t room small e =
-      let f : s .says ≡ headOf n ++ bytes = ap (λ (x : Served). x .says) e in
-      (put-put out at (at + 6) (headOf n) bytes (omega arith) (omega (arith, room, small)) ∙ ap (put out at) (sym f), omega (arith, length-append (headOf n) bytes, ap length f))
+      let f : s .says ≡ headOf m n ++ bytes = ap (λ (x : Served). x .says) e in
+      (put-put out at (at + 6) (headOf m n) bytes (omega arith) (omega (arith, room, small)) ∙ ap (put out at) (sym f), omega (arith, length-append (headOf m n) bytes, ap length f))
 
 -- what was measured is what is built, where all entries fit
 built-small : (es : List AnswerEntry) (g : Gathered) (bytes : List ℕ) → Passed es g bytes → g .size ≤ 248 → (start : ℕ) → gatheredVerdict start g .code ≡ 0 → length bytes ≤ 248
@@ -131,7 +132,7 @@ module _ (values : Bool) (m : List ℕ) (ds : List Datapoint) (ok : tableOk 1000
   pub datapoints-refused : T (not (eqb (v .code) 0)) → Answers ds (put out at (coded m (v .id) (v .code))) (at + 7)
   datapoints-refused t =
       let e = gets-datapoints m ds r values ∙ refused-first values m es (datapointsOnly ds) (datapointsOnly (datapointsAfter values m ds)) (not-zero (v .code) t) in
-      let f = said-coded values m out at s (v .id) (v .code) (datapointsOnly ds) e in
+      let f = said-coded m out at s (v .id) (v .code) (datapointsOnly ds) e in
       (sym (ap (λ (x : Served). x .after .datapoints) e), f .0, f .1)
 
   module _ (z : T (not (not (eqb (v .code) 0)))) where
@@ -139,7 +140,7 @@ module _ (values : Bool) (m : List ℕ) (ds : List Datapoint) (ok : tableOk 1000
     unfolding wantedOf
     datapoints-bad t =
         let e = gets-datapoints m ds r values ∙ answered-bad values m es g bytes passed (datapointsOnly ds) (datapointsOnly (datapointsAfter values m ds)) (is-zero (v .code) z) (not-zero (u .code) t) in
-        let f = said-coded values m out at s (u .id) (u .code) (datapointsOnly ds) e in
+        let f = said-coded m out at s (u .id) (u .code) (datapointsOnly ds) e in
         (sym (ap (λ (x : Served). x .after .datapoints) e), f .0, f .1)
 
     module _ (y : T (not (not (eqb (u .code) 0)))) where
@@ -147,11 +148,11 @@ module _ (values : Bool) (m : List ℕ) (ds : List Datapoint) (ok : tableOk 1000
       datapoints-fit = built-small es g bytes passed (datapoints-small w (drop from ds) .1) (w .start) (is-zero (u .code) y)
 
       pub datapoints-fine : at + 254 ≤ length out
-          → Answers (take from ds ++ datapointsLeft w (drop from ds)) (put (put out at (headOf values m out at s (g .count))) (at + 6) bytes) (at + 6 + length bytes)
+          → Answers (take from ds ++ datapointsLeft w (drop from ds)) (put (put out at (headOf m (g .count))) (at + 6) bytes) (at + 6 + length bytes)
       unfolding wantedOf
       datapoints-fine room =
           let e = gets-datapoints m ds r values ∙ answered-fine values m es g bytes passed (datapointsOnly ds) (datapointsOnly (datapointsAfter values m ds)) (is-zero (v .code) z) (is-zero (u .code) y) in
-          let f = said-fine values m out at s (g .count) bytes (datapointsOnly (datapointsAfter values m ds)) room datapoints-fit e in
+          let f = said-fine m out at s (g .count) bytes (datapointsOnly (datapointsAfter values m ds)) room datapoints-fit e in
           (sym (ap (λ (x : Served). x .after .datapoints) e), f .0, f .1)
 
 -- ---- the get of items
@@ -174,8 +175,8 @@ module _ (m : List ℕ) (is : List Item) (ok : tableOk 64 itemId itemOk is ≡ t
   abbrev ibytes : List ℕ
   ibytes = itemsBuilt iw (drop ifrom is)
 
-  abbrev is′ : Served
-  is′ = getServerItem (itemsOnly is) m
+  abbrev answer : Served
+  answer = getServerItem (itemsOnly is) m
 
   abbrev ir : T (rising 0 (map itemId is))
   ir = they-rise 64 itemId itemOk is ok
@@ -184,7 +185,7 @@ module _ (m : List ℕ) (is : List Item) (ok : tableOk 64 itemId itemOk is ≡ t
   ies = itemEntries m is
 
   abbrev ItemAnswers : List ℕ → ℕ → Type 0
-  ItemAnswers o n = (o ≡ put out at (is′ .says)) × (n ≡ at + length (is′ .says))
+  ItemAnswers o n = (o ≡ put out at (answer .says)) × (n ≡ at + length (answer .says))
 
   items-gone : Passed ies ig ibytes
   unfolding wantedOf
@@ -192,20 +193,20 @@ module _ (m : List ℕ) (is : List Item) (ok : tableOk 64 itemId itemOk is ≡ t
 
   pub items-refused : T (not (eqb (iv .code) 0)) → ItemAnswers (put out at (coded m (iv .id) (iv .code))) (at + 7)
   items-refused t =
-      said-coded false m out at is′ (iv .id) (iv .code) (itemsOnly is) (gets-items m is ir ∙ refused-first false m ies (itemsOnly is) (itemsOnly is) (not-zero (iv .code) t))
+      said-coded m out at answer (iv .id) (iv .code) (itemsOnly is) (gets-items m is ir ∙ refused-first false m ies (itemsOnly is) (itemsOnly is) (not-zero (iv .code) t))
 
   module _ (z : T (not (not (eqb (iv .code) 0)))) where
     pub items-bad : T (not (eqb (iu .code) 0)) → ItemAnswers (put out at (coded m (iu .id) (iu .code))) (at + 7)
     unfolding wantedOf
     items-bad t =
-        said-coded false m out at is′ (iu .id) (iu .code) (itemsOnly is) (gets-items m is ir ∙ answered-bad false m ies ig ibytes items-gone (itemsOnly is) (itemsOnly is) (is-zero (iv .code) z) (not-zero (iu .code) t))
+        said-coded m out at answer (iu .id) (iu .code) (itemsOnly is) (gets-items m is ir ∙ answered-bad false m ies ig ibytes items-gone (itemsOnly is) (itemsOnly is) (is-zero (iv .code) z) (not-zero (iu .code) t))
 
     module _ (y : T (not (not (eqb (iu .code) 0)))) where
       pub items-fit : length ibytes ≤ 248
       items-fit = built-small ies ig ibytes items-gone (items-small iw (drop ifrom is) .1) (iw .start) (is-zero (iu .code) y)
 
-      pub items-fine : at + 254 ≤ length out → ItemAnswers (put (put out at (headOf false m out at is′ (ig .count))) (at + 6) ibytes) (at + 6 + length ibytes)
+      pub items-fine : at + 254 ≤ length out → ItemAnswers (put (put out at (headOf m (ig .count))) (at + 6) ibytes) (at + 6 + length ibytes)
       unfolding wantedOf
       items-fine room =
-          said-fine false m out at is′ (ig .count) ibytes (itemsOnly is) room items-fit
+          said-fine m out at answer (ig .count) ibytes (itemsOnly is) room items-fit
           (gets-items m is ir ∙ answered-fine false m ies ig ibytes items-gone (itemsOnly is) (itemsOnly is) (is-zero (iv .code) z) (is-zero (iu .code) y))

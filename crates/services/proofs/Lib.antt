@@ -20,4 +20,5 @@ pub mod GatherLaws
 pub mod PassLaws
 pub mod AnsweredLaws
 pub mod SettingLaws
+pub mod FieldsFit
 pub mod AnswerJoins

@@ -1,22 +1,31 @@
 // The gets: what is asked for, and the checks before and after the first pass.
 ghost use mathlib.Core.Path.{_≡_};
+ghost use mathlib.Core.Bool.{true};
 ghost use Prim.Native.Nat.{_+_, _≤_, _<_};
 ghost use lib.ListN.{length};
 ghost use Rattle.link.specs.Words.{put};
-ghost use Rattle.services.specs.Table.{parametersOnly};
+ghost use Rattle.services.specs.Datapoint.{datapointId, datapointOk};
+ghost use Rattle.services.specs.Item.{itemId, itemOk};
+ghost use Rattle.services.specs.Table.{datapointsOnly, itemsOnly, parametersOnly, tableOk};
 ghost use Rattle.services.specs.Message.{subService, verdictOf};
-ghost use Rattle.services.specs.Get.{getParameterByte};
-ghost use Rattle.services.specs.Gather.{filterAsked, sizeAsked, wantedOf, requestFinding, gatheredVerdict, parametersPresent};
+ghost use Rattle.services.specs.Get.{getServerItem, getParameterByte};
+ghost use Rattle.services.specs.Gather.{filterAsked, sizeAsked, wantedOf, requestFinding, gatheredVerdict, getDatapoints, parametersPresent};
 use crate::datapoint::Datapoint;
 use crate::gather::Gathered;
 use crate::gather::Wanted;
+use crate::gather::build_datapoints;
+use crate::gather::build_items;
 use crate::gather::measure_datapoints;
+use crate::gather::measure_items;
+use crate::item::Item;
 use crate::message::Verdict;
 use crate::message::filter_of;
 use crate::message::number_of;
 use crate::message::put_answer_head;
 use crate::message::put_coded;
 use crate::message::start_of;
+use crate::table::datapoint_place;
+use crate::table::item_place;
 use link::words::put_bytes;
 
 // The filter, where values are asked for.
@@ -133,4 +142,54 @@ pub fn get_parameters(parameters: &[u8], m: &[u8], out: &mut [u8], at: usize) ->
     let first = start as usize - 1;
     put_bytes(&mut *out, end, &parameters[first..first + n]);
     end + n
+}
+
+// GetDatapointDescription, or GetDatapointValue where values are asked for: the answer, into the buffer at `at`; answers where it ends. Nothing is written
+// before the first pass has found that all entries fit.
+pub fn get_datapoints(
+    table: &mut [Datapoint],
+    m: &[u8],
+    values: bool,
+    out: &mut [u8],
+    at: usize,
+) -> usize
+    requires { ⌜ (tableOk 1000 datapointId datapointOk (now table) ≡ true) × (6 ≤ length (now m)) × (subService (now m) < 0x80) × (at + 254 ≤ length (now out)) ⌝ }
+    ensures { λ r. ⌜ (now (table .exit) ≡ getDatapoints values (datapointsOnly (now (table .entry))) (now (m .entry)) .after .datapoints)
+        × (now (out .exit) ≡ put (now (out .entry)) at (getDatapoints values (datapointsOnly (now (table .entry))) (now (m .entry)) .says))
+        × (r ≡ at + length (getDatapoints values (datapointsOnly (now (table .entry))) (now (m .entry)) .says)) ⌝ }
+{
+    let v = request_verdict(m, values);
+    if v.code != 0 {
+        return put_coded(out, at, m, v.id, v.code);
+    }
+    let w = wanted(m, values);
+    let from = datapoint_place(table, w.start);
+    let g = measure_datapoints(table, from, w);
+    let u = gathered_verdict(w.start, g);
+    if u.code != 0 {
+        return put_coded(out, at, m, u.id, u.code);
+    }
+    let end = put_answer_head(out, at, m, g.count);
+    build_datapoints(table, from, w, out, end)
+}
+
+// GetServerItem: the answer, into the buffer at `at`; answers where it ends.
+pub fn get_items(table: &[Item], m: &[u8], out: &mut [u8], at: usize) -> usize
+    requires { ⌜ (tableOk 64 itemId itemOk (now table) ≡ true) × (6 ≤ length (now m)) × (subService (now m) < 0x80) × (at + 254 ≤ length (now out)) ⌝ }
+    ensures { λ r. ⌜ (now (out .exit) ≡ put (now (out .entry)) at (getServerItem (itemsOnly (now (table .entry))) (now (m .entry)) .says))
+        × (r ≡ at + length (getServerItem (itemsOnly (now (table .entry))) (now (m .entry)) .says)) ⌝ }
+{
+    let v = request_verdict(m, false);
+    if v.code != 0 {
+        return put_coded(out, at, m, v.id, v.code);
+    }
+    let w = wanted(m, false);
+    let from = item_place(table, w.start);
+    let g = measure_items(table, from, w);
+    let u = gathered_verdict(w.start, g);
+    if u.code != 0 {
+        return put_coded(out, at, m, u.id, u.code);
+    }
+    let end = put_answer_head(out, at, m, g.count);
+    build_items(table, from, w, out, end)
 }
