@@ -2,7 +2,7 @@
 ghost use mathlib.Core.Path.{_≡_};
 ghost use mathlib.Core.List.{[], _∷_, _++_};
 ghost use Prim.Native.Nat.{_+_, _≤_, _<_};
-ghost use lib.ListN.{length};
+ghost use lib.ListN.{length, getD};
 ghost use Rattle.link.specs.Words.{put, twoBytes};
 ghost use Rattle.services.specs.Message.{subService, startOf, numberOf, filterOf, coded};
 
@@ -74,4 +74,19 @@ pub fn put_answer_head(out: &mut [u8], at: usize, m: &[u8], count: u16) -> usize
 {
     let start = start_of(m);
     put_head(&mut *out, at, m[1] + 0x80, start, count)
+}
+
+// What stands in front of an indication's entries, once they stand in the buffer from at + 6 on: its StartDatapoint is the first one's ID.
+pub fn put_indication_head(out: &mut [u8], at: usize, count: u16)
+    requires { ⌜ at + 8 ≤ length (now out) ⌝ }
+    ensures { λ _. ⌜ now (out .exit) ≡ put (now (out .entry)) at (0xF0 ∷ 0xC1 ∷ getD (now (out .entry)) (at + 6) 0 ∷ getD (now (out .entry)) (at + 7) 0 ∷ twoBytes count) ⌝ }
+{
+    let high = out[at + 6];
+    let low = out[at + 7];
+    out[at] = 0xf0;
+    out[at + 1] = 0xc1;
+    out[at + 2] = high;
+    out[at + 3] = low;
+    out[at + 4] = (count / 256) as u8;
+    out[at + 5] = (count % 256) as u8;
 }
