@@ -22,3 +22,4 @@ pub mod AnsweredLaws
 pub mod SettingLaws
 pub mod FieldsFit
 pub mod AnswerJoins
+pub mod IndicationLaws
