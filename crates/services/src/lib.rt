@@ -2,6 +2,7 @@
 pub mod datapoint;
 pub mod gather;
 pub mod get;
+pub mod indication;
 pub mod item;
 mod mask;
 pub mod message;
