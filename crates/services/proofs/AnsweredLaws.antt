@@ -1,26 +1,25 @@
 -- What a get answers and leaves, by the verdict before the first pass and the verdict after it: one law for datapoints and items.
-use Prim.Native.Nat.{ℕ, zero, suc, _+_, _≤_, _<_}
+use Prim.Native.Nat.{ℕ, suc, _+_, _≤_}
 use mathlib.Core.Path.{_≡_, refl, sym, _∙_, ap}
-use mathlib.Core.Bool.{Bool, true, false, not, _&&_, _||_}
+use mathlib.Core.Bool.{Bool, true, false, _&&_}
 use mathlib.Core.List.{List, [], _∷_, _++_, map}
 use native.Mathlib.Omega.{arith}
-use lib.ListN.{length, getD, take, drop}
-use lib.Dec.{T, leb, ltb, eqb, ltb→lt, lt→ltb}
-use borrow.Author.Tests.{lt-ltb, le-ltb, eqb-true, eqb-false, ltb-true, ltb-false}
-use Rattle.link.specs.Words.{if_then_else_, twoBytes, keep, every, isEmpty}
+use lib.ListN.{take, drop}
+use lib.Dec.{T, ltb, eqb, ltb→lt, lt→ltb}
+use borrow.Author.Tests.{le-ltb, eqb-true, ltb-true, ltb-false}
+use Rattle.link.specs.Words.{if_then_else_, twoBytes, keep, every}
 use Rattle.link.proofs.WordLaws
 use Rattle.services.specs.declared.datapoint.Datapoint.{Datapoint}
 use Rattle.services.specs.declared.item.Item.{Item}
-use Rattle.services.specs.declared.gather.Wanted.{Wanted}
 use Rattle.services.specs.declared.gather.Gathered.{Gathered}
 use Rattle.services.specs.declared.message.Verdict.{Verdict}
 use Rattle.services.specs.Table.{Tables, datapointsOnly, itemsOnly, rising, place}
 use Rattle.services.specs.Datapoint.{datapointId}
 use Rattle.services.specs.Item.{itemId}
-use Rattle.services.specs.Message.{subService, startOf, numberOf, filterOf, coded, Finding, fine, bad, verdictOf, Served, answerOf, afterOf, served}
-use Rattle.services.specs.Get.{AnswerEntry, overflow, roomForEntries, listing, getFinding, getting, itemEntry, getServerItem, inRequest, descriptionEntry, getDatapointDescription, valueEntry, asked, handingOut, getDatapointValue}
+use Rattle.services.specs.Message.{subService, startOf, coded, verdictOf}
+use Rattle.services.specs.Get.{AnswerEntry, itemEntry, getServerItem, inRequest, descriptionEntry, getDatapointDescription, valueEntry, asked, handingOut, getDatapointValue}
 use Rattle.services.specs.Gather.{filterAsked, sizeAsked, requestFinding, gatheredVerdict, walked, nothingGathered, isWanted, leftOf, datapointStep, itemStep, datapointsBuilt, datapointsLeft, itemsBuilt, wantedOf, getDatapoints}
-use Rattle.services.proofs.GetLaws.{gets, refused-first, empty-refused, over-refused, fits-answered}
+use Rattle.services.proofs.GetLaws.{gets, empty-refused, over-refused, fits-answered}
 use Rattle.services.proofs.GatherLaws.{inFront, Passed, passed-listing, values-pass, values-left, descriptions-pass, datapoints-left, wantedBy, items-asked-pass}
 
 and-false : (a : Bool) → (a && false) ≡ false

@@ -1,7 +1,7 @@
 -- A get's answer by what its checks found: before the first pass, and after it.
 use Prim.Native.Nat.{ℕ, _+_}
-use mathlib.Core.Bool.{Bool, true, false, not, _||_}
-use mathlib.Core.List.{List, [], _∷_}
+use mathlib.Core.Bool.{Bool, true, false, _||_}
+use mathlib.Core.List.{List}
 use mathlib.Core.Path.{_≡_, refl, sym, _∙_, ap}
 use native.Mathlib.Omega.{arith}
 use lib.Dec.{ltb, eqb}
@@ -54,21 +54,6 @@ module _ (values : Bool) (m : List ℕ) (es : List AnswerEntry) where
     unfolding getting served answerOf afterOf afterwards
     refused-first n = ap (λ (f : Finding). served f m (listing (subService m + 0x80) (startOf m) es) t t′) (asked-first ∙ ap afterwards (verdict-bad (requestFinding values m) n))
 
-    pub nothing-there : verdictOf (requestFinding values m) .code ≡ 0 → es ≡ [] → gets values es t t′ m ≡ record { says = coded m (startOf m) 2; after = t }
-    unfolding getting served answerOf afterOf afterwards
-    nothing-there z n = ap (λ (f : Finding). served f m (listing (subService m + 0x80) (startOf m) es) t t′) {y = bad (startOf m) 2} (asked-first ∙ ap afterwards (fine-where z) ∙ rw n)
-
-    pub too-much : verdictOf (requestFinding values m) .code ≡ 0 → (id : ℕ) → isEmpty es ≡ false → overflow roomForEntries es ≡ id ∷ []
-        → gets values es t t′ m ≡ record { says = coded m id 3; after = t }
-    unfolding getting served answerOf afterOf afterwards
-    too-much z id n o = ap (λ (f : Finding). served f m (listing (subService m + 0x80) (startOf m) es) t t′) {y = bad id 3} (asked-first ∙ ap afterwards (fine-where z) ∙ simp (n, o))
-
-    pub all-there : verdictOf (requestFinding values m) .code ≡ 0 → isEmpty es ≡ false → overflow roomForEntries es ≡ []
-        → gets values es t t′ m ≡ record { says = listing (subService m + 0x80) (startOf m) es; after = t′ }
-    unfolding getting served answerOf afterOf afterwards
-    all-there z n o = ap (λ (f : Finding). served f m (listing (subService m + 0x80) (startOf m) es) t t′) {y = fine} (asked-first ∙ ap afterwards (fine-where z) ∙ simp (n, o))
-
-    -- the same, by what is empty
     pub empty-refused : verdictOf (requestFinding values m) .code ≡ 0 → isEmpty es ≡ true → gets values es t t′ m ≡ record { says = coded m (startOf m) 2; after = t }
     unfolding getting served answerOf afterOf afterwards
     empty-refused z n =

@@ -5,7 +5,7 @@ use mathlib.Core.List.{List, [], _∷_, _++_, map, flatten}
 use mathlib.Core.Path.{_≡_, refl, sym, _∙_, ap}
 use native.Mathlib.Omega.{arith}
 use lib.Dec.{leb, ltb, eqb}
-use lib.ListN.{length, take, drop, length-drop}
+use lib.ListN.{length, getD, take, drop, length-drop}
 use lib.Seq.{take-all, length-take-le}
 use borrow.Author.Tests.{lt-ltb, le-ltb, le-leb, lt-leb, eq-eqb, ne-eqb, ltb-true, ltb-false, eqb-false}
 use Rattle.link.specs.Words.{if_then_else_, twoBytes, keep, isEmpty}
@@ -14,7 +14,7 @@ use Rattle.services.specs.Get.{AnswerEntry, inRequest, overflow, listing
 use Rattle.services.specs.Message.{subService, startOf, numberOf, coded, verdictOf, Served}
 use Rattle.services.specs.Table.{parametersOnly}
 use Rattle.services.specs.declared.message.Verdict.{Verdict}
-use Rattle.services.proofs.GetLaws.{refused-first, nothing-there, too-much, all-there}
+use Rattle.services.proofs.GetLaws.{refused-first, empty-refused, over-refused, fits-answered}
 
 -- those from s on, n of them
 abbrev within : ℕ → ℕ → AnswerEntry → Bool
@@ -129,7 +129,7 @@ module _ (ps m : List ℕ) where
 
   pub parameters-none : verdict .code ≡ 0 → present ≡ 0 → getParameterByte (parametersOnly ps) m .says ≡ coded m start 2
   unfolding getParameterByte entriesAsked sizeAsked filterAsked parameterEntries
-  parameters-none z p = ap (λ (v : Served). v .says) (nothing-there false m entriesAsked (parametersOnly ps) (parametersOnly ps) z (go (eqb start 0) refl))
+  parameters-none z p = ap (λ (v : Served). v .says) (empty-refused false m entriesAsked (parametersOnly ps) (parametersOnly ps) z (ap isEmpty (go (eqb start 0) refl)))
     where
       go : (b : Bool) → eqb start 0 ≡ b → entriesAsked ≡ []
       go true e = simp e
@@ -148,16 +148,16 @@ module _ (ps m : List ℕ) where
     pub parameters-over : 248 < present → getParameterByte (parametersOnly ps) m .says ≡ coded m (start + 248) 3
     unfolding getParameterByte entriesAsked sizeAsked filterAsked
     parameters-over l =
-        ap (λ (v : Served). v .says)
-        (too-much false m entriesAsked (parametersOnly ps) (parametersOnly ps) z (start + 248) some
-        (ap (overflow 248) (asked-part (start-there h)) ∙ one-over 248 start part (omega (arith, part-length (start-there h)))))
+        let o : overflow 248 entriesAsked ≡ (start + 248) ∷ [] = ap (overflow 248) (asked-part (start-there h)) ∙ one-over 248 start part (omega (arith, part-length (start-there h))) in
+        ap (λ (v : Served). v .says) (over-refused false m entriesAsked (parametersOnly ps) (parametersOnly ps) z some (ap isEmpty o))
+        ∙ ap (λ (ids : List ℕ). coded m (getD ids 0 0) 3) o
 
     pub parameters-all : present ≤ 248
         → getParameterByte (parametersOnly ps) m .says ≡ (0xF0 ∷ (subService m + 0x80) ∷ twoBytes start ++ twoBytes present) ++ part
     unfolding getParameterByte entriesAsked sizeAsked filterAsked listing
     parameters-all l =
         ap (λ (v : Served). v .says)
-        (all-there false m entriesAsked (parametersOnly ps) (parametersOnly ps) z some
-        (ap (overflow 248) (asked-part (start-there h)) ∙ all-fit 248 start part (omega (arith, part-length (start-there h)))))
+        (fits-answered false m entriesAsked (parametersOnly ps) (parametersOnly ps) z some
+        (ap (λ (es : List AnswerEntry). isEmpty (overflow 248 es)) (asked-part (start-there h)) ∙ ap isEmpty (all-fit 248 start part (omega (arith, part-length (start-there h))))))
         ∙ ap (listing (subService m + 0x80) start) (asked-part (start-there h))
         ∙ (λ i. 0xF0 ∷ (subService m + 0x80) ∷ twoBytes start ++ twoBytes ((entries-count start part ∙ part-length (start-there h)) i) ++ entries-bytes start part i)
