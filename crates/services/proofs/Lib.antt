@@ -23,3 +23,4 @@ pub mod SettingLaws
 pub mod FieldsFit
 pub mod AnswerJoins
 pub mod IndicationLaws
+pub mod SetJoins

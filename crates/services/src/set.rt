@@ -280,3 +280,45 @@ pub fn set_verdict(m: &[u8], head: usize) -> Verdict
         code: 10,
     }
 }
+
+// SetDatapointValue: the answer, into the buffer at `at`; answers where it ends. All entries are judged before any is applied.
+pub fn set_datapoints(table: &mut [Datapoint], m: &[u8], out: &mut [u8], at: usize) -> usize
+    requires { ⌜ (tableOk 1000 datapointId datapointOk (now table) ≡ true) × (6 ≤ length (now m)) × (subService (now m) < 0x80) × (at + 254 ≤ length (now out)) ⌝ }
+    ensures { λ r. ⌜ (now (table .exit) ≡ setDatapointValue (datapointsOnly (now (table .entry))) (now (m .entry)) .after .datapoints)
+        × (now (out .exit) ≡ put (now (out .entry)) at (setDatapointValue (datapointsOnly (now (table .entry))) (now (m .entry)) .says))
+        × (r ≡ at + length (setDatapointValue (datapointsOnly (now (table .entry))) (now (m .entry)) .says)) ⌝ }
+{
+    let v = set_verdict(m, 4);
+    if v.code != 0 {
+        return put_coded(out, at, m, v.id, v.code);
+    }
+    let n = number_of(m);
+    let u = judge_datapoints(table, m, n);
+    if u.code != 0 {
+        return put_coded(out, at, m, u.id, u.code);
+    }
+    apply_datapoints(table, m, n);
+    let start = start_of(m);
+    put_coded(out, at, m, start, 0)
+}
+
+// SetServerItem: the answer, into the buffer at `at`; answers where it ends.
+pub fn set_items(table: &mut [Item], m: &[u8], out: &mut [u8], at: usize) -> usize
+    requires { ⌜ (tableOk 64 itemId itemOk (now table) ≡ true) × (6 ≤ length (now m)) × (subService (now m) < 0x80) × (at + 254 ≤ length (now out)) ⌝ }
+    ensures { λ r. ⌜ (now (table .exit) ≡ setServerItem (itemsOnly (now (table .entry))) (now (m .entry)) .after .items)
+        × (now (out .exit) ≡ put (now (out .entry)) at (setServerItem (itemsOnly (now (table .entry))) (now (m .entry)) .says))
+        × (r ≡ at + length (setServerItem (itemsOnly (now (table .entry))) (now (m .entry)) .says)) ⌝ }
+{
+    let v = set_verdict(m, 3);
+    if v.code != 0 {
+        return put_coded(out, at, m, v.id, v.code);
+    }
+    let n = number_of(m);
+    let u = judge_items(table, m, n);
+    if u.code != 0 {
+        return put_coded(out, at, m, u.id, u.code);
+    }
+    apply_items(table, m, n);
+    let start = start_of(m);
+    put_coded(out, at, m, start, 0)
+}
