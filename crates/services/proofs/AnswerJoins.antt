@@ -27,14 +27,14 @@ use Rattle.services.proofs.GatherLaws.{Passed, datapoints-small, items-
 use Rattle.services.proofs.AnsweredLaws.{answered-bad, answered-fine, datapointEntries, datapointsAfter, datapoints-passed, gets-datapoints, itemEntries, items-passed, gets-items}
 
 -- what a test for a code other than 0 showed
-not-zero : (n : ℕ) → T (not (eqb n 0)) → n ≡ 0 → ⊥
+pub not-zero : (n : ℕ) → T (not (eqb n 0)) → n ≡ 0 → ⊥
 not-zero n t e = go (eqb n 0) refl t
   where
     go : (b : Bool) → eqb n 0 ≡ b → T (not b) → ⊥
     go true f s = s
     go false f s = eqb-false n 0 f e
 
-is-zero : (n : ℕ) → T (not (not (eqb n 0))) → n ≡ 0
+pub is-zero : (n : ℕ) → T (not (not (eqb n 0))) → n ≡ 0
 is-zero n t = go (eqb n 0) refl t
   where
     go : (b : Bool) → eqb n 0 ≡ b → T (not (not b)) → n ≡ 0

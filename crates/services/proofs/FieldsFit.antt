@@ -1,26 +1,23 @@
--- A message's verdict as the kit of walks has it, and that the numbers read out of records fit.
+-- The numbers read out of records fit.
 use mathlib.Core.Path.{refl}
 use denote.Struct.Laws as LL
-use Rattle.walks.proofs.Data.{Data, Good, structD}
+use Rattle.walks.proofs.Data.{Good}
 use Rattle.services.specs.declared.gather.Wanted.{Wanted}
 use Rattle.services.specs.declared.gather.Gathered.{Gathered}
 use Rattle.services.specs.declared.message.Verdict.{Verdict}
-use Rattle.services.proofs.Types.{wantedD, gatheredD, byteD, idD}
-use Rattle.services.proofs.message.Verdict as Coded
-use Rattle.services.proofs.message.Verdict.Laws as Coded′
+use Rattle.services.proofs.Types.{wantedD, gatheredD, verdictD, byteD, idD}
+use Rattle.services.proofs.message.Verdict as Judged
+use Rattle.services.proofs.message.Verdict.Laws as Judged′
 use Rattle.services.proofs.gather.Wanted as Asked
 use Rattle.services.proofs.gather.Wanted.Laws as Asked′
 use Rattle.services.proofs.gather.Gathered as Sum
 use Rattle.services.proofs.gather.Gathered.Laws as Sum′
 
-abbrev pub codedD : Data
-codedD = structD Coded.the-type Coded′.the-laws Coded′.the-plain (λ x f. refl)
+pub id-fits : (v : Verdict) → Good verdictD v → Good idD (v .id)
+id-fits v g = (refl, LL.owed Judged.the-type Judged′.the-laws v _ g .0 .1)
 
-pub id-fits : (v : Verdict) → Good codedD v → Good idD (v .id)
-id-fits v g = (refl, LL.owed Coded.the-type Coded′.the-laws v _ g .0 .1)
-
-pub code-fits : (v : Verdict) → Good codedD v → Good byteD (v .code)
-code-fits v g = (refl, LL.owed Coded.the-type Coded′.the-laws v _ g .1 .0 .1)
+pub code-fits : (v : Verdict) → Good verdictD v → Good byteD (v .code)
+code-fits v g = (refl, LL.owed Judged.the-type Judged′.the-laws v _ g .1 .0 .1)
 
 pub start-fits : (w : Wanted) → Good wantedD w → Good idD (w .start)
 start-fits w g = (refl, LL.owed Asked.the-type Asked′.the-laws w _ g .0 .1)

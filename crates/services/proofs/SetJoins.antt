@@ -1,13 +1,10 @@
 -- A set, exit by exit: what its callees say of table, buffer and result is what the set has to answer and leave.
 use Prim.Native.Nat.{ℕ, _+_}
 use mathlib.Core.Path.{_≡_, refl, sym, ap}
-use mathlib.Core.Bool.{Bool, true, false, not}
+use mathlib.Core.Bool.{true, not}
 use mathlib.Core.List.{List}
 use lib.ListN.{length, drop}
 use lib.Dec.{T, eqb}
-use borrow.Author.Tests.{eqb-true, eqb-false}
-use denote.Struct.Laws as LL
-use Rattle.walks.proofs.Data.{Good}
 use Rattle.link.specs.Words.{put}
 use Rattle.services.specs.declared.datapoint.Datapoint.{Datapoint}
 use Rattle.services.specs.declared.item.Item.{Item}
@@ -17,34 +14,10 @@ use Rattle.services.specs.Item.{itemId, itemOk}
 use Rattle.services.specs.Table.{Tables, datapointsOnly, itemsOnly, tableOk, found}
 use Rattle.services.specs.Message.{startOf, numberOf, coded, verdictOf, Served}
 use Rattle.services.specs.Set.{SetEntry, fills, setEntries, firstBad, applied, allShort, firstDatapointEntry, firstItemEntry, judgedDatapoint, judgedItem, setDatapoint, setItem, setDatapointValue, setServerItem, filledFinding}
-use Rattle.services.proofs.Types.{verdictD, byteD, idD}
-use Rattle.services.proofs.message.Verdict as Judged
-use Rattle.services.proofs.message.Verdict.Laws as Judged′
+use Rattle.services.proofs.AnswerJoins.{not-zero, is-zero}
 use Rattle.services.proofs.GetLaws.{coded-says}
 use Rattle.services.proofs.LeftLaws.{fine-code, datapoints-short, items-short}
 use Rattle.services.proofs.SettingLaws.{earlier-filled, set-refused, set-bad, set-done}
-
--- what a test for a code other than 0 showed
-not-zero : (n : ℕ) → T (not (eqb n 0)) → n ≡ 0 → ⊥
-not-zero n t e = go (eqb n 0) refl t
-  where
-    go : (b : Bool) → eqb n 0 ≡ b → T (not b) → ⊥
-    go true f s = s
-    go false f s = eqb-false n 0 f e
-
-is-zero : (n : ℕ) → T (not (not (eqb n 0))) → n ≡ 0
-is-zero n t = go (eqb n 0) refl t
-  where
-    go : (b : Bool) → eqb n 0 ≡ b → T (not (not b)) → n ≡ 0
-    go true f s = eqb-true n 0 f
-    go false f s = absurd s
-
--- the numbers of a verdict fit
-pub verdict-id-fits : (v : Verdict) → Good verdictD v → Good idD (v .id)
-verdict-id-fits v g = (refl, LL.owed Judged.the-type Judged′.the-laws v _ g .0 .1)
-
-pub verdict-code-fits : (v : Verdict) → Good verdictD v → Good byteD (v .code)
-verdict-code-fits v g = (refl, LL.owed Judged.the-type Judged′.the-laws v _ g .1 .0 .1)
 
 -- ---- the set of datapoints
 module _ (m : List ℕ) (ds : List Datapoint) (ok : tableOk 1000 datapointId datapointOk ds ≡ true) (out : List ℕ) (at : ℕ) where

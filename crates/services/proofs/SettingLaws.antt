@@ -6,13 +6,6 @@ use mathlib.Core.List.{List}
 use native.Mathlib.Omega.{arith}
 use lib.ListN.{drop}
 use lib.Dec.{eqb}
-use mathlib.Core.Path.{_≡_, refl, sym, _∙_, ap}
-use mathlib.Core.Bool.{Bool, true, false, not}
-use mathlib.Core.List.{List, [], _∷_}
-use native.Mathlib.Omega.{arith}
-use lib.ListN.{length, drop}
-use lib.Dec.{eqb}
-use Rattle.link.specs.Words.{if_then_else_}
 use Rattle.services.specs.Table.{Tables}
 use Rattle.services.specs.Message.{startOf, numberOf, coded, Finding, fine, bad, verdictOf, Served, answerOf, afterOf, served}
 use Rattle.services.specs.Set.{SetEntry, fills, setEntries, firstBad, setFinding, setting, filledFinding}

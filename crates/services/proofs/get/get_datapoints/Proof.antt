@@ -42,8 +42,8 @@ use Rattle.services.specs.Table.{place, tableOk}
 use Rattle.services.specs.Datapoint.{datapointId, datapointOk}
 use Rattle.services.specs.Message.{subService, startOf, coded, verdictOf}
 use Rattle.services.specs.Gather.{requestFinding, gatheredVerdict, walked, nothingGathered, datapointStep, datapointsBuilt, datapointsLeft, wantedOf}
-use Rattle.services.proofs.Types.{datapointD, wantedD, gatheredD, byteD, idD, placeD}
-use Rattle.services.proofs.FieldsFit.{codedD, id-fits, code-fits, start-fits, count-fits}
+use Rattle.services.proofs.Types.{datapointD, wantedD, gatheredD, byteD, idD, placeD, verdictD}
+use Rattle.services.proofs.FieldsFit.{id-fits, code-fits, start-fits, count-fits}
 use Rattle.services.proofs.AnswerJoins.{sought, place-inside, datapoints-refused, datapoints-bad, datapoints-fit, datapoints-fine}
 use Rattle.services.proofs.get.request_verdict as request-verdict
 use Rattle.services.proofs.get.request_verdict.Symbol as request-verdict-def
@@ -162,9 +162,9 @@ module _ {M : Type 1} (𝓤 : URA M) (H : Heap 𝓤) (A : Atoms 𝓤) (W : Given
       pass0 ! $
       move ! (57 ∷ 54 ∷ 58 ∷ 55 ∷ 60 ∷ 56 ∷ []) $
       move ! (2 ∷ 3 ∷ []) $
-      calls-shrS ! (fmOf 𝓤 H (W .laws) 𝓣) byteD (boolD ∷ []) codedD (request-verdict.clauses 𝓤 H A mem run) known-request-verdict msg (values, tt) tt (values-ok, tt) (factI 𝓤 _ (emp 𝓤) (ok .1)) v (λ _ _. id⊢ 𝓤 _)
+      calls-shrS ! (fmOf 𝓤 H (W .laws) 𝓣) byteD (boolD ∷ []) verdictD (request-verdict.clauses 𝓤 H A mem run) known-request-verdict msg (values, tt) tt (values-ok, tt) (factI 𝓤 _ (emp 𝓤) (ok .1)) v (λ _ _. id⊢ 𝓤 _)
       (λ _ _. (and-then ! (load ! (from ! (stop !)) (look ! 54 refl)) (and-then ! (load ! (from ! (stop !)) (look ! 52 refl)) (no-more !)))) (λ v-ok.
-      land ! (from ! (stop !)) (init ! 46 refl (typed 𝓤 H A codedD W v v-ok .0)) $
+      land ! (from ! (stop !)) (init ! 46 refl (typed 𝓤 H A verdictD W v v-ok .0)) $
       assigns ! (bin ! (load ! (from ! (fld ! refl (stop !))) (look-in ! 46 (sub ! 1 refl (whole !)))) (lit ! tt) tt) (from ! (stop !)) (init ! 34 refl (tt, tt)) $
       leaves-early ! (load ! (from ! (stop !)) (look ! 34 refl)) (λ refused.
       assigns ! (addr ! (from ! (fld ! refl (hop ! (look-in ! 50 (sub ! 0 refl (whole !))) (stop !))))) (from ! (stop !)) (init ! 32 refl (tt, tt)) $
@@ -199,9 +199,9 @@ module _ {M : Type 1} (𝓤 : URA M) (H : Heap 𝓤) (A : Atoms 𝓤) (W : Given
       calls-as-shrS ! (fmOf 𝓤 H (W .laws) 𝓣) datapointD (placeD ∷ wantedD ∷ []) gatheredD (measure-datapoints.clauses 𝓤 H A mem run) known-measure-datapoints (length ys) ys refl (λ _. (p, (w, tt))) (λ _ _. tt) (λ _. (p-ok, (w-ok, tt))) (λ _ _. factI 𝓤 _ (emp 𝓤) (ok .0, place-inside datapointId (w .start) ys)) g (λ _ _ _ _. id⊢ 𝓤 _)
       (λ _ _ _. (and-then ! (load ! (from ! (stop !)) (look ! 22 refl)) (and-then ! (load ! (from ! (stop !)) (look ! 42 refl)) (and-then ! (load ! (from ! (stop !)) (look ! 44 refl)) (no-more !))))) (λ g-ok.
       land ! (from ! (stop !)) (init ! 40 refl (typed 𝓤 H A gatheredD W g g-ok .0)) $
-      calls-plain ! (fmOf 𝓤 H (W .laws) 𝓣) (idD ∷ gatheredD ∷ []) codedD (gathered-verdict.clauses 𝓤 H A mem run) known-gathered-verdict (w .start, (g, tt)) tt (start-fits w w-ok, (g-ok, tt)) (id⊢ 𝓤 _) u (λ _ _. id⊢ 𝓤 _)
+      calls-plain ! (fmOf 𝓤 H (W .laws) 𝓣) (idD ∷ gatheredD ∷ []) verdictD (gathered-verdict.clauses 𝓤 H A mem run) known-gathered-verdict (w .start, (g, tt)) tt (start-fits w w-ok, (g-ok, tt)) (id⊢ 𝓤 _) u (λ _ _. id⊢ 𝓤 _)
       (λ _. (and-then ! (load ! (from ! (fld ! refl (stop !))) (look-in ! 45 (sub ! 0 refl (whole !)))) (and-then ! (load ! (from ! (stop !)) (look ! 41 refl)) (no-more !)))) (λ u-ok.
-      land ! (from ! (stop !)) (init ! 38 refl (typed 𝓤 H A codedD W u u-ok .0)) $
+      land ! (from ! (stop !)) (init ! 38 refl (typed 𝓤 H A verdictD W u u-ok .0)) $
       assigns ! (bin ! (load ! (from ! (fld ! refl (stop !))) (look-in ! 38 (sub ! 1 refl (whole !)))) (lit ! tt) tt) (from ! (stop !)) (store ! 34 refl (tt, tt)) $
       leaves-early ! (load ! (from ! (stop !)) (look ! 34 refl)) (λ bad.
       assigns ! (addr ! (from ! (fld ! refl (hop ! (look-in ! 50 (sub ! 0 refl (whole !))) (stop !))))) (from ! (stop !)) (init ! 20 refl (tt, tt)) $

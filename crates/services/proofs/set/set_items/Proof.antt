@@ -44,7 +44,8 @@ use Rattle.services.specs.Set.{SetEntry, setEntries, firstBad, applied, 
 use Rattle.services.proofs.Types.{itemD, verdictD, byteD, idD, placeD}
 use Rattle.services.proofs.Pairs.{calls-shrS-shrS, calls-mutS-shrS}
 use Rattle.services.proofs.LeftLaws.{ok-table}
-use Rattle.services.proofs.SetJoins.{verdict-id-fits, verdict-code-fits, items-refused, items-filled, items-bad, items-fit, items-set}
+use Rattle.services.proofs.FieldsFit.{id-fits, code-fits}
+use Rattle.services.proofs.SetJoins.{items-refused, items-filled, items-bad, items-fit, items-set}
 use Rattle.services.proofs.set.set_verdict as set-verdict
 use Rattle.services.proofs.set.set_verdict.Symbol as set-verdict-def
 use Rattle.services.proofs.set.set_verdict.Symbol.{name as #services·set·set-verdict}
@@ -147,8 +148,8 @@ module _ {M : Type 1} (𝓤 : URA M) (H : Heap 𝓤) (A : Atoms 𝓤) (W : Given
       assigns ! (agg ! (and-then ! (load ! (from ! (stop !)) (look ! 26 refl)) (and-then ! (load ! (from ! (fld ! refl (stop !))) (look-in ! 40 (sub ! 1 refl (whole !)))) (no-more !)))) (from ! (stop !)) (init ! 24 refl (tt, (tt, (record { fits = out-room .0 }, tt)))) $
       move ! (4 ∷ 5 ∷ []) $
       lendsS ! tt byteD (length (out .now)) (out .now) refl (λ ν δ rm.
-      use0 W (‵ (byteD .row .own (v .code) (byteD .val (v .code) ∷ []))) (byteD .made 𝓤 H A W (v .code) (byteD .val (v .code) ∷ []) (verdict-code-fits v v-ok)) $
-      use0 W (‵ (idD .row .own (v .id) (idD .val (v .id) ∷ []))) (idD .made 𝓤 H A W (v .id) (idD .val (v .id) ∷ []) (verdict-id-fits v v-ok)) $
+      use0 W (‵ (byteD .row .own (v .code) (byteD .val (v .code) ∷ []))) (byteD .made 𝓤 H A W (v .code) (byteD .val (v .code) ∷ []) (code-fits v v-ok)) $
+      use0 W (‵ (idD .row .own (v .id) (idD .val (v .id) ∷ []))) (idD .made 𝓤 H A W (v .id) (idD .val (v .id) ∷ []) (id-fits v v-ok)) $
       use0 W (‵ (placeD .row .own at (placeD .val at ∷ []))) (placeD .made 𝓤 H A W at (placeD .val at ∷ []) at-ok) $
       move ! (3 ∷ 7 ∷ 4 ∷ 0 ∷ 6 ∷ 1 ∷ 2 ∷ []) $
       calls-any ! (fmOf 𝓤 H (W .laws) 𝓣) put-coded.ended (put-coded.clauses 𝓤 H A mem run) known-put-coded (((ν ∷ [], (κ1, tt)), (fullShare, (q1, tt)), tt, (record { ptr = out .ptr; name = δ; now = out .now }, (at, (m, ((v .id), ((v .code), tt))))), (sliceVal (out .ptr) (length (out .now)) ∷ [], (placeD .val at ∷ [], (sliceVal (m .ptr) (length msg) ∷ [], (idD .val (v .id) ∷ [], (byteD .val (v .code) ∷ [], tt)))))), tt) (factI 𝓤 _ (emp 𝓤) (ok .1, ok .2, omega (arith, ok .3))) placeD (at + 7) (λ ws. ws .0 ≡ put (out .now) at (coded msg (v .id) (v .code)))
@@ -181,8 +182,8 @@ module _ {M : Type 1} (𝓤 : URA M) (H : Heap 𝓤) (A : Atoms 𝓤) (W : Given
       assigns ! (agg ! (and-then ! (load ! (from ! (stop !)) (look ! 18 refl)) (and-then ! (load ! (from ! (fld ! refl (stop !))) (look-in ! 40 (sub ! 1 refl (whole !)))) (no-more !)))) (from ! (stop !)) (init ! 16 refl (tt, (tt, (record { fits = out-room .0 }, tt)))) $
       move ! (4 ∷ 5 ∷ []) $
       lendsS ! tt byteD (length (out .now)) (out .now) refl (λ ν δ rm.
-      use0 W (‵ (byteD .row .own (u .code) (byteD .val (u .code) ∷ []))) (byteD .made 𝓤 H A W (u .code) (byteD .val (u .code) ∷ []) (verdict-code-fits u u-ok)) $
-      use0 W (‵ (idD .row .own (u .id) (idD .val (u .id) ∷ []))) (idD .made 𝓤 H A W (u .id) (idD .val (u .id) ∷ []) (verdict-id-fits u u-ok)) $
+      use0 W (‵ (byteD .row .own (u .code) (byteD .val (u .code) ∷ []))) (byteD .made 𝓤 H A W (u .code) (byteD .val (u .code) ∷ []) (code-fits u u-ok)) $
+      use0 W (‵ (idD .row .own (u .id) (idD .val (u .id) ∷ []))) (idD .made 𝓤 H A W (u .id) (idD .val (u .id) ∷ []) (id-fits u u-ok)) $
       use0 W (‵ (placeD .row .own at (placeD .val at ∷ []))) (placeD .made 𝓤 H A W at (placeD .val at ∷ []) at-ok) $
       move ! (3 ∷ 9 ∷ 4 ∷ 0 ∷ 8 ∷ 1 ∷ 2 ∷ []) $
       calls-any ! (fmOf 𝓤 H (W .laws) 𝓣) put-coded.ended (put-coded.clauses 𝓤 H A mem run) known-put-coded (((ν ∷ [], (κ1, tt)), (fullShare, (q1, tt)), tt, (record { ptr = out .ptr; name = δ; now = out .now }, (at, (m, ((u .id), ((u .code), tt))))), (sliceVal (out .ptr) (length (out .now)) ∷ [], (placeD .val at ∷ [], (sliceVal (m .ptr) (length msg) ∷ [], (idD .val (u .id) ∷ [], (byteD .val (u .code) ∷ [], tt)))))), tt) (factI 𝓤 _ (emp 𝓤) (ok .1, ok .2, omega (arith, ok .3))) placeD (at + 7) (λ ws. ws .0 ≡ put (out .now) at (coded msg (u .id) (u .code)))
