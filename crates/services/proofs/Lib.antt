@@ -24,3 +24,4 @@ pub mod FieldsFit
 pub mod AnswerJoins
 pub mod IndicationLaws
 pub mod SetJoins
+pub mod ServiceLaws

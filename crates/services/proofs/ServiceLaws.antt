@@ -1,0 +1,114 @@
+-- What the carrying out of a message rests on: each service looks at its own table alone, which service a sub-service is, and what errors leave as it was.
+use Prim.Native.Nat.{ℕ, suc, _+_, _≤_, _<_}
+use mathlib.Core.Path.{_≡_, refl, sym, _∙_, ap}
+use mathlib.Core.Bool.{Bool, true, false, not, _&&_, _||_}
+use mathlib.Core.List.{List, [], _∷_, _++_, map}
+use Rattle.services.specs.declared.datapoint.Datapoint.{Datapoint}
+use Rattle.services.specs.declared.item.Item.{Item}
+use Rattle.services.specs.Table.{Tables, datapointsOnly, itemsOnly, parametersOnly}
+use Rattle.services.specs.Message.{Finding, fine, bad, Served, answerOf, afterOf, served}
+use Rattle.services.specs.Get.{getting, getServerItem, getDatapointDescription, handingOut, getDatapointValue, getParameterByte}
+use Rattle.services.specs.Set.{setting, setServerItem, setDatapointValue}
+use Rattle.services.specs.Gather.{getDatapoints}
+
+-- ---- each service looks at its own table alone
+-- a part of the tables that is the same before and after is the same whatever was found
+after-part : {A : Type 0} (part : Tables → A) (f : Finding) (t t′ : Tables) → part t′ ≡ part t → part (afterOf f t t′) ≡ part t
+unfolding afterOf
+after-part part fine t t′ e = e
+after-part part (bad i c) t t′ e = refl
+
+-- the same part of two pairs of tables
+after-same : {A : Type 0} (part : Tables → A) (f : Finding) (t t′ u u′ : Tables) → part t ≡ part u → part t′ ≡ part u′
+    → part (afterOf f t t′) ≡ part (afterOf f u u′)
+unfolding afterOf
+after-same part fine t t′ u u′ e e′ = e′
+after-same part (bad i c) t t′ u u′ e e′ = e
+
+-- tables that stay the same
+after-all : (f : Finding) (t : Tables) → afterOf f t t ≡ t
+unfolding afterOf
+after-all fine t = refl
+after-all (bad i c) t = refl
+
+abbrev datapointsOf : Tables → List Datapoint
+datapointsOf t = t .datapoints
+
+abbrev itemsOf : Tables → List Item
+itemsOf t = t .items
+
+abbrev parametersOf : Tables → List ℕ
+parametersOf t = t .parameters
+
+module _ (t : Tables) (m : List ℕ) where
+  pub datapoints-say : (values : Bool) → getDatapoints values t m .says ≡ getDatapoints values (datapointsOnly (t .datapoints)) m .says
+  unfolding getDatapoints getDatapointValue getDatapointDescription getting served
+  datapoints-say true = refl
+  datapoints-say false = refl
+
+  pub datapoints-after : (values : Bool) → getDatapoints values t m .after .datapoints ≡ getDatapoints values (datapointsOnly (t .datapoints)) m .after .datapoints
+  unfolding getDatapoints getDatapointValue getDatapointDescription getting served handingOut
+  datapoints-after true = after-same datapointsOf _ t (handingOut m t) (datapointsOnly (t .datapoints)) (handingOut m (datapointsOnly (t .datapoints))) refl refl
+  datapoints-after false = after-same datapointsOf _ t t (datapointsOnly (t .datapoints)) (datapointsOnly (t .datapoints)) refl refl
+
+  pub datapoints-keep-items : (values : Bool) → getDatapoints values t m .after .items ≡ t .items
+  unfolding getDatapoints getDatapointValue getDatapointDescription getting served handingOut
+  datapoints-keep-items true = after-part itemsOf _ t (handingOut m t) refl
+  datapoints-keep-items false = after-part itemsOf _ t t refl
+
+  pub datapoints-keep-parameters : (values : Bool) → getDatapoints values t m .after .parameters ≡ t .parameters
+  unfolding getDatapoints getDatapointValue getDatapointDescription getting served handingOut
+  datapoints-keep-parameters true = after-part parametersOf _ t (handingOut m t) refl
+  datapoints-keep-parameters false = after-part parametersOf _ t t refl
+
+  pub set-datapoints-say : setDatapointValue t m .says ≡ setDatapointValue (datapointsOnly (t .datapoints)) m .says
+  unfolding setDatapointValue setting served
+  set-datapoints-say = refl
+
+  pub set-datapoints-after : setDatapointValue t m .after .datapoints ≡ setDatapointValue (datapointsOnly (t .datapoints)) m .after .datapoints
+  unfolding setDatapointValue setting served
+  set-datapoints-after = after-same datapointsOf _ t _ (datapointsOnly (t .datapoints)) _ refl refl
+
+  pub set-datapoints-keep-items : setDatapointValue t m .after .items ≡ t .items
+  unfolding setDatapointValue setting served
+  set-datapoints-keep-items = after-part itemsOf _ t _ refl
+
+  pub set-datapoints-keep-parameters : setDatapointValue t m .after .parameters ≡ t .parameters
+  unfolding setDatapointValue setting served
+  set-datapoints-keep-parameters = after-part parametersOf _ t _ refl
+
+  pub items-say : getServerItem t m .says ≡ getServerItem (itemsOnly (t .items)) m .says
+  unfolding getServerItem getting served
+  items-say = refl
+
+  pub items-leave-all : getServerItem t m .after ≡ t
+  unfolding getServerItem getting served
+  items-leave-all = after-all _ t
+
+  pub items-after : getServerItem t m .after .items ≡ getServerItem (itemsOnly (t .items)) m .after .items
+  unfolding getServerItem getting served
+  items-after = after-same itemsOf _ t t (itemsOnly (t .items)) (itemsOnly (t .items)) refl refl
+
+  pub set-items-say : setServerItem t m .says ≡ setServerItem (itemsOnly (t .items)) m .says
+  unfolding setServerItem setting served
+  set-items-say = refl
+
+  pub set-items-after : setServerItem t m .after .items ≡ setServerItem (itemsOnly (t .items)) m .after .items
+  unfolding setServerItem setting served
+  set-items-after = after-same itemsOf _ t _ (itemsOnly (t .items)) _ refl refl
+
+  pub set-items-keep-datapoints : setServerItem t m .after .datapoints ≡ t .datapoints
+  unfolding setServerItem setting served
+  set-items-keep-datapoints = after-part datapointsOf _ t _ refl
+
+  pub set-items-keep-parameters : setServerItem t m .after .parameters ≡ t .parameters
+  unfolding setServerItem setting served
+  set-items-keep-parameters = after-part parametersOf _ t _ refl
+
+  pub parameters-say : getParameterByte t m .says ≡ getParameterByte (parametersOnly (t .parameters)) m .says
+  unfolding getParameterByte getting served
+  parameters-say = refl
+
+  pub parameters-leave-all : getParameterByte t m .after ≡ t
+  unfolding getParameterByte getting served
+  parameters-leave-all = after-all _ t
