@@ -3,13 +3,20 @@ use Prim.Native.Nat.{ℕ, suc, _+_, _≤_, _<_}
 use mathlib.Core.Path.{_≡_, refl, sym, _∙_, ap}
 use mathlib.Core.Bool.{Bool, true, false, not, _&&_, _||_}
 use mathlib.Core.List.{List, [], _∷_, _++_, map}
+use native.Mathlib.Omega.{arith}
+use lib.ListN.{length, getD}
+use lib.Dec.{leb, ltb, eqb}
+use borrow.Author.Tests.{eq-eqb, ne-eqb, ltb-false, eqb-true, leb-false}
+use Rattle.link.specs.Words.{if_then_else_}
+use Rattle.link.proofs.WordLaws.{true-T}
 use Rattle.services.specs.declared.datapoint.Datapoint.{Datapoint}
 use Rattle.services.specs.declared.item.Item.{Item}
 use Rattle.services.specs.Table.{Tables, datapointsOnly, itemsOnly, parametersOnly}
-use Rattle.services.specs.Message.{Finding, fine, bad, Served, answerOf, afterOf, served}
+use Rattle.services.specs.Message.{mainService, subService, startOf, coded, Finding, fine, bad, Served, answerOf, afterOf, served}
 use Rattle.services.specs.Get.{getting, getServerItem, getDatapointDescription, handingOut, getDatapointValue, getParameterByte}
 use Rattle.services.specs.Set.{setting, setServerItem, setDatapointValue}
 use Rattle.services.specs.Gather.{getDatapoints}
+use Rattle.services.specs.Service.{service, unanswered, carriedOut}
 
 -- ---- each service looks at its own table alone
 -- a part of the tables that is the same before and after is the same whatever was found
@@ -112,3 +119,73 @@ module _ (t : Tables) (m : List ℕ) where
   pub parameters-leave-all : getParameterByte t m .after ≡ t
   unfolding getParameterByte getting served
   parameters-leave-all = after-all _ t
+
+-- ---- which messages are answered
+pub not-answered : (t : Tables) (m : List ℕ) → unanswered m ≡ true → carriedOut t m ≡ record { says = []; after = t }
+unfolding carriedOut
+not-answered t m u = simp u
+
+none-of : (a b c : Bool) → (a || not b || c) ≡ false → (a ≡ false) × (b ≡ true) × (c ≡ false)
+none-of true b c e = absurd (true-T {b = false} (sym e))
+none-of false false c e = absurd (true-T {b = false} (sym e))
+none-of false true c e = (refl, refl, e)
+
+module _ (m : List ℕ) (u : unanswered m ≡ false) where
+  three : (ltb (length m) 6 ≡ false) × (eqb (mainService m) 0xF0 ≡ true) × (leb 0x80 (subService m) ≡ false)
+  unfolding unanswered
+  three = none-of (ltb (length m) 6) (eqb (mainService m) 0xF0) (leb 0x80 (subService m)) u
+
+  pub answered-long : 6 ≤ length m
+  answered-long = omega (arith, ltb-false (length m) 6 (three .0))
+
+  pub answered-main : mainService m ≡ 0xF0
+  answered-main = eqb-true (mainService m) 0xF0 (three .1)
+
+  pub answered-sub : subService m < 0x80
+  answered-sub = omega (arith, leb-false 0x80 (subService m) (three .2))
+
+-- ---- which service a sub-service is
+module _ (t : Tables) (m : List ℕ) (u : unanswered m ≡ false) where
+  answered : carriedOut t m ≡ service t m
+  unfolding carriedOut
+  answered = simp u
+
+  not-this : (n : ℕ) {k : ℕ} → subService m ≡ k → (k ≡ n → ⊥) → eqb (subService m) n ≡ false
+  not-this n e d = ne-eqb (subService m) n (λ q. d (sym e ∙ q))
+
+  pub is-get-item : subService m ≡ 1 → carriedOut t m ≡ getServerItem t m
+  unfolding service
+  is-get-item e = answered ∙ simp (eq-eqb (subService m) 1 e)
+
+  pub is-set-item : subService m ≡ 2 → carriedOut t m ≡ setServerItem t m
+  unfolding service
+  is-set-item e = answered ∙ simp (not-this 1 e (λ q. omega (arith, q)), eq-eqb (subService m) 2 e)
+
+  pub is-get-description : subService m ≡ 3 → carriedOut t m ≡ getDatapoints false t m
+  unfolding service getDatapoints
+  is-get-description e = answered ∙ simp (not-this 1 e (λ q. omega (arith, q)), not-this 2 e (λ q. omega (arith, q)), eq-eqb (subService m) 3 e)
+
+  pub is-get-value : subService m ≡ 5 → carriedOut t m ≡ getDatapoints true t m
+  unfolding service getDatapoints
+  is-get-value e =
+      answered
+      ∙ simp (not-this 1 e (λ q. omega (arith, q)), not-this 2 e (λ q. omega (arith, q)), not-this 3 e (λ q. omega (arith, q)), eq-eqb (subService m) 5 e)
+
+  pub is-set-value : subService m ≡ 6 → carriedOut t m ≡ setDatapointValue t m
+  unfolding service
+  is-set-value e =
+      answered
+      ∙ simp (not-this 1 e (λ q. omega (arith, q)), not-this 2 e (λ q. omega (arith, q)), not-this 3 e (λ q. omega (arith, q)), not-this 5 e (λ q. omega (arith, q)), eq-eqb (subService m) 6 e)
+
+  pub is-get-parameter : subService m ≡ 7 → carriedOut t m ≡ getParameterByte t m
+  unfolding service
+  is-get-parameter e =
+      answered
+      ∙ simp (not-this 1 e (λ q. omega (arith, q)), not-this 2 e (λ q. omega (arith, q)), not-this 3 e (λ q. omega (arith, q)), not-this 5 e (λ q. omega (arith, q)), not-this 6 e (λ q. omega (arith, q)), eq-eqb (subService m) 7 e)
+
+  pub is-no-service : (subService m ≡ 1 → ⊥) → (subService m ≡ 2 → ⊥) → (subService m ≡ 3 → ⊥) → (subService m ≡ 5 → ⊥) → (subService m ≡ 6 → ⊥)
+      → (subService m ≡ 7 → ⊥) → carriedOut t m ≡ record { says = coded m (startOf m) 5; after = t }
+  unfolding service
+  is-no-service n1 n2 n3 n5 n6 n7 =
+      answered
+      ∙ simp (ne-eqb (subService m) 1 n1, ne-eqb (subService m) 2 n2, ne-eqb (subService m) 3 n3, ne-eqb (subService m) 5 n5, ne-eqb (subService m) 6 n6, ne-eqb (subService m) 7 n7)
