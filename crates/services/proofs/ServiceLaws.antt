@@ -1,20 +1,22 @@
 -- What the carrying out of a message rests on: each service looks at its own table alone, which service a sub-service is, and what errors leave as it was.
-use Prim.Native.Nat.{ℕ, suc, _+_, _≤_, _<_}
+use Prim.Native.Nat.{ℕ, zero, suc, _+_, _*_, _/_, _%_, _≤_, _<_}
 use mathlib.Core.Path.{_≡_, refl, sym, _∙_, ap}
 use mathlib.Core.Bool.{Bool, true, false, not, _&&_, _||_}
 use mathlib.Core.List.{List, [], _∷_, _++_, map}
 use native.Mathlib.Omega.{arith}
-use lib.ListN.{length, getD}
+use lib.ListN.{length, getD, drop, length-map}
 use lib.Dec.{leb, ltb, eqb}
 use borrow.Author.Tests.{eq-eqb, ne-eqb, ltb-false, eqb-true, leb-false}
-use Rattle.link.specs.Words.{if_then_else_}
+use Rattle.link.specs.Words.{if_then_else_, twoBytes, keep}
 use Rattle.link.proofs.WordLaws.{true-T}
 use Rattle.services.specs.declared.datapoint.Datapoint.{Datapoint}
 use Rattle.services.specs.declared.item.Item.{Item}
-use Rattle.services.specs.Table.{Tables, datapointsOnly, itemsOnly, parametersOnly}
-use Rattle.services.specs.Message.{mainService, subService, startOf, coded, Finding, fine, bad, Served, answerOf, afterOf, served}
-use Rattle.services.specs.Get.{getting, getServerItem, getDatapointDescription, handingOut, getDatapointValue, getParameterByte}
-use Rattle.services.specs.Set.{setting, setServerItem, setDatapointValue}
+use Rattle.services.specs.Datapoint.{datapointId, zeroDatapoint, isUpdated, withState, handedOut}
+use Rattle.services.specs.Item.{itemId}
+use Rattle.services.specs.Table.{Tables, found, datapointsOnly, itemsOnly, parametersOnly}
+use Rattle.services.specs.Message.{mainService, subService, startOf, numberOf, filterOf, coded, Finding, fine, bad, Served, answerOf, afterOf, served}
+use Rattle.services.specs.Get.{AnswerEntry, inRequest, listing, getFinding, getting, itemEntry, descriptionEntry, valueEntry, asked, parameterEntries, getServerItem, getDatapointDescription, handingOut, getDatapointValue, getParameterByte}
+use Rattle.services.specs.Set.{SetEntry, firstItemEntry, firstDatapointEntry, setEntries, setFinding, judgedItem, judgedDatapoint, setting, setServerItem, setDatapointValue}
 use Rattle.services.specs.Gather.{getDatapoints}
 use Rattle.services.specs.Service.{service, unanswered, carriedOut}
 
@@ -189,3 +191,70 @@ module _ (t : Tables) (m : List ℕ) (u : unanswered m ≡ false) where
   is-no-service n1 n2 n3 n5 n6 n7 =
       answered
       ∙ simp (ne-eqb (subService m) 1 n1, ne-eqb (subService m) 2 n2, ne-eqb (subService m) 3 n3, ne-eqb (subService m) 5 n5, ne-eqb (subService m) 6 n6, ne-eqb (subService m) 7 n7)
+
+-- ---- an error answer leaves everything as it was
+pub bad-served : (i c : ℕ) (m answer : List ℕ) (t t′ : Tables) → served (bad i c) m answer t t′ ≡ record { says = coded m i c; after = t }
+unfolding served answerOf afterOf
+bad-served i c m answer t t′ = refl
+
+pub fine-served : (m answer : List ℕ) (t t′ : Tables) → served fine m answer t t′ ≡ record { says = answer; after = t′ }
+unfolding served answerOf afterOf
+fine-served m answer t t′ = refl
+
+pub bad-get : (size : ℕ) (badFilter : Bool) (es : List AnswerEntry) (t t′ : Tables) (m : List ℕ) {i c : ℕ} → getFinding size badFilter m es ≡ bad i c
+    → getting size badFilter es t t′ m ≡ record { says = coded m i c; after = t }
+unfolding getting
+bad-get size badFilter es t t′ m {i} {c} e =
+    ap (λ (f : Finding). served f m (listing (subService m + 0x80) (startOf m) es) t t′) e ∙ bad-served i c m (listing (subService m + 0x80) (startOf m) es) t t′
+
+pub bad-set : (h : ℕ) (first : List ℕ → SetEntry) (judge : SetEntry → ℕ) (done : List SetEntry → Tables) (t : Tables) (m : List ℕ) {i c : ℕ}
+    → setFinding h first judge m ≡ bad i c → setting h first judge done t m ≡ record { says = coded m i c; after = t }
+unfolding setting
+bad-set h first judge done t m {i} {c} e =
+    let t′ = done (setEntries first h (numberOf m) (drop 6 m)) in
+    ap (λ (f : Finding). served f m (coded m (startOf m) 0) t t′) e ∙ bad-served i c m (coded m (startOf m) 0) t t′
+
+module _ (t : Tables) (m : List ℕ) where
+  -- what each service finds
+  abbrev pub itemFinding : Finding
+  itemFinding = getFinding 6 false m (map itemEntry (keep (λ (i : Item). inRequest m (i .id)) (t .items)))
+
+  abbrev pub descriptionFinding : Finding
+  descriptionFinding = getFinding 6 false m (map descriptionEntry (keep (λ (d : Datapoint). inRequest m (d .id)) (t .datapoints)))
+
+  abbrev pub valueFinding : Finding
+  valueFinding = getFinding 7 (ltb 2 (filterOf m)) m (map valueEntry (keep (asked m) (t .datapoints)))
+
+  abbrev pub parameterFinding : Finding
+  parameterFinding =
+      getFinding 6 false m (if eqb (startOf m) 0 then [] else keep (λ (e : AnswerEntry). inRequest m (e .id)) (parameterEntries 1 (t .parameters)))
+
+  abbrev pub setItemFinding : Finding
+  setItemFinding = setFinding 3 firstItemEntry (λ e. judgedItem (found itemId (e .id) (t .items)) e) m
+
+  abbrev pub setValueFinding : Finding
+  setValueFinding = setFinding 4 firstDatapointEntry (λ e. judgedDatapoint (found datapointId (e .id) (t .datapoints)) e) m
+
+  pub bad-get-item : {i c : ℕ} → itemFinding ≡ bad i c → getServerItem t m ≡ record { says = coded m i c; after = t }
+  unfolding getServerItem
+  bad-get-item e = bad-get 6 false _ t t m e
+
+  pub bad-get-description : {i c : ℕ} → descriptionFinding ≡ bad i c → getDatapointDescription t m ≡ record { says = coded m i c; after = t }
+  unfolding getDatapointDescription
+  bad-get-description e = bad-get 6 false _ t t m e
+
+  pub bad-get-value : {i c : ℕ} → valueFinding ≡ bad i c → getDatapointValue t m ≡ record { says = coded m i c; after = t }
+  unfolding getDatapointValue
+  bad-get-value e = bad-get 7 (ltb 2 (filterOf m)) _ t (handingOut m t) m e
+
+  pub bad-get-parameter : {i c : ℕ} → parameterFinding ≡ bad i c → getParameterByte t m ≡ record { says = coded m i c; after = t }
+  unfolding getParameterByte
+  bad-get-parameter e = bad-get 6 false _ t t m e
+
+  pub bad-set-item : {i c : ℕ} → setItemFinding ≡ bad i c → setServerItem t m ≡ record { says = coded m i c; after = t }
+  unfolding setServerItem
+  bad-set-item e = bad-set 3 firstItemEntry _ _ t m e
+
+  pub bad-set-value : {i c : ℕ} → setValueFinding ≡ bad i c → setDatapointValue t m ≡ record { says = coded m i c; after = t }
+  unfolding setDatapointValue
+  bad-set-value e = bad-set 4 firstDatapointEntry _ _ t m e
