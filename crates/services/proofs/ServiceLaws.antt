@@ -1,17 +1,17 @@
 -- What the carrying out of a message rests on: each service looks at its own table alone, which service a sub-service is, and what errors leave as it was.
-use Prim.Native.Nat.{ℕ, zero, suc, _+_, _*_, _/_, _%_, _≤_, _<_}
+use Prim.Native.Nat.{ℕ, zero, suc, _+_, _/_, _%_, _≤_, _<_}
 use mathlib.Core.Path.{_≡_, refl, sym, _∙_, ap}
-use mathlib.Core.Bool.{Bool, true, false, not, _&&_, _||_}
-use mathlib.Core.List.{List, [], _∷_, _++_, map}
+use mathlib.Core.Bool.{Bool, true, false, not, _||_}
+use mathlib.Core.List.{List, [], _∷_, map}
 use native.Mathlib.Omega.{arith}
 use lib.ListN.{length, getD, drop, length-map}
 use lib.Dec.{leb, ltb, eqb}
 use borrow.Author.Tests.{eq-eqb, ne-eqb, ltb-false, eqb-true, leb-false}
-use Rattle.link.specs.Words.{if_then_else_, twoBytes, keep}
+use Rattle.link.specs.Words.{if_then_else_, keep}
 use Rattle.link.proofs.WordLaws.{true-T}
 use Rattle.services.specs.declared.datapoint.Datapoint.{Datapoint}
 use Rattle.services.specs.declared.item.Item.{Item}
-use Rattle.services.specs.Datapoint.{datapointId, zeroDatapoint, isUpdated, withState, handedOut}
+use Rattle.services.specs.Datapoint.{datapointId, zeroDatapoint, withState, handedOut}
 use Rattle.services.specs.Item.{itemId}
 use Rattle.services.specs.Table.{Tables, found, datapointsOnly, itemsOnly, parametersOnly}
 use Rattle.services.specs.Message.{mainService, subService, startOf, numberOf, filterOf, coded, Finding, fine, bad, Served, answerOf, afterOf, served}
@@ -258,3 +258,76 @@ module _ (t : Tables) (m : List ℕ) where
   pub bad-set-value : {i c : ℕ} → setValueFinding ≡ bad i c → setDatapointValue t m ≡ record { says = coded m i c; after = t }
   unfolding setDatapointValue
   bad-set-value e = bad-set 4 firstDatapointEntry _ _ t m e
+
+-- ---- what a positive get of values shows and leaves
+-- bit 3 cleared, and nothing else changed
+pub record HandedOut (d e : Datapoint) : Type 0 where
+  pub id : e .id ≡ d .id
+  pub typecode : e .typecode ≡ d .typecode
+  pub flags : e .flags ≡ d .flags
+  pub dpt : e .dpt ≡ d .dpt
+  pub value : e .value ≡ d .value
+  pub mark : e .mark ≡ d .mark
+  -- bit 3, the bits above it, and the bits below it
+  pub cleared : e .state / 8 % 2 ≡ 0
+  pub above : e .state / 16 ≡ d .state / 16
+  pub below : e .state % 8 ≡ d .state % 8
+
+pub handed-out : (d : Datapoint) → HandedOut d (handedOut d)
+unfolding handedOut withState
+handed-out d =
+    record {
+      id = refl;
+      typecode = refl;
+      flags = refl;
+      dpt = refl;
+      value = refl;
+      mark = refl;
+      cleared = omega arith;
+      above = omega arith;
+      below = omega arith;
+    }
+
+-- the entry shows the state byte as it was
+pub state-shown : (d : Datapoint) → getD (valueEntry d .bytes) 2 0 ≡ d .state
+unfolding valueEntry
+state-shown d = refl
+
+getD-mapped : {A : Type 0} (f : A → A) (xs : List A) (k : ℕ) (z : A) → k < length xs → getD (map f xs) k z ≡ f (getD xs k z)
+getD-mapped f [] k z h = absurd (omega (arith, h))
+getD-mapped f (x ∷ xs) zero z h = refl
+getD-mapped f (x ∷ xs) (suc k) z h = getD-mapped f xs k z (omega (arith, h))
+
+module _ (t : Tables) (m : List ℕ) (e : valueFinding t m ≡ fine) where
+  pub value-answered :
+      getDatapointValue t m
+      ≡ record { says = listing (subService m + 0x80) (startOf m) (map valueEntry (keep (asked m) (t .datapoints))); after = handingOut m t }
+  unfolding getDatapointValue getting
+  value-answered =
+      let answer = listing (subService m + 0x80) (startOf m) (map valueEntry (keep (asked m) (t .datapoints))) in
+      ap (λ (f : Finding). served f m answer t (handingOut m t)) e ∙ fine-served m answer t (handingOut m t)
+
+  abbrev left : List Datapoint
+  left = getDatapointValue t m .after .datapoints
+
+  left-is : left ≡ map (λ (d : Datapoint). if asked m d then handedOut d else d) (t .datapoints)
+  unfolding handingOut
+  left-is = ap (λ (s : Served). s .after .datapoints) value-answered
+
+  pub value-as-many : length left ≡ length (t .datapoints)
+  value-as-many = ap (λ (ds : List Datapoint). length ds) left-is ∙ length-map (t .datapoints) _
+
+  module _ (k : ℕ) (h : k < length (t .datapoints)) where
+    abbrev before : Datapoint
+    before = getD (t .datapoints) k zeroDatapoint
+
+    left-at : getD left k zeroDatapoint ≡ (if asked m before then handedOut before else before)
+    left-at =
+        ap (λ (ds : List Datapoint). getD ds k zeroDatapoint) left-is
+        ∙ getD-mapped (λ (d : Datapoint). if asked m d then handedOut d else d) (t .datapoints) k zeroDatapoint h
+
+    pub value-handed-out : asked m before ≡ true → getD left k zeroDatapoint ≡ handedOut before
+    value-handed-out a = left-at ∙ simp a
+
+    pub value-unaltered : asked m before ≡ false → getD left k zeroDatapoint ≡ before
+    value-unaltered a = left-at ∙ simp a
