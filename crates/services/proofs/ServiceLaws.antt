@@ -122,6 +122,53 @@ module _ (t : Tables) (m : List ℕ) where
   unfolding getParameterByte getting served
   parameters-leave-all = after-all _ t
 
+  pub descriptions-leave-all : getDatapoints false t m .after ≡ t
+  unfolding getDatapoints getDatapointDescription getting served
+  descriptions-leave-all = after-all _ t
+
+  -- each service as a whole, by what it does with its own table
+  pub get-datapoints-whole : (values : Bool)
+      → getDatapoints values t m
+      ≡ record {
+        says = getDatapoints values (datapointsOnly (t .datapoints)) m .says;
+        after = record { datapoints = getDatapoints values (datapointsOnly (t .datapoints)) m .after .datapoints; items = t .items; parameters = t .parameters };
+      }
+  get-datapoints-whole values =
+      λ i. record {
+        says = datapoints-say values i;
+        after = record { datapoints = datapoints-after values i; items = datapoints-keep-items values i; parameters = datapoints-keep-parameters values i };
+      }
+
+  pub set-datapoints-whole :
+      setDatapointValue t m
+      ≡ record {
+        says = setDatapointValue (datapointsOnly (t .datapoints)) m .says;
+        after = record { datapoints = setDatapointValue (datapointsOnly (t .datapoints)) m .after .datapoints; items = t .items; parameters = t .parameters };
+      }
+  set-datapoints-whole =
+      λ i. record {
+        says = set-datapoints-say i;
+        after = record { datapoints = set-datapoints-after i; items = set-datapoints-keep-items i; parameters = set-datapoints-keep-parameters i };
+      }
+
+  pub get-items-whole : getServerItem t m ≡ record { says = getServerItem (itemsOnly (t .items)) m .says; after = t }
+  get-items-whole = λ i. record { says = items-say i; after = items-leave-all i }
+
+  pub set-items-whole :
+      setServerItem t m
+      ≡ record {
+        says = setServerItem (itemsOnly (t .items)) m .says;
+        after = record { datapoints = t .datapoints; items = setServerItem (itemsOnly (t .items)) m .after .items; parameters = t .parameters };
+      }
+  set-items-whole =
+      λ i. record {
+        says = set-items-say i;
+        after = record { datapoints = set-items-keep-datapoints i; items = set-items-after i; parameters = set-items-keep-parameters i };
+      }
+
+  pub get-parameters-whole : getParameterByte t m ≡ record { says = getParameterByte (parametersOnly (t .parameters)) m .says; after = t }
+  get-parameters-whole = λ i. record { says = parameters-say i; after = parameters-leave-all i }
+
 -- ---- which messages are answered
 pub not-answered : (t : Tables) (m : List ℕ) → unanswered m ≡ true → carriedOut t m ≡ record { says = []; after = t }
 unfolding carriedOut
@@ -145,6 +192,9 @@ module _ (m : List ℕ) (u : unanswered m ≡ false) where
 
   pub answered-sub : subService m < 0x80
   answered-sub = omega (arith, leb-false 0x80 (subService m) (three .2))
+
+  pub answered-shape : (6 ≤ length m) × (subService m < 0x80)
+  answered-shape = (answered-long, answered-sub)
 
 -- ---- which service a sub-service is
 module _ (t : Tables) (m : List ℕ) (u : unanswered m ≡ false) where
