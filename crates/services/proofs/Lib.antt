@@ -25,3 +25,4 @@ pub mod AnswerJoins
 pub mod IndicationLaws
 pub mod SetJoins
 pub mod ServiceLaws
+pub mod CarryJoins

@@ -15,6 +15,9 @@ pub record Tables : Type 0 where
   pub items : List Item
   pub parameters : List ℕ
 
+abbrev pub tablesOf : List Datapoint → List Item → List ℕ → Tables
+tablesOf ds is ps = record { datapoints = ds; items = is; parameters = ps }
+
 -- tables of which one alone is looked at
 abbrev pub datapointsOnly : List Datapoint → Tables
 datapointsOnly ds = record { datapoints = ds; items = []; parameters = [] }

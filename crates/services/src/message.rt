@@ -12,6 +12,14 @@ pub struct Verdict {
     pub code: u8,
 }
 
+// SubService.
+pub fn sub_service_of(m: &[u8]) -> u8
+    requires { ⌜ 6 ≤ length (now m) ⌝ }
+    ensures { λ r. ⌜ r ≡ subService (now (m .entry)) ⌝ }
+{
+    m[1]
+}
+
 // StartItem, StartDatapoint or StartByte.
 pub fn start_of(m: &[u8]) -> u16
     requires { ⌜ 6 ≤ length (now m) ⌝ }

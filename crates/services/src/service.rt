@@ -1,6 +1,23 @@
 // Carrying out a message.
 ghost use mathlib.Core.Path.{_≡_};
-ghost use Rattle.services.specs.Service.{unanswered};
+ghost use mathlib.Core.Bool.{true};
+ghost use Prim.Native.Nat.{_+_, _≤_};
+ghost use lib.ListN.{length};
+ghost use Rattle.link.specs.Words.{put};
+ghost use Rattle.services.specs.Datapoint.{datapointId, datapointOk};
+ghost use Rattle.services.specs.Item.{itemId, itemOk};
+ghost use Rattle.services.specs.Table.{tablesOf, tableOk};
+ghost use Rattle.services.specs.Service.{unanswered, carriedOut};
+use crate::datapoint::Datapoint;
+use crate::get::get_datapoints;
+use crate::get::get_items;
+use crate::get::get_parameters;
+use crate::item::Item;
+use crate::message::put_coded;
+use crate::message::start_of;
+use crate::message::sub_service_of;
+use crate::set::set_datapoints;
+use crate::set::set_items;
 
 // Whether the message gets no answer.
 pub fn is_unanswered(m: &[u8]) -> bool
@@ -13,4 +30,45 @@ pub fn is_unanswered(m: &[u8]) -> bool
         return true;
     }
     0x80 <= m[1]
+}
+
+// A message carried out: the answer, into the buffer at `at`, or nothing where none is due; answers where it ends.
+pub fn carry_out(
+    datapoints: &mut [Datapoint],
+    items: &mut [Item],
+    parameters: &[u8],
+    m: &[u8],
+    out: &mut [u8],
+    at: usize,
+) -> usize
+    requires { ⌜ (tableOk 1000 datapointId datapointOk (now datapoints) ≡ true) × (tableOk 64 itemId itemOk (now items) ≡ true) × (length (now parameters) ≤ 255) × (at + 254 ≤ length (now out)) ⌝ }
+    ensures { λ r. ⌜ (now (datapoints .exit) ≡ carriedOut (tablesOf (now (datapoints .entry)) (now (items .entry)) (now (parameters .entry))) (now (m .entry)) .after .datapoints)
+        × (now (items .exit) ≡ carriedOut (tablesOf (now (datapoints .entry)) (now (items .entry)) (now (parameters .entry))) (now (m .entry)) .after .items)
+        × (now (out .exit) ≡ put (now (out .entry)) at (carriedOut (tablesOf (now (datapoints .entry)) (now (items .entry)) (now (parameters .entry))) (now (m .entry)) .says))
+        × (r ≡ at + length (carriedOut (tablesOf (now (datapoints .entry)) (now (items .entry)) (now (parameters .entry))) (now (m .entry)) .says)) ⌝ }
+{
+    if is_unanswered(m) {
+        return at;
+    }
+    let sub = sub_service_of(m);
+    if sub == 1 {
+        return get_items(items, m, out, at);
+    }
+    if sub == 2 {
+        return set_items(items, m, out, at);
+    }
+    if sub == 3 {
+        return get_datapoints(datapoints, m, false, out, at);
+    }
+    if sub == 5 {
+        return get_datapoints(datapoints, m, true, out, at);
+    }
+    if sub == 6 {
+        return set_datapoints(datapoints, m, out, at);
+    }
+    if sub == 7 {
+        return get_parameters(parameters, m, out, at);
+    }
+    let start = start_of(m);
+    put_coded(out, at, m, start, 5)
 }
