@@ -16,7 +16,7 @@ use Rattle.server.specs.Event.{busOk}
 use Rattle.server.specs.Call.{Done, happens, accepted, call}
 use Rattle.server.proofs.CallLaws.{refusal-0, InOrder, happens-lasts}
 use Rattle.demands.specs.Run.{Ran, sentOf, before, run}
-use Rattle.demands.specs.Session.{following, inTurn, Lent, calls, thenIdle}
+use Rattle.demands.specs.Exchange.{following, inTurn, Lent, calls, thenIdle}
 
 -- what was done, in the link record
 abbrev pub ranOf : Done → Ran

@@ -24,8 +24,8 @@ use Rattle.services.specs.Service.{carriedOut}
 use Rattle.services.proofs.AnswerLaws.{Sized, none, some, answer-sized}
 use Rattle.server.specs.Call.{Done, saying}
 use Rattle.demands.specs.Run.{Ran}
-use Rattle.demands.specs.Session.{inTurn, Lent, thenIdle, delivery, Session, session, Start, Request, requestFrame, EachPossible, someSound, answerFrame, draws, Rest, same, acknowledged, noneBeginsE5, Once, Demand3}
-use Rattle.demands.proofs.SessionLaws.{noMessage, thenMarked, delivery-leaves, request-carried}
+use Rattle.demands.specs.Exchange.{inTurn, Lent, thenIdle, delivery, Exchange, exchange, Start, Request, requestFrame, EachPossible, someSound, answerFrame, draws, Rest, same, acknowledged, noneBeginsE5, Once, Demand3}
+use Rattle.demands.proofs.ExchangeLaws.{noMessage, thenMarked, delivery-leaves, request-carried}
 use Rattle.demands.proofs.CallRuns.{ranOf, idle-run, idle-lasts}
 
 -- ---- words
@@ -91,7 +91,7 @@ delivered-start : (bs : List ℕ) (l : Line) → delivered bs l .line ≡ atStar
 unfolding delivered
 delivered-start bs l = marked-start _
 
--- where the session stands between two deliveries
+-- where the exchange stands between two deliveries
 record Ready (t : Tables) (l : Line) : Type 0 where
   tables : T (wellFormed t)
   line : T (lineOk l)
@@ -205,10 +205,10 @@ module _ (m : List ℕ) (request : Request m) (bit : Bool) where
     unfolding done saying
     first-carried = refl
 
-  -- ---- the session
+  -- ---- the exchange
   -- what it shows from here on: the answer's frame that is still to be sent, the tables that are left, the line after the first sound delivery, and the
   -- line that is left if no delivery begins with E5
-  record Went (answer : List ℕ) (t : Tables) (l l′ : Line) (ds : List Delivery) (s : Session) : Type 0 where
+  record Went (answer : List ℕ) (t : Tables) (l l′ : Line) (ds : List Delivery) (s : Exchange) : Type 0 where
     drawn : s .sent ≡ draws answer ds
     tables : s .tables ≡ t
     line : Line
@@ -218,11 +218,11 @@ module _ (m : List ℕ) (request : Request m) (bit : Bool) where
 
   module _ (lent : ℕ → ℕ → Lent) (d : Delivery) (ds : List Delivery) (answer later : List ℕ) (t t′ finally : Tables) (k : Link) (l′ : Line) (s : List ℕ) where
     step : delivery (lent 0) f d t k ≡ ran s t′ l′ → draws answer (d ∷ ds) ≡ s ∷ draws later ds → (l next end : Line)
-        → (T (not (eqb (getD (arrives f d) 0 0) 0xE5)) → next ≡ end) → Went later finally l next ds (session (λ i. lent (suc i)) f ds t′ (linkOf l′))
-        → Went answer finally l end (d ∷ ds) (session lent f (d ∷ ds) t k)
-    unfolding session noneBeginsE5
+        → (T (not (eqb (getD (arrives f d) 0 0) 0xE5)) → next ≡ end) → Went later finally l next ds (exchange (λ i. lent (suc i)) f ds t′ (linkOf l′))
+        → Went answer finally l end (d ∷ ds) (exchange lent f (d ∷ ds) t k)
+    unfolding exchange noneBeginsE5
     step e c l next end h went =
-        let behind : Ran → Session = λ r. session (λ i. lent (suc i)) f ds (r .tables) (r .link) in
+        let behind : Ran → Exchange = λ r. exchange (λ i. lent (suc i)) f ds (r .tables) (r .link) in
         let first : Bool = not (eqb (getD (arrives f d) 0 0) 0xE5) in
         record {
           drawn = ap {B = List (List ℕ)} (λ (r : Ran). r .sent ∷ behind r .sent) e ∙ ap {B = List (List ℕ)} (λ (r : List (List ℕ)). s ∷ r) (went .drawn) ∙ sym c;
@@ -243,8 +243,8 @@ module _ (m : List ℕ) (request : Request m) (bit : Bool) where
 
   -- after the first sound delivery, which left the line l
   module _ (t : Tables) (l : Line) (x : l .expected ≡ not bit) where
-    repeats : (ds : List Delivery) (lent : ℕ → ℕ → Lent) → ((i : ℕ) → Roomy (lent i)) → (n : Line) → Ready t n → Acted l n → EachPossible f ds → Went [] t l n ds (session lent f ds t (linkOf n))
-    repeats [] lent room n ready a p = record { drawn = unfold session draws in refl; tables = unfold session in refl; line = n; link = unfold session in refl; acted = a; undisturbed = λ h. refl }
+    repeats : (ds : List Delivery) (lent : ℕ → ℕ → Lent) → ((i : ℕ) → Roomy (lent i)) → (n : Line) → Ready t n → Acted l n → EachPossible f ds → Went [] t l n ds (exchange lent f ds t (linkOf n))
+    repeats [] lent room n ready a p = record { drawn = unfold exchange draws in refl; tables = unfold exchange in refl; line = n; link = unfold exchange in refl; acted = a; undisturbed = λ h. refl }
     repeats (sound ∷ ds) lent room n ready a p =
         step lent sound ds [] [] t t t _ n acknowledgement (repeated t n ready (acted-expected a ∙ x) (lent 0) (room 0)) (sound-draws ds []) l n n (λ h. refl)
         (repeats ds (λ i. lent (suc i)) (λ i. room (suc i)) n ready a (p .1))
@@ -266,7 +266,7 @@ module _ (m : List ℕ) (request : Request m) (bit : Bool) where
     after = done t l ready x o
 
     abbrev WentOn : (ℕ → ℕ → Lent) → List Delivery → Type 0
-    WentOn lent ds = Went answer (after .tables) (after .line) (after .line) ds (session lent f ds t (linkOf l))
+    WentOn lent ds = Went answer (after .tables) (after .line) (after .line) ds (exchange lent f ds t (linkOf l))
 
     unharmed : (lent : ℕ → ℕ → Lent) → Roomy (lent 0) → (d : Delivery) (ds : List Delivery) → isSound d ≡ false → Possible f d → WentOn (λ i. lent (suc i)) ds → WentOn lent (d ∷ ds)
     unharmed lent room d ds u p went =

@@ -1,4 +1,4 @@
--- Demand 3 says something: its premises hold at example 1, for a session with damaged deliveries before, between and after two sound ones.
+-- Demand 3 says something: its premises hold at example 1, for an exchange with damaged deliveries before, between and after two sound ones.
 use Prim.Native.Nat.{ℕ}
 use mathlib.Core.Path.{_≡_, refl, _∙_}
 use mathlib.Core.Bool.{true}
@@ -11,7 +11,7 @@ use Rattle.link.specs.Record.{linkOf}
 use Rattle.link.specs.Delivery.{Delivery, sound, changed, lost, isSound, arrives}
 use Rattle.link.proofs.RecordLaws.{line-in-range}
 use Rattle.demands.specs.Example.{lineAt, item1, answer1}
-use Rattle.demands.specs.Session.{Lent, calls, thenIdle, delivery, session, Start, Request, requestFrame, EachPossible, someSound, answerFrame, draws, Once}
+use Rattle.demands.specs.Exchange.{Lent, calls, thenIdle, delivery, exchange, Start, Request, requestFrame, EachPossible, someSound, answerFrame, draws, Once}
 use Rattle.demands.proofs.Opened.{opened}
 use Rattle.demands.proofs.Demand3.{demand-3}
 
@@ -56,13 +56,13 @@ met : Once lent request deliveries item1 link
 met = demand-3 lent request deliveries item1 link at-start asked possible some-sound
 
 -- what the theorem then says of them
-pub met-sent : session lent (requestFrame link request) deliveries item1 link .sent ≡ [] ∷ (0xE5 ∷ answer1) ∷ [] ∷ (0xE5 ∷ []) ∷ [] ∷ [] ∷ []
+pub met-sent : exchange lent (requestFrame link request) deliveries item1 link .sent ≡ [] ∷ (0xE5 ∷ answer1) ∷ [] ∷ (0xE5 ∷ []) ∷ [] ∷ [] ∷ []
 met-sent = met .drawn ∙ says
   where
     says : draws (answerFrame item1 link request) deliveries ≡ [] ∷ (0xE5 ∷ answer1) ∷ [] ∷ (0xE5 ∷ []) ∷ [] ∷ [] ∷ []
     says = unfold opened answerFrame link lineAt request item1 answer1 draws isSound deliveries in refl
 
 -- and the exception is met too: the answer is outstanding after one sound delivery, and no more after the last of these, whose first byte is E5
-pub met-acknowledged : T (eqb (delivery (lent 0) (requestFrame link request) sound item1 link .link .held) 22) × T (eqb (session lent (requestFrame link request) deliveries item1 link .link .held) 0)
-unfolding opened lent link lineAt request item1 requestFrame deliveries arrives thenIdle calls delivery session
+pub met-acknowledged : T (eqb (delivery (lent 0) (requestFrame link request) sound item1 link .link .held) 22) × T (eqb (exchange lent (requestFrame link request) deliveries item1 link .link .held) 0)
+unfolding opened lent link lineAt request item1 requestFrame deliveries arrives thenIdle calls delivery exchange
 met-acknowledged = (tt, tt)

@@ -1,5 +1,5 @@
 pub mod Run
 pub mod Example
-pub mod Session
+pub mod Exchange
 pub mod Refusals
 pub mod SentFrames

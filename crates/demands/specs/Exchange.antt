@@ -51,17 +51,17 @@ unfoldable pub delivery : (ℕ → Lent) → List ℕ → Delivery → Tables �
 delivery lent f d t k = calls lent (thenIdle (arrives f d)) t k
 
 -- what was sent during each delivery, and the tables and the link record after the last
-pub record Session : Type 0 where
+pub record Exchange : Type 0 where
   pub sent : List (List ℕ)
   pub tables : Tables
   pub link : Link
 
 -- the i-th delivery has lent i
-unfoldable pub session : (ℕ → ℕ → Lent) → List ℕ → List Delivery → Tables → Link → Session
-session lent f [] t k = record { sent = []; tables = t; link = k }
-session lent f (d ∷ ds) t k =
+unfoldable pub exchange : (ℕ → ℕ → Lent) → List ℕ → List Delivery → Tables → Link → Exchange
+exchange lent f [] t k = record { sent = []; tables = t; link = k }
+exchange lent f (d ∷ ds) t k =
     let r = delivery (lent 0) f d t k in
-    let s = session (λ i. lent (suc i)) f ds (r .tables) (r .link) in
+    let s = exchange (λ i. lent (suc i)) f ds (r .tables) (r .link) in
     record { sent = r .sent ∷ s .sent; tables = s .tables; link = s .link }
 
 -- ---- the premises
@@ -119,13 +119,13 @@ pub record Once (lent : ℕ → ℕ → Lent) (m : List ℕ) (ds : List Delivery
   pub alone : delivery (lent 0) (requestFrame k m) sound t k .sent ≡ acknowledgement ++ answerFrame t k m
   pub carried : delivery (lent 0) (requestFrame k m) sound t k .tables ≡ carriedOut t m .after
   -- so no call is refused: a refusal would show in what was sent
-  pub drawn : session lent (requestFrame k m) ds t k .sent ≡ draws (answerFrame t k m) ds
+  pub drawn : exchange lent (requestFrame k m) ds t k .sent ≡ draws (answerFrame t k m) ds
   -- "Then the tables and the expected bit are those after one sound delivery."
-  pub tables : session lent (requestFrame k m) ds t k .tables ≡ delivery (lent 0) (requestFrame k m) sound t k .tables
-  pub expected : session lent (requestFrame k m) ds t k .link .expected ≡ delivery (lent 0) (requestFrame k m) sound t k .link .expected
+  pub tables : exchange lent (requestFrame k m) ds t k .tables ≡ delivery (lent 0) (requestFrame k m) sound t k .tables
+  pub expected : exchange lent (requestFrame k m) ds t k .link .expected ≡ delivery (lent 0) (requestFrame k m) sound t k .link .expected
   -- what the demand leaves open: the rest of the link record
-  pub rest : Rest (delivery (lent 0) (requestFrame k m) sound t k .link) (session lent (requestFrame k m) ds t k .link)
-  pub undisturbed : T (noneBeginsE5 (requestFrame k m) ds) → session lent (requestFrame k m) ds t k .link ≡ delivery (lent 0) (requestFrame k m) sound t k .link
+  pub rest : Rest (delivery (lent 0) (requestFrame k m) sound t k .link) (exchange lent (requestFrame k m) ds t k .link)
+  pub undisturbed : T (noneBeginsE5 (requestFrame k m) ds) → exchange lent (requestFrame k m) ds t k .link ≡ delivery (lent 0) (requestFrame k m) sound t k .link
 
 abbrev pub Demand3 : Type 0
 Demand3 =

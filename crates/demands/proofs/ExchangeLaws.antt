@@ -19,7 +19,7 @@ use Rattle.services.specs.Service.{carriedOut}
 use Rattle.server.specs.declared.event.Event.{Event}
 use Rattle.server.specs.declared.event.Event.the-variants.{HostByte, IdleMark}
 use Rattle.server.specs.Call.{Done, quiet, saying, handedUp, onMoved, happens}
-use Rattle.demands.specs.Session.{following, inTurn, thenIdle}
+use Rattle.demands.specs.Exchange.{following, inTurn, thenIdle}
 
 -- ---- events in turn
 following-following : (s r : List ℕ) (d : Done) → following (s ++ r) d ≡ following s (following r d)
