@@ -1,11 +1,11 @@
 // The tables that the module holds and the services that read and set them.
 pub mod datapoint;
-pub mod gather;
-pub mod get;
+mod gather;
+mod get;
 pub mod indication;
 pub mod item;
 mod mask;
-pub mod message;
+mod message;
 pub mod service;
-pub mod set;
+mod set;
 pub mod table;
