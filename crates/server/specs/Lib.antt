@@ -1,3 +1,4 @@
 pub mod Event
 pub mod Reply
 pub mod Call
+pub mod Promise

@@ -1,0 +1,49 @@
+// The server's call: an event in, bytes to send out.
+ghost use Rattle.services.specs.Table.{tablesOf};
+ghost use Rattle.server.specs.Call.{call};
+ghost use Rattle.server.specs.Promise.{Leaves};
+use crate::bus::on_bus_event;
+use crate::event::Event;
+use crate::host_byte::on_host_byte;
+use crate::poll::on_poll;
+use crate::refusal::refusal_of;
+use crate::reply::Reply;
+use link::record::Link;
+use link::rules::ack_wait_over;
+use link::rules::idle_mark;
+use services::datapoint::Datapoint;
+use services::item::Item;
+
+// One event. Checks what is lent in every call: the refusals' numbers, the lowest first; then what the event does. Answers the refusal's number, with nothing
+// altered, or how many bytes of the output are to be sent. The value is that of a bus value event; other events ignore it.
+pub fn call(
+    event: Event,
+    value: &[u8],
+    datapoints: &mut [Datapoint],
+    items: &mut [Item],
+    parameters: &[u8],
+    link: &mut Link,
+    out: &mut [u8],
+) -> Reply
+    ensures { λ r. ⌜ Leaves (call event (now (value .entry)) (tablesOf (now (datapoints .entry)) (now (items .entry)) (now (parameters .entry))) (now (link .entry)) (now (out .entry))) r
+        (tablesOf (now (datapoints .exit)) (now (items .exit)) (now (parameters .entry))) (now (link .exit)) (now (out .exit)) ⌝ }
+{
+    let refusal = refusal_of(datapoints, items, parameters, link, out.len());
+    if refusal != 0 {
+        return Reply::Refused(refusal);
+    }
+    match event {
+        Event::HostByte(b) => on_host_byte(b, datapoints, items, parameters, link, out),
+        Event::IdleMark => {
+            idle_mark(link);
+            Reply::Accepted(0)
+        }
+        Event::AckWaitOver => {
+            let n = ack_wait_over(link, out);
+            Reply::Accepted(n)
+        }
+        Event::Poll => on_poll(datapoints, link, out),
+        Event::BusValue(id) => on_bus_event(event, id, value, datapoints),
+        Event::TransmissionOutcome(id, _) => on_bus_event(event, id, value, datapoints),
+    }
+}

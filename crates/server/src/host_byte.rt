@@ -1,0 +1,93 @@
+// A host byte: what the link makes of it, and the request that it may end.
+ghost use mathlib.Core.Path.{_≡_};
+ghost use Prim.Native.Nat.{_≤_};
+ghost use lib.ListN.{length};
+ghost use lib.Dec.{T};
+ghost use Rattle.link.specs.Words.{put};
+ghost use Rattle.link.specs.Record.{lineOf, inRange};
+ghost use Rattle.link.specs.Rules.{onHostByte};
+ghost use Rattle.services.specs.Table.{tablesOf, wellFormed};
+ghost use Rattle.server.specs.Call.{accepted, onMoved};
+ghost use Rattle.server.specs.Promise.{Leaves, acknowledgementOf, messageEnd};
+use crate::reply::Reply;
+use link::frame::put_acknowledgement;
+use link::record::Link;
+use link::rules::Heard;
+use link::rules::host_byte;
+use link::rules::idle_mark;
+use link::rules::take_message;
+use services::datapoint::Datapoint;
+use services::item::Item;
+use services::service::carry_out;
+
+// The acknowledgement, where one is due; answers how many bytes it has.
+fn acknowledge(heard: Heard, out: &mut [u8]) -> usize
+    requires { ⌜ 262 ≤ length (now out) ⌝ }
+    ensures { λ r. ⌜ (now (out .exit) ≡ put (now (out .entry)) 0 (acknowledgementOf heard)) × (r ≡ length (acknowledgementOf heard)) ⌝ }
+{
+    match heard {
+        Heard::Gathered => 0,
+        Heard::Dropped => 0,
+        Heard::Ignored => 0,
+        Heard::Acknowledged => 0,
+        Heard::Reset => {
+            put_acknowledgement(out, 0);
+            1
+        }
+        Heard::Repeat => {
+            put_acknowledgement(out, 0);
+            1
+        }
+        Heard::Request(_) => {
+            put_acknowledgement(out, 0);
+            1
+        }
+    }
+}
+
+// Where the request's message ends in the receiver: it begins at place 5 and has L - 1 bytes. 0 where there is no request.
+fn message_end(heard: Heard) -> usize
+    ensures { λ r. ⌜ r ≡ messageEnd heard ⌝ }
+{
+    match heard {
+        Heard::Gathered => 0,
+        Heard::Dropped => 0,
+        Heard::Ignored => 0,
+        Heard::Acknowledged => 0,
+        Heard::Reset => 0,
+        Heard::Repeat => 0,
+        Heard::Request(n) => n as usize + 4,
+    }
+}
+
+// A host byte. A request's message is carried out where it stands in the receiver, and its answer is framed in the output right after the acknowledgement.
+pub fn on_host_byte(
+    b: u8,
+    datapoints: &mut [Datapoint],
+    items: &mut [Item],
+    parameters: &[u8],
+    link: &mut Link,
+    out: &mut [u8],
+) -> Reply
+    requires { ⌜ T (wellFormed (tablesOf (now datapoints) (now items) (now parameters))) × T (inRange (now link)) × (262 ≤ length (now out)) ⌝ }
+    ensures { λ r. ⌜ Leaves (accepted (now (out .entry)) (onMoved (onHostByte b (lineOf (now (link .entry)))) (tablesOf (now (datapoints .entry)) (now (items .entry)) (now (parameters .entry))))) r
+        (tablesOf (now (datapoints .exit)) (now (items .exit)) (now (parameters .entry))) (now (link .exit)) (now (out .exit)) ⌝ }
+{
+    let heard = host_byte(link, b);
+    let sent = acknowledge(heard, out);
+    let end = message_end(heard);
+    if end == 0 {
+        return Reply::Accepted(sent);
+    }
+    let answered = carry_out(
+        datapoints,
+        items,
+        parameters,
+        &link.receiver[5..end],
+        out,
+        6,
+    );
+    idle_mark(link);
+    let framed = take_message(link, out, 1, answered - 6);
+    Reply::Accepted(framed + 1)
+}

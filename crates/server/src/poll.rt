@@ -1,0 +1,30 @@
+// A poll: the indication, if one is due.
+ghost use mathlib.Core.Path.{_≡_};
+ghost use mathlib.Core.Bool.{true};
+ghost use Prim.Native.Nat.{_≤_};
+ghost use lib.ListN.{length};
+ghost use lib.Dec.{T};
+ghost use Rattle.link.specs.Record.{lineOf, inRange};
+ghost use Rattle.services.specs.Datapoint.{datapointId, datapointOk};
+ghost use Rattle.services.specs.Table.{datapointsOnly, tableOk};
+ghost use Rattle.server.specs.Call.{accepted, onPoll};
+ghost use Rattle.server.specs.Promise.{Leaves};
+use crate::reply::Reply;
+use link::record::Link;
+use link::rules::take_message;
+use services::datapoint::Datapoint;
+use services::indication::indicate;
+
+// A poll. With nothing outstanding, the indication is built in the output behind the room for its frame's head, and framed there.
+pub fn on_poll(datapoints: &mut [Datapoint], link: &mut Link, out: &mut [u8]) -> Reply
+    requires { ⌜ (tableOk 1000 datapointId datapointOk (now datapoints) ≡ true) × T (inRange (now link)) × (262 ≤ length (now out)) ⌝ }
+    ensures { λ r. ⌜ Leaves (accepted (now (out .entry)) (onPoll (datapointsOnly (now (datapoints .entry))) (lineOf (now (link .entry))))) r
+        (datapointsOnly (now (datapoints .exit))) (now (link .exit)) (now (out .exit)) ⌝ }
+{
+    if link.held != 0 {
+        return Reply::Accepted(0);
+    }
+    let end = indicate(datapoints, out, 5);
+    let framed = take_message(link, out, 0, end - 5);
+    Reply::Accepted(framed)
+}

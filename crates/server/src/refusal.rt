@@ -1,0 +1,38 @@
+// The refusals that do not look at the event.
+ghost use mathlib.Core.Path.{_≡_};
+ghost use Rattle.services.specs.Table.{tablesOf};
+ghost use Rattle.server.specs.Promise.{lentRefusal};
+use link::record::Link;
+use link::record::in_range;
+use services::datapoint::Datapoint;
+use services::item::Item;
+use services::table::datapoints_well_formed;
+use services::table::items_well_formed;
+
+// 1 where a table is not well formed, 2 where the link record is not in range, 3 where the output has no room for 262 bytes; 0 where none is given.
+pub fn refusal_of(
+    datapoints: &[Datapoint],
+    items: &[Item],
+    parameters: &[u8],
+    link: &Link,
+    room: usize,
+) -> u8
+    ensures { λ r. ⌜ r ≡ lentRefusal (tablesOf (now (datapoints .entry)) (now (items .entry)) (now (parameters .entry))) (now (link .entry)) room ⌝ }
+{
+    if !datapoints_well_formed(datapoints) {
+        return 1;
+    }
+    if !items_well_formed(items) {
+        return 1;
+    }
+    if 255 < parameters.len() {
+        return 1;
+    }
+    if !in_range(link) {
+        return 2;
+    }
+    if room < 262 {
+        return 3;
+    }
+    0
+}
