@@ -4,21 +4,22 @@ use mathlib.Core.Bool.{Bool, true, false, not, _&&_}
 use mathlib.Core.List.{List, [], _∷_, map}
 use mathlib.Core.Path.{_≡_, refl, sym, _∙_, ap}
 use native.Mathlib.Omega.{arith}
-use lib.Dec.{T, eqb, leb, eqb→eq, leb→le}
+use lib.Dec.{T, eqb, eqb→eq}
 use lib.ListN.{length, getD, set}
 use borrow.Author.Tests.{eq-eqb, ne-eqb}
-use Rattle.link.specs.Words.{if_then_else_, isEmpty, every}
-use Rattle.link.proofs.WordLaws.{left, right, parts3, T-true, true-T}
+use Rattle.link.specs.Words.{if_then_else_, isEmpty}
+use Rattle.link.proofs.WordLaws.{left, right, T-true, true-T}
 use Rattle.services.specs.declared.datapoint.Datapoint.{Datapoint}
 use Rattle.services.specs.Datapoint.{datapointId, datapointOk, zeroDatapoint, sizeOf, unusedBitsOk, isValue, busValue, outcome}
 use Rattle.services.specs.Table.{Tables, tableOk, rising, found, changed, place}
+use Rattle.services.proofs.TableLaws.{ids-rise}
+use Rattle.services.proofs.PlaceLaws.{ok-few}
 use Rattle.services.proofs.DatapointLaws.{size-fits}
 use Rattle.services.proofs.EntriesLaws.{found-here, found-nowhere, changed-here}
 use Rattle.server.specs.declared.event.Event.{Event}
-use Rattle.server.specs.declared.event.Event.the-variants.{HostByte, IdleMark, AckWaitOver, Poll, BusValue, TransmissionOutcome}
+use Rattle.server.specs.declared.event.Event.the-variants.{BusValue, TransmissionOutcome}
 use Rattle.server.specs.declared.event.Outcome.{Outcome}
 use Rattle.server.specs.declared.event.Outcome.the-variants.{Sent, Failed, InProgress}
-use Rattle.server.specs.declared.reply.Reply.{Reply}
 use Rattle.server.specs.declared.reply.Reply.the-variants.{Refused, Accepted}
 use Rattle.server.specs.Event.{statusOf, atDatapoint, valueFits, busOk}
 use Rattle.server.specs.Promise.{takes, taken, foundTakes, BusEventTaken}
@@ -50,6 +51,14 @@ status-fits Sent = omega arith
 status-fits Failed = omega arith
 status-fits InProgress = omega arith
 
+-- ---- what a search asks of the table
+module _ (ds : List Datapoint) (ok : tableOk 1000 datapointId datapointOk ds ≡ true) where
+  pub few : length ds ≤ 1000
+  few = ok-few datapointId zeroDatapoint 1000 datapointOk ds (true-T ok)
+
+  pub in-order : rising 0 (map datapointId ds) ≡ true
+  in-order = T-true (rising 0 (map datapointId ds)) (ids-rise datapointId 1000 datapointOk ds (true-T ok))
+
 -- ---- one search: the answer and the table go by the record at the place
 module _ (e : Event) (id : ℕ) (v : List ℕ) (ds : List Datapoint) (ok : tableOk 1000 datapointId datapointOk ds ≡ true) where
   abbrev pub spot : ℕ
@@ -58,23 +67,14 @@ module _ (e : Event) (id : ℕ) (v : List ℕ) (ds : List Datapoint) (ok : table
   abbrev pub there : Datapoint
   there = getD ds spot zeroDatapoint
 
-  -- what a search asks of the table
-  pub few : length ds ≤ 1000
-  unfolding tableOk
-  few = leb→le (length ds) 1000 (parts3 (leb (length ds) 1000) (rising 0 (map datapointId ds)) (every datapointOk ds) (true-T ok) .0)
-
-  pub in-order : rising 0 (map datapointId ds) ≡ true
-  unfolding tableOk
-  in-order = T-true (rising 0 (map datapointId ds)) (parts3 (leb (length ds) 1000) (rising 0 (map datapointId ds)) (every datapointOk ds) (true-T ok) .1)
-
   -- whether the datapoint that was found takes it
   absent : length ds ≤ spot → foundTakes e v (found datapointId id ds) ≡ false
   unfolding foundTakes
-  absent l = ap (foundTakes e v) (found-nowhere datapointId zeroDatapoint id ds in-order l)
+  absent l = ap (foundTakes e v) (found-nowhere datapointId zeroDatapoint id ds (in-order ds ok) l)
 
   present : spot < length ds → foundTakes e v (found datapointId id ds) ≡ takesAt e id v there
   unfolding foundTakes found
-  present l = ap (foundTakes e v) (found-here datapointId zeroDatapoint id ds in-order l) ∙ go (eqb (there .id) id)
+  present l = ap (foundTakes e v) (found-here datapointId zeroDatapoint id ds (in-order ds ok) l) ∙ go (eqb (there .id) id)
     where
       go : (y : Bool) → foundTakes e v (if y then there ∷ [] else []) ≡ (y && takes e v there)
       go true = refl
@@ -98,7 +98,7 @@ module _ (e : Event) (id : ℕ) (v : List ℕ) (ds : List Datapoint) (ok : table
       same = T-true (eqb (there .id) id) (left (eqb (there .id) id) (takes e v there) (true-T h))
 
       set-here : set ds spot (taken e v there) ≡ changed datapointId id (taken e v) ds
-      set-here = ap (λ (y : Bool). set ds spot (if y then taken e v there else there)) (sym same) ∙ sym (changed-here datapointId zeroDatapoint id ds in-order (taken e v) l)
+      set-here = ap (λ (y : Bool). set ds spot (if y then taken e v there else there)) (sym same) ∙ sym (changed-here datapointId zeroDatapoint id ds (in-order ds ok) (taken e v) l)
 
   -- the record at the place takes the event, where it is the one of the ID and takes it
   pub takes-there : takesAt e id v there ≡ true → T (takes e v there)
