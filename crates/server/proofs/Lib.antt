@@ -1,1 +1,4 @@
 pub mod CallLaws
+pub mod Types
+pub mod RefusalLaws
+pub mod PollLaws
