@@ -1,14 +1,14 @@
 -- A poll, as the code makes it: an indication built in the output behind the room for its frame's head, and framed there. One law for each of its two exits.
-use Prim.Native.Nat.{ℕ, suc, _+_, _-_, _≤_, _<_}
+use Prim.Native.Nat.{ℕ, _+_, _-_, _≤_}
 use mathlib.Core.Path.{_≡_, refl, sym, _∙_, ap, subst}
 use mathlib.Core.Bool.{Bool, true, false, not}
 use mathlib.Core.List.{List, [], _∷_, _++_}
 use native.Mathlib.Omega.{arith}
-use lib.ListN.{length, take, drop, length-append, length-take, length-drop}
+use lib.ListN.{length, take, drop, length-append}
 use lib.Seq.{take-append-le, take-take, drop-append-add, drop-drop, length-take-le}
-use lib.Dec.{T, eqb, ltb}
+use lib.Dec.{T, eqb}
 use borrow.Author.Tests.{le-ltb}
-use Rattle.link.specs.Words.{if_then_else_, isEmpty, put}
+use Rattle.link.specs.Words.{isEmpty, put}
 use Rattle.link.specs.declared.record.Link.{Link}
 use Rattle.link.specs.Frame.{dataFrame}
 use Rattle.link.specs.Record.{Line, lineOf, linkOf, serverControl, inRange}
@@ -26,9 +26,9 @@ use Rattle.services.specs.Message.{Served}
 use Rattle.services.specs.Indication.{indication}
 use Rattle.services.proofs.AnswerLaws.{indication-sized, sized-short}
 use Rattle.server.specs.declared.reply.Reply.{Reply}
-use Rattle.server.specs.declared.reply.Reply.the-variants.{Refused, Accepted}
+use Rattle.server.specs.declared.reply.Reply.the-variants.{Accepted}
 use Rattle.server.specs.Reply.{replyNumbers}
-use Rattle.server.specs.Call.{Done, quiet, saying, onPoll, Called, accepted}
+use Rattle.server.specs.Call.{Done, quiet, saying, onPoll, accepted}
 use Rattle.server.specs.Promise.{Leaves}
 
 -- ---- bytes written over others

@@ -1,14 +1,13 @@
 -- The refusals that do not look at the event: one law for each answer of the code, what an answer of 0 says, and how they join the refusal of a call.
 use Prim.Native.Nat.{ℕ, _≤_, _<_}
-use mathlib.Core.Path.{_≡_, refl, sym, _∙_, ap}
+use mathlib.Core.Path.{_≡_, refl, sym, _∙_}
 use mathlib.Core.Logic.{_≢_}
-use mathlib.Core.Bool.{Bool, true, false, not, _&&_, and-false}
+use mathlib.Core.Bool.{Bool, true, false, not, and-false}
 use mathlib.Core.List.{List}
 use native.Mathlib.Omega.{arith}
 use lib.ListN.{length}
-use lib.Dec.{T, leb, ltb}
+use lib.Dec.{T, ltb}
 use borrow.Author.Tests.{ltb-true, ltb-false, lt-ltb, le-ltb, le-leb, lt-leb}
-use Rattle.link.specs.Words.{if_then_else_}
 use Rattle.link.specs.declared.record.Link.{Link}
 use Rattle.link.specs.Record.{inRange}
 use Rattle.link.proofs.WordLaws.{T-true, true-T}
