@@ -1,6 +1,6 @@
 -- A walk: a test with an exit of its own, and two calls. Each exit is one law of PollLaws. Assumes nothing.
 use Rattle.walks.proofs.Data.{uintD, Good, typed, pinned}
-use Rattle.walks.proofs.Walk.{held, allocs-all, frees-all, Param, mutP, mutSliceP, Ends, ends-in, Walk, meets-by, behind, starts, cell, room}
+use Rattle.walks.proofs.Walk.{allocs-all, frees-all, Param, mutP, mutSliceP, Ends, ends-in, Walk, meets-by, behind, starts, cell, room}
 use Rattle.walks.proofs.Branches.{leaves-early}
 use Rattle.walks.proofs.Fields.{opened, closed, lends, backs}
 use Rattle.walks.proofs.Slices.{lendsS, backsS}
@@ -147,10 +147,10 @@ module _ {M : Type 1} (𝓤 : URA M) (H : Heap 𝓤) (A : Atoms 𝓤) (W : Given
       assigns ! (of-opd ! (load ! (from ! (hop ! (look ! 34 refl) (fld ! refl (stop !)))) (look-in ! 0 (sub ! 6 refl (whole !))))) (from ! (stop !)) (init ! 26 refl (typed 𝓤 H A (uintD w16) W (k .held) (held-good was) .0)) $
       closed ! tt linkD k k was $
       assigns ! (bin ! (load ! (from ! (stop !)) (look ! 24 refl)) (lit ! tt) tt) (from ! (stop !)) (init ! 22 refl (tt, tt)) $
-      leaves-early ! (load ! (from ! (stop !)) (look ! 22 refl)) (λ held.
+      leaves-early ! (load ! (from ! (stop !)) (look ! 22 refl)) (λ waits.
       assigns ! (agg ! (and-then ! (lit ! tt) (and-then ! (lit ! tt) (no-more !)))) (from ! (stop !)) (init ! 36 refl (typed 𝓤 H A replyD W (Accepted 0) (accepted-good 0 (refl, lit< tt)) .0)) $
       returns-within ! Done refl (look ! 36 refl) $ behind ! 6 $ frees-all ! (room ∷ room ∷ room ∷ room ∷ room ∷ room ∷ room ∷ room ∷ cell ∷ cell ∷ room ∷ room ∷ cell ∷ cell ∷ cell ∷ cell ∷ []) _ $
-      suffices ! _ (ends-in 3 𝓤 H A W ps replyD (f.clauses 𝓤 H A mem run) (κ0, (κ1, (κ2, tt))) (q0, (q1, (q2, tt))) x tt (Accepted 0) (ds, (k, (o, tt))) (refl, (tt, (refl, tt))) (accepted-good 0 (refl, lit< tt)) (factI 𝓤 _ (emp 𝓤) (poll-waits ds k o (lt .1) (lt .2) held))) $
+      suffices ! _ (ends-in 3 𝓤 H A W ps replyD (f.clauses 𝓤 H A mem run) (κ0, (κ1, (κ2, tt))) (q0, (q1, (q2, tt))) x tt (Accepted 0) (ds, (k, (o, tt))) (refl, (tt, (refl, tt))) (accepted-good 0 (refl, lit< tt)) (factI 𝓤 _ (emp 𝓤) (poll-waits ds k o (lt .1) (lt .2) waits))) $
       nothing ! $ nothing ! $ keep ! (5 ∷ 3 ∷ 7 ∷ 0 ∷ 4 ∷ 2 ∷ 6 ∷ 1 ∷ []) $ group ! 4 $ frame ! $ done !
       ) (λ free.
       assigns ! (addr ! (from ! (fld ! refl (hop ! (look-in ! 34 (sub ! 0 refl (whole !))) (stop !))))) (from ! (stop !)) (init ! 20 refl (tt, tt)) $
