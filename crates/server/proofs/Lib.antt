@@ -1,3 +1,5 @@
 pub mod CallLaws
 pub mod Types
 pub mod BusLaws
+pub mod RefusalLaws
+pub mod PollLaws
