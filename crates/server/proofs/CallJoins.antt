@@ -6,18 +6,18 @@ use mathlib.Core.Bool.{Bool, true, false, not}
 use mathlib.Core.List.{List, [], _∷_, _++_}
 use native.Mathlib.Omega.{arith}
 use lib.ListN.{length, drop}
-use lib.Dec.{T, ltb, eqb}
+use lib.Dec.{ltb, eqb}
 use borrow.Author.Tests.{ltb-true, ltb-false, eqb-true, eqb-false}
-use Rattle.link.specs.Words.{if_then_else_, isEmpty, put}
+use Rattle.link.specs.Words.{isEmpty, put}
 use Rattle.link.specs.declared.record.Link.{Link}
 use Rattle.link.specs.Record.{Line, lineOf, linkOf, inRange}
-use Rattle.link.specs.Rules.{Up, nothing, Moved, onHostByte, onIdleMark, onAckWaitOver, onMessage}
+use Rattle.link.specs.Rules.{Up, nothing, onHostByte, onIdleMark, onAckWaitOver}
 use Rattle.link.specs.Promise.{AckWaited}
 use Rattle.link.proofs.WordLaws.{T-true, true-T}
 use Rattle.link.proofs.EventLaws.{range-stays}
 use Rattle.services.specs.declared.datapoint.Datapoint.{Datapoint}
 use Rattle.services.specs.declared.item.Item.{Item}
-use Rattle.services.specs.Datapoint.{datapointId, datapointOk, isValue, busValue, outcome}
+use Rattle.services.specs.Datapoint.{datapointId, datapointOk}
 use Rattle.services.specs.Table.{Tables, tablesOf, datapointsOnly, tableOk, wellFormed, found, changed}
 use Rattle.services.specs.Indication.{indication}
 use Rattle.services.proofs.KeepLaws
@@ -26,9 +26,9 @@ use Rattle.server.specs.declared.event.Event.the-variants.{HostByte, Idl
 use Rattle.server.specs.declared.event.Outcome.{Outcome}
 use Rattle.server.specs.declared.reply.Reply.{Reply}
 use Rattle.server.specs.declared.reply.Reply.the-variants.{Refused, Accepted}
-use Rattle.server.specs.Event.{statusOf, atDatapoint, valueFits, busOk}
+use Rattle.server.specs.Event.{atDatapoint, valueFits, busOk}
 use Rattle.server.specs.Reply.{replyNumbers}
-use Rattle.server.specs.Call.{Done, quiet, saying, handedUp, onMoved, onPoll, happens, refusal, Called, refused, accepted, call}
+use Rattle.server.specs.Call.{quiet, saying, handedUp, onMoved, onPoll, happens, refusal, Called, accepted, call}
 use Rattle.server.specs.Promise.{Leaves, lentRefusal, takes, taken, foundTakes, BusEventTaken}
 use Rattle.server.proofs.CallLaws.{refusal-0, refusal-1, refusal-2, refusal-3, refusal-4, refused-leaves}
 
@@ -87,6 +87,10 @@ module _ (e : Event) (v : List ℕ) (t : Tables) (k : Link) (out : List ℕ) whe
 
     bus-refused : busOk e v t ≡ false → Leaves (call e v t k out) (Refused 4) t k out
     bus-refused b = refuses 4 (refusal-4 e v t k (length out) (p .tables) (p .link) (p .output) b) (λ z. absurd (omega (arith, z)))
+
+-- the same for the event, once it is known which it is
+pub same-event : (e d : Event) (v : List ℕ) (t : Tables) (k : Link) (out : List ℕ) → e ≡ d → {r : Reply} {t′ : Tables} {k′ : Link} {out′ : List ℕ} → Leaves (call d v t k out) r t′ k′ out′ → Leaves (call e v t k out) r t′ k′ out′
+same-event e d v t k out h {r} {t′} {k′} {out′} z = subst (λ (y : Event). Leaves (call y v t k out) r t′ k′ out′) (sym h) z
 
 -- ---- what the events come to
 -- ack wait over hands up nothing
@@ -160,9 +164,6 @@ module _ (v : List ℕ) (ds : List Datapoint) (is : List Item) (ps : List ℕ) (
   unfolding accepted atDatapoint
   bus-leaves e id same does r ds′ z = go (foundTakes e v (found datapointId id ds)) refl
     where
-      t : Tables
-      t = tablesOf ds is ps
-
       go : (u : Bool) → foundTakes e v (found datapointId id ds) ≡ u → Leaves (call e v (tablesOf ds is ps) k out) r (tablesOf ds′ is ps) k out
       go true f =
           leaves-as _ _ (takes-place e v (tablesOf ds is ps) k out p (same ∙ f) ∙ ap (accepted out) does) r (tablesOf ds′ is ps) k out
