@@ -3,3 +3,4 @@ pub mod Types
 pub mod BusLaws
 pub mod RefusalLaws
 pub mod PollLaws
+pub mod CallJoins
