@@ -1,3 +1,4 @@
 pub mod CallLaws
 pub mod Types
 pub mod HostByteLaws
+pub mod MessageParts
