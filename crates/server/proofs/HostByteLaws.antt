@@ -1,26 +1,26 @@
 -- A host byte, exit by exit: what its callees say of record, tables, buffer and counts is what the call has to answer and leave.
-use Prim.Native.Nat.{ℕ, zero, suc, _+_, _-_, _≤_, _<_}
+use Prim.Native.Nat.{ℕ, _+_, _-_, _≤_, _<_}
 use mathlib.Core.Path.{_≡_, refl, sym, _∙_, ap}
-use mathlib.Core.Bool.{Bool, true, false, not, _||_}
+use mathlib.Core.Bool.{Bool, true, false}
 use mathlib.Core.List.{List, [], _∷_, _++_, append-assoc}
 use native.Mathlib.Omega.{arith}
-use lib.ListN.{length, take, drop, length-append, length-take}
+use lib.ListN.{length, take, drop, length-append}
 use lib.Seq.{take-append-le, take-take, drop-append-add, drop-drop, length-take-le}
-use lib.Dec.{T, leb, ltb, eqb, leb→le}
+use lib.Dec.{T, ltb, eqb, leb→le}
 use borrow.Author.Tests.{le-ltb, ltb-false, eqb-true, eqb-false}
 use Rattle.link.specs.declared.record.Link.{Link}
 use Rattle.link.specs.declared.rules.Heard.{Heard}
 use Rattle.link.specs.declared.rules.Heard.the-variants.{Gathered, Dropped, Ignored, Acknowledged, Reset, Repeat, Request}
-use Rattle.link.specs.Words.{if_then_else_, isEmpty, put}
-use Rattle.link.specs.Frame.{acknowledgement, dataFrame, longestMessage, messageOf}
+use Rattle.link.specs.Words.{isEmpty, put}
+use Rattle.link.specs.Frame.{acknowledgement, longestMessage}
 use Rattle.link.specs.Record.{Line, lineOf, linkOf, serverControl, inRange}
-use Rattle.link.specs.Rules.{Up, nothing, acknowledged, reset, message, Moved, gathering, atStart, expecting, heardAt, onHeard, onHostByte, unread, afterHostByte, onIdleMark, onMessage}
+use Rattle.link.specs.Rules.{Up, message, Moved, gathering, atStart, expecting, heardAt, onHeard, onHostByte, unread, afterHostByte, onIdleMark, onMessage}
 use Rattle.link.proofs.WordLaws.{T-true}
 use Rattle.link.proofs.ByteLaws.{length-put, put-put, put-read}
 use Rattle.link.proofs.FrameLaws.{frame-length}
 use Rattle.link.proofs.EventLaws.{put-none}
 use Rattle.link.proofs.RecordLaws.{lineOf-linkOf}
-use Rattle.link.proofs.PlaceLaws.{gathered-stays, receiver-places}
+use Rattle.link.proofs.PlaceLaws.{gathered-stays}
 use Rattle.link.proofs.RulesLaws.{message-free}
 use Rattle.link.proofs.RequestLaws
 use Rattle.services.specs.declared.datapoint.Datapoint.{Datapoint}
@@ -29,15 +29,13 @@ use Rattle.services.specs.Datapoint.{datapointId, datapointOk}
 use Rattle.services.specs.Item.{itemId, itemOk}
 use Rattle.services.specs.Table.{Tables, tablesOf, tableOk, wellFormed}
 use Rattle.services.specs.Message.{subService, Served}
-use Rattle.services.specs.Gather.{getDatapoints}
-use Rattle.services.specs.Service.{service, unanswered, carriedOut}
+use Rattle.services.specs.Service.{unanswered, carriedOut}
 use Rattle.services.proofs.ServiceLaws
 use Rattle.services.proofs.AnswerLaws
 use Rattle.services.proofs.KeepLaws
-use Rattle.server.specs.declared.reply.Reply.{Reply}
-use Rattle.server.specs.declared.reply.Reply.the-variants.{Refused, Accepted}
+use Rattle.server.specs.declared.reply.Reply.the-variants.{Accepted}
 use Rattle.server.specs.Reply.{replyNumbers}
-use Rattle.server.specs.Call.{Done, saying, handedUp, onMoved, Called, accepted}
+use Rattle.server.specs.Call.{saying, handedUp, onMoved, accepted}
 use Rattle.server.specs.Promise.{Leaves, acknowledgementOf, messageEnd}
 
 -- ---- bytes written over bytes
@@ -208,6 +206,12 @@ module _ (b : ℕ) (k : Link) (out : List ℕ) (ds : List Datapoint) (is : List 
 
     pub acknowledged-room : 262 ≤ length acknowledgedOut
     acknowledged-room = omega (arith, w, acknowledged-length)
+
+    -- what carrying out asks
+    pub carry-needs : T (wellFormed (tablesOf ds is ps)) → (tableOk 1000 datapointId datapointOk ds ≡ true) × (tableOk 64 itemId itemOk is ≡ true) × (length ps ≤ 255) × (6 + 254 ≤ length acknowledgedOut)
+    carry-needs t =
+        let p = KeepLaws.parts (tablesOf ds is ps) t in
+        (T-true (tableOk 1000 datapointId datapointOk ds) (p .datapoints), T-true (tableOk 64 itemId itemOk is) (p .items), leb→le (length ps) 255 (p .parameters), omega (arith, acknowledged-room))
 
     says-short : length (carries .says) ≤ 254
     says-short = AnswerLaws.sized-short (carries .says) (AnswerLaws.answer-sized (tablesOf ds is ps) asks)

@@ -1,4 +1,4 @@
-use mathlib.Core.Path.{_≡_, refl, sym, _∙_, ap}
+use mathlib.Core.Path.{refl}
 use Rattle.link.proofs.EventLaws.{put-none}
 use Rattle.server.specs.Promise.{acknowledgementOf}
 use borrow.Author.Needs.{needs}

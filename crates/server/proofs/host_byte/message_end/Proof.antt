@@ -1,4 +1,3 @@
-use mathlib.Core.Path.{_≡_, refl, sym, _∙_, ap}
 use Rattle.server.specs.Promise.{messageEnd}
 use borrow.Author.Needs.{needs}
 use Rattle.server.proofs.host_byte.message_end.Statement.{statement}
