@@ -1,0 +1,4 @@
+pub mod NumberLaws
+pub mod SentLaws
+pub mod ExportedLaws
+pub mod Numbered

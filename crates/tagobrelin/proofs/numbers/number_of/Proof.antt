@@ -1,0 +1,42 @@
+use mathlib.Core.Path.{_≡_, sym, ap, _∙_}
+use Rattle.tagobrelin.specs.Numbers.{numberOf}
+use Rattle.tagobrelin.proofs.NumberLaws.{fits-minus, is-minus, fits-plus, is-plus, count-small}
+use native.Mathlib.Omega.{arith}
+use borrow.Author.Needs.{needs}
+use Rattle.tagobrelin.proofs.numbers.number_of.Statement.{statement}
+use Rattle.tagobrelin.proofs.numbers.number_of.Tie as tie
+
+enum-known-reply : tie.Need-enum-known-reply
+enum-known-reply c = search needs
+
+cast-result : tie.Need-cast-result
+cast-result c = search needs
+
+sub-result : tie.Need-sub-result
+sub-result c = fits-minus (c .before .reply .given .0 .0) (omega (arith, c .known-told .given))
+
+enum-known-reply-2 : tie.Need-enum-known-reply-2
+enum-known-reply-2 c = search needs
+
+cast-result-2 : tie.Need-cast-result-2
+cast-result-2 c = fits-plus _ (count-small _ _ (c .before .reply2 .given .1) (c .before .before .before .pre))
+
+returns : tie.Need-returns
+unfolding numberOf
+returns c = is-minus (c .before .reply .given .0 .0) (omega (arith, c .known-told .given)) ∙ sym (ap numberOf (c .before .reply .given .1))
+
+returns-2 : tie.Need-returns-2
+unfolding numberOf
+returns-2 c = is-plus _ (count-small _ _ (c .before .reply2 .given .1) (c .before .before .before .pre)) ∙ sym (ap numberOf (c .before .reply2 .given .1))
+
+pub number-of-spec : {M : Type 1} → statement M
+number-of-spec =
+    tie.close
+    (tie.spec
+    enum-known-reply
+    cast-result
+    sub-result
+    enum-known-reply-2
+    cast-result-2
+    returns
+    returns-2)

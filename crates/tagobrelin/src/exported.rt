@@ -1,0 +1,62 @@
+// What firmware links.
+ghost use mathlib.Core.Path.{_≡_};
+ghost use Rattle.link.specs.Record.{linkOf};
+ghost use Rattle.services.specs.Table.{tablesOf};
+ghost use Rattle.tagobrelin.specs.Exported.{calledBy, Gives, freshLine};
+use crate::numbers::event_of;
+use crate::numbers::is_event;
+use crate::numbers::number_of;
+use link::record::Link;
+use server::call::call;
+use services::datapoint::Datapoint;
+use services::item::Item;
+
+// One event, by numbers. Answers how many bytes of the output are to be sent, or a number below 0, with nothing altered.
+#[no_mangle]
+pub extern "C" fn tagobrelin_call(
+    event: u8,
+    byte: u8,
+    id: u16,
+    outcome: u8,
+    value: &[u8],
+    datapoints: &mut [Datapoint],
+    items: &mut [Item],
+    parameters: &[u8],
+    link: &mut Link,
+    out: &mut [u8],
+) -> i32
+    ensures { λ r. ⌜ Gives (calledBy event byte id outcome (now (value .entry)) (tablesOf (now (datapoints .entry)) (now (items .entry)) (now (parameters .entry))) (now (link .entry)) (now (out .entry))) r
+        (tablesOf (now (datapoints .exit)) (now (items .exit)) (now (parameters .entry))) (now (link .exit)) (now (out .exit)) ⌝ }
+{
+    if !is_event(event, outcome) {
+        return -100;
+    }
+    let happened = event_of(event, byte, id, outcome);
+    let reply = call(happened, value, datapoints, items, parameters, link, out);
+    number_of(reply)
+}
+
+// The link record that a reset leaves, by value.
+fn fresh_link() -> Link
+    ensures { λ r. ⌜ r ≡ linkOf freshLine ⌝ }
+{
+    Link {
+        receiver: [0; 260],
+        received: 0,
+        dropping: false,
+        expected: true,
+        send: true,
+        outstanding: [0; 261],
+        held: 0,
+        resends: 0,
+    }
+}
+
+// A link record for the first call.
+#[no_mangle]
+pub extern "C" fn tagobrelin_fresh_link(link: &mut Link)
+    ensures { λ _. ⌜ now (link .exit) ≡ linkOf freshLine ⌝ }
+{
+    let fresh = fresh_link();
+    *link = fresh;
+}
