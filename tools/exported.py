@@ -4,8 +4,7 @@ from ctx import *
 import re
 A=lambda n,t,v:f'abbrev {n} : {t}\n{n} = {v}'
 HERE=f'Rattle.{crate}.proofs'; SPECS=f'Rattle.{crate}.specs'
-# the server: this crate's own modules while its call is unproved, else another crate's
-SERVER='Rattle.server.proofs' if crate=='server' else 'Rattle.server.proofs'; SSPECS='Rattle.server.specs' if crate=='server' else 'Rattle.server.specs'
+SERVER='Rattle.server.proofs'; SSPECS='Rattle.server.specs'
 def elsewhere(fn,callees):
     '''callees that stand in another module, or another crate'''
     p=f'crates/{crate}/proofs/exported/{fn}/Proof.antt'; t=open(p).read()

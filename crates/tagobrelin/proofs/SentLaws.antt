@@ -1,17 +1,17 @@
 -- No call sends more than 262 bytes: an acknowledgement and a frame.
-use Prim.Native.Nat.{ℕ, _+_, _≤_, _<_, _^_}
+use Prim.Native.Nat.{ℕ, _+_, _≤_}
 use mathlib.Core.Path.{_≡_, refl}
-use mathlib.Core.Bool.{Bool, true, false, not, _||_}
-use mathlib.Core.List.{List, [], _∷_, _++_}
+use mathlib.Core.Bool.{Bool, true, false}
+use mathlib.Core.List.{List, []}
 use native.Mathlib.Omega.{arith}
-use lib.ListN.{length, take, length-take, length-append}
+use lib.ListN.{length, length-take, length-append}
 use lib.Dec.{T, ltb, eqb}
 use borrow.Author.Tests.{ltb-false, eqb-true}
-use Rattle.link.specs.Words.{if_then_else_, isEmpty}
+use Rattle.link.specs.Words.{isEmpty}
 use Rattle.link.specs.declared.record.Link.{Link}
 use Rattle.link.specs.declared.rules.Heard.{Heard}
 use Rattle.link.specs.declared.rules.Heard.the-variants.{Gathered, Dropped, Ignored, Acknowledged, Reset, Repeat, Request}
-use Rattle.link.specs.Frame.{fixedFrame, dataFrame, longestMessage}
+use Rattle.link.specs.Frame.{fixedFrame, longestMessage}
 use Rattle.link.specs.Record.{Line, lineOf, serverControl, inRange}
 use Rattle.link.specs.Rules.{onHeard, onHostByte, onIdleMark, onAckWaitOver, onMessage}
 use Rattle.link.proofs.FrameLaws.{frame-length}

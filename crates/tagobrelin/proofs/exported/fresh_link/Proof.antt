@@ -1,4 +1,5 @@
-use mathlib.Core.Path.{refl, sym, ap}
+-- By computing.
+use mathlib.Core.Path.{refl}
 use Rattle.link.specs.Record.{linkOf}
 use Rattle.tagobrelin.specs.Exported.{freshLine}
 use Rattle.tagobrelin.proofs.exported.fresh_link.Statement.{statement}

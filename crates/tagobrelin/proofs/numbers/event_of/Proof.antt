@@ -1,3 +1,4 @@
+-- Each number by its law.
 use mathlib.Core.Path.{sym, ap, _∙_}
 use Rattle.server.specs.declared.event.Event.the-variants.{TransmissionOutcome}
 use Rattle.tagobrelin.proofs.NumberLaws.{first, second, third, fourth, fifth, sixth}

@@ -1,4 +1,5 @@
-use mathlib.Core.Path.{_≡_, sym, ap, _∙_}
+-- Both numbers fit 32 bits: a refusal is a byte, and what is required of the count.
+use mathlib.Core.Path.{sym, ap, _∙_}
 use Rattle.tagobrelin.specs.Numbers.{numberOf}
 use Rattle.tagobrelin.proofs.NumberLaws.{fits-minus, is-minus, fits-plus, is-plus, count-small}
 use native.Mathlib.Omega.{arith}

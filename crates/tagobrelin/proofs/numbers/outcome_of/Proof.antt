@@ -1,3 +1,4 @@
+-- The first two by computing, the last by a law.
 use mathlib.Core.Path.{sym, ap}
 use Rattle.tagobrelin.specs.Numbers.{outcomeOf}
 use Rattle.tagobrelin.proofs.NumberLaws.{last-outcome}

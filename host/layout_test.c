@@ -1,0 +1,412 @@
+/* Sees each field of each struct of tagobrelin.h through the call, each value that the call returns, and that a refusal changes no byte.
+ * One line for each test; the exit status tells whether all passed. */
+#include <stdio.h>
+#include <string.h>
+
+#include "tagobrelin.h"
+
+#define COUNT(array) (sizeof(array) / sizeof *(array))
+
+/* all that a call is lent */
+static struct bench {
+    struct tagobrelin_datapoint datapoints[1001];
+    size_t datapoint_count;
+    struct tagobrelin_item items[65];
+    size_t item_count;
+    uint8_t parameters[256];
+    size_t parameter_count;
+    struct tagobrelin_link link;
+    uint8_t value[16];
+    size_t value_count;
+    uint8_t out[300];
+    size_t room;
+} bench, before;
+
+static const char *test;
+static int wrong, failed;
+
+#define EXPECT(fact) expect(fact, #fact, __LINE__)
+
+static void expect(bool fact, const char *text, int line)
+{
+    if (!fact) {
+        printf("    layout_test.c:%d: %s\n", line, text);
+        wrong++;
+    }
+}
+
+static void ends(void)
+{
+    if (test)
+        printf("layout %s: %s\n", test, wrong ? "FAILED" : "ok");
+    failed += wrong;
+    wrong = 0;
+}
+
+/* a new test: no table entries, a fresh link record, room, and in every byte of padding A5 */
+static void begins(const char *name)
+{
+    ends();
+    test = name;
+    memset(&bench, 0, sizeof bench);
+    for (size_t i = 0; i < COUNT(bench.datapoints); i++)
+        ((uint8_t *)&bench.datapoints[i])[21] = 0xA5;
+    tagobrelin_fresh_link(&bench.link);
+    ((uint8_t *)&bench.link)[529] = 0xA5;
+    memset(bench.out, 0xEE, sizeof bench.out);
+    bench.room = TAGOBRELIN_ROOM;
+}
+
+static int32_t called(uint8_t event, uint8_t byte, uint16_t id, uint8_t outcome)
+{
+    return tagobrelin_call(event, byte, id, outcome, bench.value, bench.value_count, bench.datapoints, bench.datapoint_count, bench.items, bench.item_count,
+                           bench.parameters, bench.parameter_count, &bench.link, bench.out, bench.room);
+}
+
+/* the call is refused with this number, and no byte of anything is changed, padding included */
+static void refused(int32_t number, uint8_t event, uint8_t byte, uint16_t id, uint8_t outcome, int line)
+{
+    memcpy(&before, &bench, sizeof bench);
+    int32_t answer = called(event, byte, id, outcome);
+    if (answer != number)
+        printf("    answered %d, not %d\n", (int)answer, (int)number);
+    expect(answer == number, "the refusal's number", line);
+    expect(memcmp(&before, &bench, sizeof bench) == 0, "a refusal changes no byte", line);
+}
+
+#define REFUSED(number, event, byte, id, outcome) refused(number, event, byte, id, outcome, __LINE__)
+
+/* a host's or a server's data frame */
+static size_t framed(uint8_t control, const uint8_t *message, size_t count, uint8_t *frame)
+{
+    uint8_t sum = control, head[] = {0x68, (uint8_t)(count + 1), (uint8_t)(count + 1), 0x68, control};
+    memcpy(frame, head, 5);
+    memcpy(frame + 5, message, count);
+    for (size_t i = 0; i < count; i++)
+        sum += message[i];
+    frame[count + 5] = sum;
+    frame[count + 6] = 0x16;
+    return count + 7;
+}
+
+/* the bytes come from the host: what the call answers to the last of them; 0 to all others */
+static int32_t heard(const uint8_t *bytes, size_t count)
+{
+    int32_t answer = 0;
+    for (size_t i = 0; i < count; i++) {
+        expect(answer == 0, "nothing is sent before the last byte", __LINE__);
+        answer = called(TAGOBRELIN_HOST_BYTE, bytes[i], 0, 0);
+    }
+    return answer;
+}
+
+/* the request draws an acknowledgement and this answer, framed under this control byte */
+static void answered(uint8_t host, const uint8_t *message, size_t count, uint8_t server, const uint8_t *answer, size_t answer_count, int line)
+{
+    uint8_t frame[261], sent[TAGOBRELIN_ROOM] = {0xE5};
+    size_t sent_count = 1 + (answer_count ? framed(server, answer, answer_count, sent + 1) : 0);
+    expect(heard(frame, framed(host, message, count, frame)) == (int32_t)sent_count, "how many bytes are sent", line);
+    expect(memcmp(bench.out, sent, sent_count) == 0, "the acknowledgement and the answer", line);
+    for (size_t i = sent_count; i < sizeof bench.out; i++)
+        expect(bench.out[i] == 0xEE, "no byte behind the reply is changed", line);
+    memset(bench.out, 0xEE, sizeof bench.out);
+}
+
+#define BYTES(...) (const uint8_t[]){__VA_ARGS__}, sizeof((const uint8_t[]){__VA_ARGS__})
+#define ANSWERED(...) answered(__VA_ARGS__, __LINE__)
+
+static bool is_zero(const uint8_t *bytes, size_t count)
+{
+    for (size_t i = 0; i < count; i++)
+        if (bytes[i])
+            return false;
+    return true;
+}
+
+static void fresh(void)
+{
+    begins("tagobrelin_fresh_link");
+    struct tagobrelin_link *link = &bench.link;
+    memset(link, 1, sizeof *link);
+    tagobrelin_fresh_link(link);
+    EXPECT(is_zero(link->receiver, sizeof link->receiver));
+    EXPECT(link->received == 0);
+    EXPECT(!link->dropping);
+    EXPECT(link->expected);
+    EXPECT(link->send);
+    EXPECT(is_zero(link->outstanding, sizeof link->outstanding));
+    EXPECT(link->held == 0);
+    EXPECT(link->resends == 0);
+    EXPECT(heard(BYTES(0x10, 0x40, 0x40, 0x16)) == 1 && bench.out[0] == 0xE5);
+}
+
+static void datapoints(void)
+{
+    begins("datapoint: id, typecode, flags, dpt");
+    bench.datapoints[0] = (struct tagobrelin_datapoint){.id = 0x0102, .typecode = 8, .flags = 0xAB, .dpt = 0xCD};
+    bench.datapoints[1] = (struct tagobrelin_datapoint){.id = 0x0304, .typecode = 14, .flags = 0x12, .dpt = 0x34};
+    bench.datapoint_count = 2;
+    ANSWERED(0x73, BYTES(0xF0, 0x03, 0x01, 0x02, 0xFF, 0xFF), 0xF3, BYTES(0xF0, 0x83, 0x01, 0x02, 0x00, 0x02, 0x01, 0x02, 8, 0xAB, 0xCD, 0x03, 0x04, 14, 0x12, 0x34));
+
+    begins("datapoint: state, value");
+    bench.datapoints[0] = (struct tagobrelin_datapoint){.id = 1, .typecode = 14, .state = 0x1D, .value = {1, 2, 3, 4, 5, 6, 7, 8, 9, 10, 11, 12, 13, 14}};
+    bench.datapoints[1] = (struct tagobrelin_datapoint){.id = 2, .typecode = 9, .state = 0x02, .value = {0x21, 0x22, 0x23}};
+    bench.datapoint_count = 2;
+    ANSWERED(0x73, BYTES(0xF0, 0x05, 0, 1, 0, 2, 0), 0xF3, BYTES(0xF0, 0x85, 0, 1, 0, 2, 0, 1, 0x1D, 14, 1, 2, 3, 4, 5, 6, 7, 8, 9, 10, 11, 12, 13, 14, 0, 2, 0x02, 3, 0x21, 0x22, 0x23));
+    EXPECT(bench.datapoints[0].state == 0x15 && bench.datapoints[1].state == 0x02);
+
+    begins("datapoint: mark");
+    bench.datapoints[0] = (struct tagobrelin_datapoint){.id = 1, .typecode = 7, .state = 0x18, .value = {0x41}};
+    bench.datapoints[1] = (struct tagobrelin_datapoint){.id = 2, .typecode = 7, .state = 0x18, .value = {0x42}};
+    bench.datapoint_count = 2;
+    EXPECT(called(TAGOBRELIN_POLL, 0, 0, 0) == 0);
+    bench.datapoints[1].mark = true;
+    uint8_t frame[261];
+    size_t count = framed(0xF3, BYTES(0xF0, 0xC1, 0, 2, 0, 1, 0, 2, 0x18, 1, 0x42), frame);
+    EXPECT(called(TAGOBRELIN_POLL, 0, 0, 0) == (int32_t)count && memcmp(bench.out, frame, count) == 0);
+    EXPECT(!bench.datapoints[1].mark && bench.datapoints[1].state == 0x10 && bench.datapoints[0].state == 0x18);
+    EXPECT(bench.link.held == count && memcmp(bench.link.outstanding, frame, count) == 0);
+
+    begins("bus value and outcomes");
+    bench.datapoints[0] = (struct tagobrelin_datapoint){.id = 7, .typecode = 10, .state = 0x04};
+    bench.datapoint_count = 1;
+    memcpy(bench.value, "\x01\x02\x03\x04", bench.value_count = 4);
+    EXPECT(called(TAGOBRELIN_BUS_VALUE, 0, 7, 255) == 0);
+    EXPECT(memcmp(bench.datapoints[0].value, "\x01\x02\x03\x04\0\0\0\0\0\0\0\0\0\0", 14) == 0 && bench.datapoints[0].state == 0x18 && bench.datapoints[0].mark);
+    EXPECT(called(TAGOBRELIN_OUTCOME, 0, 7, TAGOBRELIN_FAILED) == 0 && bench.datapoints[0].state == 0x19);
+    EXPECT(called(TAGOBRELIN_OUTCOME, 0, 7, TAGOBRELIN_IN_PROGRESS) == 0 && bench.datapoints[0].state == 0x1A);
+    EXPECT(called(TAGOBRELIN_OUTCOME, 0, 7, TAGOBRELIN_SENT) == 0 && bench.datapoints[0].state == 0x18);
+}
+
+static void items(void)
+{
+    begins("item: id, size, bytes");
+    bench.items[0] = (struct tagobrelin_item){.id = 1, .size = 6, .bytes = {0x00, 0x00, 0xC5, 0x07, 0x00, 0x02}};
+    bench.items[1] = (struct tagobrelin_item){.id = 0x0203, .size = 16, .bytes = {1, 2, 3, 4, 5, 6, 7, 8, 9, 10, 11, 12, 13, 14, 15, 16}};
+    bench.item_count = 2;
+    ANSWERED(0x73, BYTES(0xF0, 0x01, 0, 1, 0, 1), 0xF3, BYTES(0xF0, 0x81, 0, 1, 0, 1, 0, 1, 6, 0x00, 0x00, 0xC5, 0x07, 0x00, 0x02));
+    EXPECT(heard(BYTES(0xE5)) == 0);
+    ANSWERED(0x53, BYTES(0xF0, 0x01, 2, 3, 0, 1), 0xD3, BYTES(0xF0, 0x81, 2, 3, 0, 1, 2, 3, 16, 1, 2, 3, 4, 5, 6, 7, 8, 9, 10, 11, 12, 13, 14, 15, 16));
+
+    begins("item: writable");
+    bench.items[0] = (struct tagobrelin_item){.id = 1, .size = 2, .bytes = {1, 2}};
+    bench.items[1] = (struct tagobrelin_item){.id = 2, .size = 2, .writable = true, .bytes = {1, 2}};
+    bench.item_count = 2;
+    ANSWERED(0x73, BYTES(0xF0, 0x02, 0, 1, 0, 1, 0, 1, 2, 7, 8), 0xF3, BYTES(0xF0, 0x82, 0, 1, 0, 0, 4));
+    EXPECT(heard(BYTES(0xE5)) == 0 && memcmp(bench.items[0].bytes, "\x01\x02", 2) == 0);
+    ANSWERED(0x53, BYTES(0xF0, 0x02, 0, 2, 0, 1, 0, 2, 2, 7, 8), 0xD3, BYTES(0xF0, 0x82, 0, 2, 0, 0, 0));
+    EXPECT(memcmp(bench.items[1].bytes, "\x07\x08", 2) == 0);
+}
+
+static void link_record(void)
+{
+    uint8_t message[254], frame[261];
+    begins("link: receiver, received");
+    for (size_t i = 0; i < sizeof message; i++)
+        message[i] = (uint8_t)(i * 7 + 3);
+    memcpy(message, "\xF0\x06\x00\x01\x00\x01", 6);
+    EXPECT(framed(0x73, message, sizeof message, frame) == 261);
+    memcpy(bench.link.receiver, frame, bench.link.received = 260);
+    EXPECT(heard(frame + 260, 1) == 1 + 14 && bench.out[0] == 0xE5 && memcmp(bench.out + 6, "\xF0\x86\x00\x01\x00\x00\x0A", 7) == 0);
+    EXPECT(bench.link.received == 0 && is_zero(bench.link.receiver, 260));
+    for (size_t i = 0; i < 260; i++) {
+        EXPECT(heard(frame + i, 1) == 0);
+        EXPECT(bench.link.received == i + 1 && memcmp(bench.link.receiver, frame, i + 1) == 0);
+    }
+
+    begins("link: dropping");
+    EXPECT(heard(BYTES(0x10, 0x41)) == 0 && !bench.link.dropping && bench.link.received == 2);
+    EXPECT(heard(BYTES(0x40)) == 0 && bench.link.dropping && bench.link.received == 0);
+    EXPECT(heard(BYTES(0x10, 0x40, 0x40, 0x16)) == 0);
+    EXPECT(called(TAGOBRELIN_IDLE_MARK, 0, 0, 0) == 0 && !bench.link.dropping);
+    EXPECT(heard(BYTES(0x10, 0x40, 0x40, 0x16)) == 1);
+    bench.link.dropping = true;
+    EXPECT(heard(BYTES(0x10, 0x40, 0x40, 0x16)) == 0);
+
+    begins("link: expected");
+    bench.link.expected = false;
+    ANSWERED(0x73, BYTES(0xF0, 0x04, 0, 1, 0, 1), 0, (const uint8_t *)"", 0);
+    EXPECT(!bench.link.expected);
+    ANSWERED(0x53, BYTES(0xF0, 0x04, 0, 1, 0, 1), 0xF3, BYTES(0xF0, 0x84, 0, 1, 0, 0, 5));
+    EXPECT(bench.link.expected);
+
+    begins("link: send");
+    bench.link.send = false;
+    ANSWERED(0x73, BYTES(0xF0, 0x04, 0, 1, 0, 1), 0xD3, BYTES(0xF0, 0x84, 0, 1, 0, 0, 5));
+    EXPECT(!bench.link.send && heard(BYTES(0xE5)) == 0 && bench.link.send && bench.link.held == 0);
+
+    begins("link: outstanding, held, resends");
+    EXPECT(framed(0xF3, message, sizeof message, bench.link.outstanding) == 261);
+    memcpy(frame, bench.link.outstanding, bench.link.held = 261);
+    for (uint8_t n = 1; n <= 3; n++) {
+        EXPECT(called(TAGOBRELIN_ACK_WAIT_OVER, 0, 0, 0) == 261 && memcmp(bench.out, frame, 261) == 0);
+        EXPECT(bench.link.resends == n && bench.link.held == 261);
+    }
+    bench.link.send = false;
+    REFUSED(TAGOBRELIN_BAD_LINK, TAGOBRELIN_ACK_WAIT_OVER, 0, 0, 0);
+    bench.link.send = true;
+    EXPECT(called(TAGOBRELIN_ACK_WAIT_OVER, 0, 0, 0) == 4 && memcmp(bench.out, "\x10\xC0\xC0\x16", 4) == 0);
+    EXPECT(bench.link.resends == 0 && bench.link.held == 0 && is_zero(bench.link.outstanding, 261));
+    EXPECT(called(TAGOBRELIN_ACK_WAIT_OVER, 0, 0, 0) == 0);
+}
+
+static void parameters(void)
+{
+    uint8_t answer[254] = {0xF0, 0x87, 0, 5, 0, 248};
+    begins("parameter bytes, and the most that is sent: 262 bytes");
+    for (size_t i = 0; i < 255; i++)
+        bench.parameters[i] = (uint8_t)(i + 1);
+    bench.parameter_count = 255;
+    for (size_t i = 0; i < 248; i++)
+        answer[6 + i] = (uint8_t)(5 + i);
+    ANSWERED(0x73, BYTES(0xF0, 0x07, 0, 5, 0, 248), 0xF3, answer, sizeof answer);
+}
+
+static void refusals(void)
+{
+    begins("-1: datapoints");
+    bench.datapoint_count = 2;
+    for (size_t i = 0; i < 2; i++)
+        bench.datapoints[i].id = (uint16_t)(i + 1);
+    EXPECT(called(TAGOBRELIN_IDLE_MARK, 0, 0, 0) == 0);
+    bench.datapoints[1].id = 1;
+    REFUSED(TAGOBRELIN_BAD_TABLE, TAGOBRELIN_IDLE_MARK, 0, 0, 0);
+    bench.datapoints[1].id = 2;
+    bench.datapoints[0].id = 0;
+    REFUSED(TAGOBRELIN_BAD_TABLE, TAGOBRELIN_HOST_BYTE, 0x10, 0, 0);
+    bench.datapoints[0].id = 1;
+    bench.datapoints[1].typecode = 15;
+    REFUSED(TAGOBRELIN_BAD_TABLE, TAGOBRELIN_POLL, 0, 0, 0);
+    bench.datapoints[1].typecode = 0;
+    bench.datapoints[1].state = 0x20;
+    REFUSED(TAGOBRELIN_BAD_TABLE, TAGOBRELIN_OUTCOME, 0, 1, 0);
+    bench.datapoints[1].state = 0;
+    bench.datapoints[1].value[0] = 2;
+    REFUSED(TAGOBRELIN_BAD_TABLE, TAGOBRELIN_ACK_WAIT_OVER, 0, 0, 0);
+    bench.datapoints[1].value[0] = 1;
+    EXPECT(called(TAGOBRELIN_IDLE_MARK, 0, 0, 0) == 0);
+    for (size_t i = 1; i < 14; i++) {
+        bench.datapoints[1].value[i] = 0x80;
+        REFUSED(TAGOBRELIN_BAD_TABLE, TAGOBRELIN_IDLE_MARK, 0, 0, 0);
+        bench.datapoints[1].value[i] = 0;
+    }
+    for (size_t i = 0; i < 1001; i++)
+        bench.datapoints[i].id = (uint16_t)(i + 1);
+    bench.datapoint_count = 1000;
+    EXPECT(called(TAGOBRELIN_IDLE_MARK, 0, 0, 0) == 0);
+    bench.datapoint_count = 1001;
+    REFUSED(TAGOBRELIN_BAD_TABLE, TAGOBRELIN_IDLE_MARK, 0, 0, 0);
+
+    begins("-1: items, parameter bytes");
+    for (size_t i = 0; i < 65; i++)
+        bench.items[i] = (struct tagobrelin_item){.id = (uint16_t)(i + 1), .size = 1};
+    bench.item_count = 64;
+    bench.parameter_count = 255;
+    EXPECT(called(TAGOBRELIN_IDLE_MARK, 0, 0, 0) == 0);
+    bench.item_count = 65;
+    REFUSED(TAGOBRELIN_BAD_TABLE, TAGOBRELIN_IDLE_MARK, 0, 0, 0);
+    bench.item_count = 2;
+    bench.items[1].id = 1;
+    REFUSED(TAGOBRELIN_BAD_TABLE, TAGOBRELIN_IDLE_MARK, 0, 0, 0);
+    bench.items[1].id = 2;
+    bench.items[1].size = 17;
+    REFUSED(TAGOBRELIN_BAD_TABLE, TAGOBRELIN_IDLE_MARK, 0, 0, 0);
+    bench.items[1].size = 0;
+    REFUSED(TAGOBRELIN_BAD_TABLE, TAGOBRELIN_IDLE_MARK, 0, 0, 0);
+    bench.items[1].size = 1;
+    for (size_t i = 1; i < 16; i++) {
+        bench.items[1].bytes[i] = 1;
+        REFUSED(TAGOBRELIN_BAD_TABLE, TAGOBRELIN_IDLE_MARK, 0, 0, 0);
+        bench.items[1].bytes[i] = 0;
+    }
+    bench.parameter_count = 256;
+    REFUSED(TAGOBRELIN_BAD_TABLE, TAGOBRELIN_IDLE_MARK, 0, 0, 0);
+
+    begins("-2: the link record");
+    for (size_t i = 0; i < 260; i++) {
+        bench.link.receiver[i] = 1;
+        REFUSED(TAGOBRELIN_BAD_LINK, TAGOBRELIN_HOST_BYTE, 0x16, 0, 0);
+        bench.link.receiver[i] = 0;
+    }
+    for (size_t i = 0; i < 261; i++) {
+        bench.link.outstanding[i] = 1;
+        REFUSED(TAGOBRELIN_BAD_LINK, TAGOBRELIN_POLL, 0, 0, 0);
+        bench.link.outstanding[i] = 0;
+    }
+    bench.link.received = 261;
+    REFUSED(TAGOBRELIN_BAD_LINK, TAGOBRELIN_IDLE_MARK, 0, 0, 0);
+    bench.link.received = 65535;
+    REFUSED(TAGOBRELIN_BAD_LINK, TAGOBRELIN_HOST_BYTE, 0, 0, 0);
+    bench.link.received = 1;
+    REFUSED(TAGOBRELIN_BAD_LINK, TAGOBRELIN_IDLE_MARK, 0, 0, 0);
+    bench.link.received = 0;
+    bench.link.held = 262;
+    REFUSED(TAGOBRELIN_BAD_LINK, TAGOBRELIN_ACK_WAIT_OVER, 0, 0, 0);
+    bench.link.held = 0;
+    bench.link.resends = 1;
+    REFUSED(TAGOBRELIN_BAD_LINK, TAGOBRELIN_ACK_WAIT_OVER, 0, 0, 0);
+    bench.link.held = (uint16_t)framed(0xF3, BYTES(0xF0), bench.link.outstanding);
+    bench.link.resends = 4;
+    REFUSED(TAGOBRELIN_BAD_LINK, TAGOBRELIN_ACK_WAIT_OVER, 0, 0, 0);
+    bench.link.resends = 3;
+    EXPECT(called(TAGOBRELIN_IDLE_MARK, 0, 0, 0) == 0);
+
+    begins("-3: room");
+    bench.room = TAGOBRELIN_ROOM - 1;
+    REFUSED(TAGOBRELIN_NO_ROOM, TAGOBRELIN_HOST_BYTE, 0x10, 0, 0);
+    bench.room = 0;
+    REFUSED(TAGOBRELIN_NO_ROOM, TAGOBRELIN_POLL, 0, 0, 0);
+    bench.room = TAGOBRELIN_ROOM;
+    EXPECT(called(TAGOBRELIN_POLL, 0, 0, 0) == 0);
+
+    begins("-4: bus events");
+    bench.datapoints[0] = (struct tagobrelin_datapoint){.id = 7, .typecode = 0};
+    bench.datapoint_count = 1;
+    bench.value_count = 1;
+    EXPECT(called(TAGOBRELIN_BUS_VALUE, 0, 7, 0) == 0);
+    ((uint8_t *)&bench.datapoints[0])[21] = 0xA5;
+    REFUSED(TAGOBRELIN_BAD_BUS_EVENT, TAGOBRELIN_BUS_VALUE, 0, 6, 0);
+    REFUSED(TAGOBRELIN_BAD_BUS_EVENT, TAGOBRELIN_BUS_VALUE, 0, 0, 0);
+    REFUSED(TAGOBRELIN_BAD_BUS_EVENT, TAGOBRELIN_OUTCOME, 0, 8, TAGOBRELIN_SENT);
+    bench.value[0] = 2;
+    REFUSED(TAGOBRELIN_BAD_BUS_EVENT, TAGOBRELIN_BUS_VALUE, 0, 7, 0);
+    bench.value[0] = 1;
+    bench.value_count = 2;
+    REFUSED(TAGOBRELIN_BAD_BUS_EVENT, TAGOBRELIN_BUS_VALUE, 0, 7, 0);
+    bench.value_count = 0;
+    REFUSED(TAGOBRELIN_BAD_BUS_EVENT, TAGOBRELIN_BUS_VALUE, 0, 7, 0);
+
+    begins("-100: no event");
+    REFUSED(TAGOBRELIN_NO_EVENT, 0, 0x10, 0, 0);
+    for (int event = 7; event < 256; event++)
+        REFUSED(TAGOBRELIN_NO_EVENT, (uint8_t)event, 0x10, 0, 0);
+    for (int outcome = 3; outcome < 256; outcome++)
+        REFUSED(TAGOBRELIN_NO_EVENT, TAGOBRELIN_OUTCOME, 0, 0, (uint8_t)outcome);
+    for (uint8_t event = 1; event < 5; event++)
+        EXPECT(called(event, 0, 65535, 255) == 0);
+
+    begins("several refusals at once: the first");
+    bench.datapoint_count = 1;
+    bench.link.resends = 9;
+    bench.room = 5;
+    REFUSED(TAGOBRELIN_NO_EVENT, TAGOBRELIN_OUTCOME, 0, 9, 3);
+    REFUSED(TAGOBRELIN_BAD_TABLE, TAGOBRELIN_BUS_VALUE, 0, 9, 0);
+    bench.datapoints[0].id = 1;
+    REFUSED(TAGOBRELIN_BAD_LINK, TAGOBRELIN_BUS_VALUE, 0, 9, 0);
+    bench.link.resends = 0;
+    REFUSED(TAGOBRELIN_NO_ROOM, TAGOBRELIN_BUS_VALUE, 0, 9, 0);
+    bench.room = TAGOBRELIN_ROOM;
+    REFUSED(TAGOBRELIN_BAD_BUS_EVENT, TAGOBRELIN_BUS_VALUE, 0, 9, 0);
+}
+
+int main(void)
+{
+    fresh();
+    datapoints();
+    items();
+    link_record();
+    parameters();
+    refusals();
+    ends();
+    return failed != 0;
+}

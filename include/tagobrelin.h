@@ -1,0 +1,139 @@
+/* Tagobrelin in C: what libtagobrelin.a exports.
+ *
+ * Both functions are proved to do what crates/tagobrelin/src/exported.rt promises, for every content of the memory that they
+ * are lent. They keep no state of their own, use no heap, and need memcpy and memset of the C library. The proof speaks of a
+ * caller that keeps the rules below: nothing checks a C caller.
+ *
+ * A caller guarantees, at each call:
+ *   - No pointer is null, not even one whose count is 0: pass the address of any byte then.
+ *   - Behind each pointer lies as much memory as its count says, and the counts are elements, not bytes.
+ *   - Datapoints, items and the link record lie at even addresses. (As C objects of these types they do.)
+ *   - No two of these runs of memory overlap, but for value and parameters, which are only read; and nobody else writes to any of
+ *     them while the call runs.
+ *   - A bool is the byte 0 or 1. (C keeps that where a bool is assigned; memory read from a store is the caller's to look at.)
+ * The contents may otherwise be anything: what is not in order is refused by number, and then no byte of anything is changed.
+ */
+#ifndef TAGOBRELIN_H
+#define TAGOBRELIN_H
+
+#include <stdbool.h>
+#include <stddef.h>
+#include <stdint.h>
+
+#ifdef __cplusplus
+extern "C" {
+#endif
+
+/* One datapoint. A table has 0 to 1000 of them, their IDs 1 or more and strictly rising. */
+struct tagobrelin_datapoint {
+    uint16_t id;
+    uint8_t typecode;  /* 0 to 14: 1 to 7 bits, then 1, 2, 3, 4, 6, 8, 10 and 14 bytes */
+    uint8_t flags;     /* config flags: any byte */
+    uint8_t dpt;       /* datapoint type: any byte */
+    uint8_t state;     /* bit 4 valid, 3 updated from bus, 2 data request, 1-0 transmission status; bits 7 to 5 are 0 */
+    uint8_t value[14]; /* big-endian, from the first byte on; bits and bytes beyond the type's size are 0 */
+    bool mark;         /* the value came from the bus and waits for an indication */
+};
+
+/* One server item. A table has 0 to 64 of them, their IDs 1 or more and strictly rising. */
+struct tagobrelin_item {
+    uint16_t id;
+    uint8_t size;      /* 1 to 16 */
+    bool writable;
+    uint8_t bytes[16]; /* those beyond the size are 0 */
+};
+
+/* The link record: made by tagobrelin_fresh_link, and from then on changed by tagobrelin_call alone. A bit is true where it is odd. */
+struct tagobrelin_link {
+    uint8_t receiver[260];    /* the bytes of the frame that is being received, and 0 behind them */
+    uint16_t received;        /* how many they are */
+    bool dropping;            /* the receiver drops what comes, up to the next idle mark */
+    bool expected;            /* the count bit of the next request that is carried out */
+    bool send;                /* the count bit of the next frame that is sent, or of the outstanding one */
+    uint8_t outstanding[261]; /* the frame that waits for its acknowledgement, and 0 behind it */
+    uint16_t held;            /* how many bytes it has: 0 where nothing is outstanding */
+    uint8_t resends;          /* how often it was sent again: 0 to 3 */
+};
+
+/* The six events. */
+enum {
+    TAGOBRELIN_HOST_BYTE = 1,     /* `byte` came from the host */
+    TAGOBRELIN_IDLE_MARK = 2,     /* the line was silent for the standard's gap */
+    TAGOBRELIN_ACK_WAIT_OVER = 3, /* the time in which an acknowledgement had to come is over */
+    TAGOBRELIN_POLL = 4,          /* send an indication, if one is due */
+    TAGOBRELIN_BUS_VALUE = 5,     /* the bus gave `value` for the datapoint `id` */
+    TAGOBRELIN_OUTCOME = 6        /* `outcome` of a transmission of the datapoint `id` */
+};
+
+/* The outcomes of a transmission. */
+enum {
+    TAGOBRELIN_SENT = 0,
+    TAGOBRELIN_FAILED = 1,
+    TAGOBRELIN_IN_PROGRESS = 2
+};
+
+/* What tagobrelin_call returns: 0 to 262, how many bytes from the start of `out` are to be sent to the host; or one of these.
+ * Several at once: the first that applies, in the order TAGOBRELIN_NO_EVENT, -1, -2, -3, -4. */
+enum {
+    TAGOBRELIN_BAD_TABLE = -1,     /* a table is not well formed, or has more entries than above, or there are more than 255 parameter bytes */
+    TAGOBRELIN_BAD_LINK = -2,      /* the link record is not in range: it was not made by tagobrelin_fresh_link, or somebody wrote to it */
+    TAGOBRELIN_NO_ROOM = -3,       /* `out` has room for less than TAGOBRELIN_ROOM bytes */
+    TAGOBRELIN_BAD_BUS_EVENT = -4, /* no datapoint has this ID; or the value's length is not its type's, or unused bits are set */
+    TAGOBRELIN_NO_EVENT = -100     /* the event is not 1 to 6, or it is 6 and the outcome is not 0 to 2 */
+};
+
+/* The most that one call sends, and the room that each call wants. */
+enum { TAGOBRELIN_ROOM = 262 };
+
+/* One event. `byte`, `id`, `outcome` and `value` are read where the event has them, and may be anything where it has not.
+ * A number below 0: no byte of anything lent was changed. Else the first bytes of `out`, as many as the number says, are to be
+ * sent, the bytes behind them are as they were, and tables and link record are such that the next call does not refuse them. */
+int32_t tagobrelin_call(uint8_t event, uint8_t byte, uint16_t id, uint8_t outcome,
+                        const uint8_t *value, size_t value_count,
+                        struct tagobrelin_datapoint *datapoints, size_t datapoint_count,
+                        struct tagobrelin_item *items, size_t item_count,
+                        const uint8_t *parameters, size_t parameter_count,
+                        struct tagobrelin_link *link,
+                        uint8_t *out, size_t room);
+
+/* Makes the link record that a reset leaves: the receiver at a frame start, both bits odd, nothing outstanding. Before it
+ * the record's bools are 0 or 1, as at every call: static memory is, and other memory is zeroed first. */
+void tagobrelin_fresh_link(struct tagobrelin_link *link);
+
+#ifdef __cplusplus
+}
+#define TAGOBRELIN_ASSERT(fact) static_assert(fact, #fact)
+#else
+#define TAGOBRELIN_ASSERT(fact) _Static_assert(fact, #fact)
+#endif
+
+/* The layout that the archive was compiled for. */
+#define TAGOBRELIN_AT(type, field, at) TAGOBRELIN_ASSERT(offsetof(struct tagobrelin_##type, field) == at)
+TAGOBRELIN_ASSERT(sizeof(bool) == 1);
+TAGOBRELIN_ASSERT(sizeof(size_t) == 8);
+TAGOBRELIN_ASSERT(sizeof(struct tagobrelin_datapoint) == 22);
+TAGOBRELIN_AT(datapoint, id, 0);
+TAGOBRELIN_AT(datapoint, typecode, 2);
+TAGOBRELIN_AT(datapoint, flags, 3);
+TAGOBRELIN_AT(datapoint, dpt, 4);
+TAGOBRELIN_AT(datapoint, state, 5);
+TAGOBRELIN_AT(datapoint, value, 6);
+TAGOBRELIN_AT(datapoint, mark, 20);
+TAGOBRELIN_ASSERT(sizeof(struct tagobrelin_item) == 20);
+TAGOBRELIN_AT(item, id, 0);
+TAGOBRELIN_AT(item, size, 2);
+TAGOBRELIN_AT(item, writable, 3);
+TAGOBRELIN_AT(item, bytes, 4);
+TAGOBRELIN_ASSERT(sizeof(struct tagobrelin_link) == 530);
+TAGOBRELIN_AT(link, receiver, 0);
+TAGOBRELIN_AT(link, received, 260);
+TAGOBRELIN_AT(link, dropping, 262);
+TAGOBRELIN_AT(link, expected, 263);
+TAGOBRELIN_AT(link, send, 264);
+TAGOBRELIN_AT(link, outstanding, 265);
+TAGOBRELIN_AT(link, held, 526);
+TAGOBRELIN_AT(link, resends, 528);
+#undef TAGOBRELIN_AT
+#undef TAGOBRELIN_ASSERT
+
+#endif
