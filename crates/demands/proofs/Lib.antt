@@ -7,4 +7,7 @@ pub mod CallRuns
 pub mod Demand3
 pub mod Demand3Met
 pub mod Demand1
+pub mod ErrorLaws
+pub mod HostLaws
 pub mod ReadBack
+pub mod Demand2

@@ -1,5 +1,7 @@
 pub mod Run
 pub mod Example
-pub mod Exchange
+pub mod Host
 pub mod Refusals
 pub mod SentFrames
+pub mod Answers
+pub mod Exchange

@@ -40,6 +40,7 @@ pub record Refusals (e : Event) (v : List ℕ) (t : Tables) (k : Link) (out : Li
 
 abbrev pub Demand1 : Type 0
 Demand1 = (e : Event) (v : List ℕ) (t : Tables) (k : Link) (out : List ℕ) → Refusals e v t k out
+
 -- To read it: for every event, value, tables, link record and output buffer, well formed or not, the reply is refusal n if and only if n is the lowest number of
 -- the table whose condition is met, and then reply, output, tables and link record are that number and what was lent. If and only if none is met, the reply is
 -- how many bytes were sent, and those bytes stand in front in the output.
