@@ -9,7 +9,7 @@ use lib.ListN.{length, getD, drop}
 use lib.Seq.{take-append-seam}
 use lib.Dec.{ltb, eqb}
 use borrow.Author.Tests.{ne-eqb}
-use Rattle.link.specs.Words.{if_then_else_, isEmpty}
+use Rattle.link.specs.Words.{isEmpty}
 use Rattle.link.specs.declared.rules.Heard.{Heard}
 use Rattle.link.specs.declared.rules.Heard.the-variants.{Gathered, Dropped, Ignored, Acknowledged, Reset, Repeat, Request}
 use Rattle.link.specs.Frame.{acknowledgement, dataFrame, longestMessage, messageOf}
@@ -18,7 +18,7 @@ use Rattle.link.specs.Rules.{heardAt, onHeard, onHostByte, onIdleMark, onAckWai
 use Rattle.link.proofs.FrameLaws.{frame-message}
 use Rattle.services.specs.Table.{Tables}
 use Rattle.services.specs.Message.{subService, startOf, numberOf, filterOf, coded, Finding, fine, bad, answerOf, afterOf, served}
-use Rattle.services.specs.Get.{AnswerEntry, overflow, roomForEntries, listing, getFinding, getting, getServerItem, getDatapointDescription, getDatapointValue, getParameterByte}
+use Rattle.services.specs.Get.{AnswerEntry, listing, getFinding, getting, getServerItem, getDatapointDescription, getDatapointValue, getParameterByte}
 use Rattle.services.specs.Set.{SetEntry, setFinding, setting, setServerItem, setDatapointValue}
 use Rattle.services.specs.Service.{service, unanswered, carriedOut}
 use Rattle.services.specs.Indication.{indication}

@@ -1,12 +1,11 @@
 -- What the host hears: a data frame of the server, alone or behind an acknowledgement.
 use Prim.Native.Nat.{ℕ, zero, suc, _≤_}
 use mathlib.Core.Path.{_≡_, refl, _∙_, ap}
-use mathlib.Core.Bool.{Bool, true, false, _&&_}
+use mathlib.Core.Bool.{Bool, true, false}
 use mathlib.Core.List.{List, [], _∷_, _++_}
 use native.Mathlib.Omega.{arith}
-use lib.ListN.{length, drop, take}
+use lib.ListN.{length, drop}
 use lib.Seq.{take-append-seam, drop-append-seam}
-use lib.Dec.{leb, eqb}
 use borrow.Author.Tests.{le-leb, eq-eqb}
 use Rattle.link.specs.Frame.{acknowledgement, fixedFrame, checksum, dataFrame}
 use Rattle.link.specs.Record.{serverControl}

@@ -11,3 +11,4 @@ pub mod ErrorLaws
 pub mod HostLaws
 pub mod ReadBack
 pub mod Demand2
+pub mod PremisesNeeded

@@ -1,5 +1,5 @@
 -- Each data frame that is sent reads back to its one message and count bit.
-use Prim.Native.Nat.{ℕ, _+_, _≤_}
+use Prim.Native.Nat.{ℕ, _≤_}
 use mathlib.Core.Path.{_≡_, refl, sym, _∙_, ap, subst}
 use mathlib.Core.Bool.{Bool, true, false, not}
 use mathlib.Core.List.{List, [], _++_}
@@ -26,7 +26,7 @@ use Rattle.server.specs.declared.event.Event.the-variants.{HostByte, IdleMark, 
 use Rattle.server.specs.Call.{saying, handedUp, onMoved, onPoll, happens, accepted, call}
 use Rattle.server.proofs.CallLaws.{not-refused}
 use Rattle.demands.specs.Run.{sentOf}
-use Rattle.demands.specs.Host.{heard-acknowledgement, heard-fixed, heard-message, hostReads}
+use Rattle.demands.specs.Host.{hostReads}
 use Rattle.demands.proofs.HostLaws.{frame-read, answer-read, acknowledgement-read, fixed-read}
 use Rattle.demands.specs.SentFrames.{ReadsBack, Sends, nothing, acknowledges, resets, frames, answers, SentFramesRead}
 

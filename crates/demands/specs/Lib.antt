@@ -5,3 +5,4 @@ pub mod Refusals
 pub mod SentFrames
 pub mod Answers
 pub mod Exchange
+pub mod Needed

@@ -13,7 +13,7 @@ use Rattle.services.specs.Table.{Tables, wellFormed}
 use Rattle.server.specs.declared.event.Event.{Event}
 use Rattle.server.specs.declared.reply.Reply.the-variants.{Refused, Accepted}
 use Rattle.server.specs.Event.{busOk}
-use Rattle.server.specs.Call.{Done, happens, call}
+use Rattle.server.specs.Call.{happens, call}
 
 -- the table of refusals: what is wrong where number n stands
 pub data Wrong (e : Event) (v : List ℕ) (t : Tables) (k : Link) (out : List ℕ) (n : ℕ) : Type 0 where
