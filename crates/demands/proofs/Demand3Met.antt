@@ -1,7 +1,7 @@
 -- Demand 3 says something: its premises hold at example 1, for an exchange with damaged deliveries before, between and after two sound ones.
 use Prim.Native.Nat.{ℕ}
 use mathlib.Core.Path.{_≡_, refl, _∙_}
-use mathlib.Core.Bool.{true}
+use mathlib.Core.Bool.{true, not}
 use mathlib.Core.List.{List, [], _∷_}
 use native.Mathlib.Omega.{arith}
 use lib.ListN.{replicate}
@@ -71,6 +71,11 @@ met-sent = met .drawn ∙ says
 pub met-acknowledged : T (eqb (delivery (lent 0) (requestFrame link request) sound item1 link .link .held) 22) × T (eqb (exchange lent (requestFrame link request) deliveries item1 link .link .held) 0)
 unfolding opened lent link lineAt request item1 requestFrame deliveries arrives thenIdle calls delivery exchange
 met-acknowledged = (tt, tt)
+
+-- so the send bit is not what one sound delivery leaves: the demand names the expected bit alone
+pub met-send : T (delivery (lent 0) (requestFrame link request) sound item1 link .link .send) × T (not (exchange lent (requestFrame link request) deliveries item1 link .link .send))
+unfolding opened lent link lineAt request item1 requestFrame deliveries arrives thenIdle calls delivery exchange
+met-send = (tt, tt)
 
 -- ---- the order's reason: "The filter asks for updated readings only, and a reading is handed out once."
 -- datapoint 5 is valid and updated from the bus, value 1; its updated values are asked for, once with a byte lost and twice sound

@@ -16,8 +16,8 @@ use Rattle.services.specs.Datapoint.{zeroDatapoint}
 use Rattle.services.specs.Table.{Tables, wellFormed}
 use Rattle.demands.specs.Run.{Ran}
 use Rattle.demands.specs.Example.{lineAt, item1, ask1, answer1, datapoint, datapoint5, set5, answer3}
-use Rattle.demands.specs.Exchange.{Lent, calls, thenIdle, delivery, exchange, Start, Request, requestFrame, EachPossible, someSound, answerFrame, draws}
-use Rattle.demands.specs.Needed.{Demand3For, StartAnywhere, StartHolding, AnyRequest, AtLeastOneSound, AnyNumberSound, AnyDeliveries, restingLink, roomy, unmarked, marked, twoChanged, statusEntries, spelt, spelling, Needed}
+use Rattle.demands.specs.Exchange.{Lent, calls, thenIdle, delivery, exchange, isAccepted, allAccepted, noneRefused, Start, Request, requestFrame, EachPossible, someSound, answerFrame, draws}
+use Rattle.demands.specs.Needed.{Demand3For, StartUnchecked, StartAnywhere, StartHolding, AnyRequest, AtLeastOneSound, AnyNumberSound, AnyDeliveries, restingLink, roomy, unmarked, marked, twoChanged, statusEntries, spelt, spelling, Needed}
 use Rattle.demands.proofs.Opened.{opened}
 use Rattle.demands.proofs.ComputedExamples.{sameDatapoint, sameItem, sameTables, tables-eq}
 
@@ -82,6 +82,19 @@ asked = record { first = refl; short = omega arith; bytes = tt }
 one-sound : T (someSound (sound ∷ []))
 unfolding someSound isSound
 one-sound = tt
+
+-- no output room
+cramped : ℕ → ℕ → Lent
+cramped i n = record { value = []; output = [] }
+
+not-refused : Demand3For StartUnchecked Request EachPossible AtLeastOneSound → ⊥
+not-refused h = refused (h cramped ask (sound ∷ []) item1 restingLink start asked (tt, tt) one-sound .accepted)
+  where
+    start : StartUnchecked cramped item1 restingLink
+    start = unfold opened restingLink lineAt in record { received = refl; dropping = refl; held = refl }
+
+    refused : T (noneRefused cramped (requestFrame restingLink ask) (sound ∷ []) item1 restingLink) → ⊥
+    refused = unfold opened cramped restingLink lineAt ask item1 requestFrame arrives thenIdle isAccepted allAccepted noneRefused in λ t. t
 
 -- 68 was gathered before the request comes
 midFrame : Link
@@ -204,6 +217,7 @@ pub needed : Needed
 needed =
     record {
       as-stated = λ d. d;
+      not-refused = not-refused;
       frame-start = frame-start;
       nothing-outstanding = nothing-outstanding;
       first-byte = first-byte;
