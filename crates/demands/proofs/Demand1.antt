@@ -7,11 +7,14 @@ use mathlib.Core.List.{List}
 use native.Mathlib.Omega.{arith}
 use native.Mathlib.Decide.{ℕ-discrete}
 use lib.ListN.{length, take, drop}
-use lib.Seq.{take-append-seam}
+use lib.Seq.{take-append-seam, drop-append-seam}
 use lib.Dec.{T, ltb}
 use borrow.Author.Tests.{ltb-true, ltb-false}
 use Rattle.link.specs.declared.record.Link.{Link}
-use Rattle.link.specs.Record.{lineOf, inRange}
+use Rattle.link.specs.Frame.{fixedFrame}
+use Rattle.link.specs.Record.{Line, lineOf, serverControl, memoryOk, lineOk, inRange}
+use Rattle.link.proofs.WordLaws.{right}
+use Rattle.link.proofs.FrameLaws.{frame-length}
 use Rattle.services.specs.Table.{Tables, wellFormed}
 use Rattle.server.specs.declared.event.Event.{Event}
 use Rattle.server.specs.declared.reply.Reply.{Reply}
@@ -19,7 +22,9 @@ use Rattle.server.specs.declared.reply.Reply.the-variants.{Refused, Accepted}
 use Rattle.server.specs.Event.{busOk}
 use Rattle.server.specs.Reply.{replyNumbers}
 use Rattle.server.specs.Call.{happens, refusal, Called, accepted, call}
-use Rattle.server.proofs.CallLaws.{refusal-0, refusal-1, refusal-2, refusal-3, refusal-4, refused-leaves}
+use Rattle.server.proofs.CallLaws.{refusal-0, refusal-1, refusal-2, refusal-3, refusal-4, not-refused, refused-leaves, call-lasts}
+use Rattle.demands.specs.SentFrames.{ReadsBack, Sends, nothing, acknowledges, resets, frames, answers}
+use Rattle.demands.proofs.ReadBack.{happens-sends}
 use Rattle.demands.specs.Refusals.{Wrong, bad-tables, bad-link, short-output, bad-bus-event, Lowest, Refusals, Demand1}
 
 -- a reply that is a refusal is no other one, and no acceptance
@@ -35,6 +40,17 @@ not-both count n e = let z : _≡_ {A = ℕ} 2 1 = ap (λ (r : Reply). length (r
 
 not-true : {b : Bool} → b ≡ true → b ≡ false → ⊥
 not-true p q = subst T (sym p ∙ q) tt
+
+-- what is sent has at most 262 bytes: an acknowledgement and the longest frame
+back-length : {f : List ℕ} {odd : Bool} → ReadsBack f odd → length f ≤ 261
+back-length {f} {odd} b = omega (arith, ap length (b .built), frame-length (serverControl odd) (b .message), b .short)
+
+sends-fit : {s : List ℕ} {l : Line} → Sends s l → length s ≤ 262
+sends-fit (nothing e) = rw e (omega arith)
+sends-fit (acknowledges e h) = rw e (omega arith)
+sends-fit (resets e h) = rw e (unfold fixedFrame in omega arith)
+sends-fit (frames e b h) = rw e (omega (arith, back-length b))
+sends-fit (answers e b h) = rw e (omega (arith, back-length b))
 
 module _ (e : Event) (v : List ℕ) (t : Tables) (k : Link) (out : List ℕ) where
   abbrev number : ℕ
@@ -54,6 +70,14 @@ module _ (e : Event) (v : List ℕ) (t : Tables) (k : Link) (out : List ℕ) whe
   accepts-sent h =
       let s = happens e v t (lineOf k) .sent in
       ap (λ (c : Called). take (length s) (c .output)) (accepts h) ∙ (unfold accepted in take-append-seam s (drop (length s) out))
+
+  accepts-behind : number ≡ 0 → drop (length (happens e v t (lineOf k) .sent)) (call e v t k out .output) ≡ drop (length (happens e v t (lineOf k) .sent)) out
+  accepts-behind h =
+      let s = happens e v t (lineOf k) .sent in
+      ap (λ (c : Called). drop (length s) (c .output)) (accepts h) ∙ (unfold accepted in drop-append-seam s (drop (length s) out))
+
+  accepts-fits : number ≡ 0 → length (happens e v t (lineOf k) .sent) ≤ 262
+  accepts-fits h = sends-fit (happens-sends e v t (lineOf k) (right (memoryOk k) (lineOk (lineOf k)) (unfold inRange in not-refused e v t k (length out) h .link)))
 
   -- the number of a refusal is the one that the conditions give
   refused-by : (n : ℕ) → call e v t k out .reply ≡ Refused n → (number ≡ n) × (n ≢ 0)
@@ -76,7 +100,7 @@ module _ (e : Event) (v : List ℕ) (t : Tables) (k : Link) (out : List ℕ) whe
     second : wellFormed t ≡ true → inRange k ≡ false → number ≡ 2 → Found
     third : wellFormed t ≡ true → inRange k ≡ true → length out < 262 → number ≡ 3 → Found
     fourth : wellFormed t ≡ true → inRange k ≡ true → 262 ≤ length out → busOk e v t ≡ false → number ≡ 4 → Found
-    nothing : wellFormed t ≡ true → inRange k ≡ true → 262 ≤ length out → busOk e v t ≡ true → number ≡ 0 → Found
+    none : wellFormed t ≡ true → inRange k ≡ true → 262 ≤ length out → busOk e v t ≡ true → number ≡ 0 → Found
 
   what-is-found : Found
   what-is-found = go (wellFormed t) (inRange k) (ltb (length out) 262) (busOk e v t) refl refl refl refl
@@ -86,7 +110,7 @@ module _ (e : Event) (v : List ℕ) (t : Tables) (k : Link) (out : List ℕ) whe
       go true false c d p q r s = second p q (refusal-2 e v t k (length out) p q)
       go true true true d p q r s = let h = ltb-true (length out) 262 r in third p q h (refusal-3 e v t k (length out) p q h)
       go true true false false p q r s = let h = ltb-false (length out) 262 r in fourth p q h s (refusal-4 e v t k (length out) p q h s)
-      go true true false true p q r s = let h = ltb-false (length out) 262 r in nothing p q h s (refusal-0 e v t k (length out) p q h s)
+      go true true false true p q r s = let h = ltb-false (length out) 262 r in none p q h s (refusal-0 e v t k (length out) p q h s)
 
   -- what is wrong where a number is given
   names : number ≢ 0 → Wrong e v t k out number
@@ -97,7 +121,7 @@ module _ (e : Event) (v : List ℕ) (t : Tables) (k : Link) (out : List ℕ) whe
       go (second w r n) = bad-link n r
       go (third w r h n) = short-output n h
       go (fourth w r h b n) = bad-bus-event n b
-      go (nothing w r h b n) = absurd (z n)
+      go (none w r h b n) = absurd (z n)
 
   -- whatever is wrong, the number given is no higher
   at-most : (i : ℕ) → Wrong e v t k out i → (1 ≤ number) × (number ≤ i)
@@ -120,10 +144,10 @@ module _ (e : Event) (v : List ℕ) (t : Tables) (k : Link) (out : List ℕ) whe
       go (fourth a b c d n) (bad-link h x) = absurd (not-true b x)
       go (fourth a b c d n) (short-output h x) = absurd (omega (arith, c, x))
       go (fourth a b c d n) (bad-bus-event h x) = (omega (arith, n), omega (arith, n, h))
-      go (nothing a b c d n) (bad-tables h x) = absurd (not-true a x)
-      go (nothing a b c d n) (bad-link h x) = absurd (not-true b x)
-      go (nothing a b c d n) (short-output h x) = absurd (omega (arith, c, x))
-      go (nothing a b c d n) (bad-bus-event h x) = absurd (not-true d x)
+      go (none a b c d n) (bad-tables h x) = absurd (not-true a x)
+      go (none a b c d n) (bad-link h x) = absurd (not-true b x)
+      go (none a b c d n) (short-output h x) = absurd (omega (arith, c, x))
+      go (none a b c d n) (bad-bus-event h x) = absurd (not-true d x)
 
   given-number : (n : ℕ) → Lowest e v t k out n → number ≡ n
   given-number n low = go (ℕ-discrete number n)
@@ -158,15 +182,15 @@ module _ (e : Event) (v : List ℕ) (t : Tables) (k : Link) (out : List ℕ) whe
         only-then = λ n r. lowest-given n (refused-by n r .0) (refused-by n r .1);
         leaves = λ n r. refused-leaves e v t k out n (refused-by n r .0) (refused-by n r .1);
         accepted = λ w. accepts-count (none-wrong w);
-        sent = sends;
+        sent = λ count r. ap (λ (n : ℕ). take n (call e v t k out .output)) (counted count r) ∙ accepts-sent (accepted-by count r);
+        fits = λ count r. omega (arith, counted count r, accepts-fits (accepted-by count r));
+        behind = λ count r. ap (λ (n : ℕ). drop n (call e v t k out .output)) (counted count r) ∙ accepts-behind (accepted-by count r) ∙ ap (λ (n : ℕ). drop n out) (sym (counted count r));
+        lasts = λ count r. let after = call-lasts e v t k out (accepted-by count r) in (after .tables, after .link);
         not-wrong = λ count r n w. omega (arith, accepted-by count r, at-most n w .0);
       }
     where
-      sends : (count : ℕ) → call e v t k out .reply ≡ Accepted count → take count (call e v t k out .output) ≡ happens e v t (lineOf k) .sent
-      sends count r =
-          let z = accepted-by count r in
-          let counted : count ≡ length (happens e v t (lineOf k) .sent) = counts-told count _ (sym r ∙ accepts-count z) in
-          ap (λ (n : ℕ). take n (call e v t k out .output)) counted ∙ accepts-sent z
+      counted : (count : ℕ) → call e v t k out .reply ≡ Accepted count → count ≡ length (happens e v t (lineOf k) .sent)
+      counted count r = counts-told count _ (sym r ∙ accepts-count (accepted-by count r))
 
 pub demand-1 : Demand1
 demand-1 = refusals
