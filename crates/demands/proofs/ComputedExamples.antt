@@ -36,7 +36,7 @@ sameDatapoint a b = all-pass (datapointTests a b)
 unfoldable pub sameItem : Item → Item → Bool
 sameItem a b = all-pass (itemTests a b)
 
-unfoldable sameLink : Link → Link → Bool
+unfoldable pub sameLink : Link → Link → Bool
 sameLink a b = all-pass (linkTests a b)
 
 abbrev pub tablesTests : Tables → Tables → List Bool
@@ -52,7 +52,7 @@ sameTables a b = all-pass (tablesTests a b)
 abbrev ranTests : Ran → Ran → List Bool
 ranTests a b = same (a .sent) (b .sent) ∷ sameTables (a .tables) (b .tables) ∷ sameLink (a .link) (b .link) ∷ []
 
-unfoldable agrees : Case → Bool
+unfoldable pub agrees : Case → Bool
 agrees c = all-pass (ranTests (found c) (stated c))
 
 -- ---- computed
@@ -120,13 +120,16 @@ ran-eq a b t =
       link = link-eq (a .link) (b .link) (g 2) i;
     }
 
-each : (cs : List Case) → T (every agrees cs) → (c : Case) → List·Memᴰ c cs → found c ≡ stated c
+pub case-holds : (c : Case) → T (agrees c) → found c ≡ stated c
 unfolding agrees
+case-holds c t = ran-eq (found c) (stated c) t
+
+each : (cs : List Case) → T (every agrees cs) → (c : Case) → List·Memᴰ c cs → found c ≡ stated c
 each [] t c h = absurd (List·Memᴰ·not-nil h)
 each (d ∷ cs) t c h = go (List·Memᴰ·cases-cons h) (each cs (right (agrees d) (every agrees cs) t) c)
   where
     go : (c ≡ d) ⊎ List·Memᴰ c cs → (List·Memᴰ c cs → found c ≡ stated c) → found c ≡ stated c
-    go (inl e) r = subst (λ (x : Case). found x ≡ stated x) (sym e) (ran-eq (found d) (stated d) (left (agrees d) (every agrees cs) t))
+    go (inl e) r = subst (λ (x : Case). found x ≡ stated x) (sym e) (case-holds d (left (agrees d) (every agrees cs) t))
     go (inr m) r = r m
 
 pub computed-hold : (c : Case) → List·Memᴰ c cases → found c ≡ stated c

@@ -2,6 +2,7 @@ pub mod Opened
 pub mod ComputedExamples
 pub mod GeneralExamples
 pub mod Examples
+pub mod SecondRequest
 pub mod ExchangeLaws
 pub mod CallRuns
 pub mod Demand3
