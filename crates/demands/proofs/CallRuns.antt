@@ -7,7 +7,8 @@ use lib.Seq.{take-append-seam}
 use lib.Dec.{T}
 use Rattle.link.specs.declared.record.Link.{Link}
 use Rattle.link.specs.Record.{Line, linkOf, lineOk, inRange}
-use Rattle.link.proofs.WordLaws.{T-true}
+use Rattle.link.specs.Delivery.{Delivery, arrives}
+use Rattle.link.proofs.WordLaws.{T-true, both}
 use Rattle.link.proofs.RecordLaws.{lineOf-linkOf, line-in-range}
 use Rattle.services.specs.Table.{Tables, wellFormed}
 use Rattle.server.specs.declared.event.Event.{Event}
@@ -16,7 +17,7 @@ use Rattle.server.specs.Event.{busOk}
 use Rattle.server.specs.Call.{Done, happens, accepted, call}
 use Rattle.server.proofs.CallLaws.{refusal-0, InOrder, happens-lasts}
 use Rattle.demands.specs.Run.{Ran, sentOf, before, run}
-use Rattle.demands.specs.Exchange.{following, inTurn, Lent, calls, thenIdle}
+use Rattle.demands.specs.Exchange.{following, inTurn, Lent, calls, thenIdle, delivery, isAccepted, allAccepted, noneRefused}
 
 -- what was done, in the link record
 abbrev pub ranOf : Done → Ran
@@ -72,3 +73,25 @@ bytes-last (b ∷ bs) t l w o =
 pub idle-lasts : (bs : List ℕ) (t : Tables) (l : Line) → T (wellFormed t) → T (lineOk l) → InOrder (inTurn (thenIdle bs) t l)
 unfolding thenIdle
 idle-lasts bs t l w o = bytes-last bs t l w o
+
+-- ---- and none of them is refused
+bytes-accepted : (bs : List ℕ) (lent : ℕ → Lent) (t : Tables) (l : Line) → ((n : ℕ) → 262 ≤ length (lent n .output)) → T (wellFormed t) → T (lineOk l)
+    → T (allAccepted lent (map HostByte bs ++ IdleMark ∷ []) t (linkOf l))
+unfolding allAccepted isAccepted accepted busOk
+bytes-accepted [] lent t l room w o = rw (call-is IdleMark (lent 0 .value) t l (lent 0 .output) w o (room 0) tt) tt
+bytes-accepted (b ∷ bs) lent t l room w o =
+    let lasts = happens-lasts (HostByte b) (lent 0 .value) t l w o tt in
+    let d = happens (HostByte b) (lent 0 .value) t l in
+    rw (call-is (HostByte b) (lent 0 .value) t l (lent 0 .output) w o (room 0) tt)
+    (bytes-accepted bs (λ n. lent (suc n)) (d .tables) (d .line) (λ n. room (suc n)) (lasts .tables) (lasts .line))
+
+pub deliveries-accepted : (f : List ℕ) (ds : List Delivery) (lent : ℕ → ℕ → Lent) (t : Tables) (l : Line) → ((i n : ℕ) → 262 ≤ length (lent i n .output)) → T (wellFormed t) → T (lineOk l)
+    → T (noneRefused lent f ds t (linkOf l))
+unfolding noneRefused delivery
+deliveries-accepted f [] lent t l room w o = tt
+deliveries-accepted f (d ∷ ds) lent t l room w o =
+    let bs = arrives f d in
+    let lasts = idle-lasts bs t l w o in
+    let later = deliveries-accepted f ds (λ i. lent (suc i)) (inTurn (thenIdle bs) t l .tables) (inTurn (thenIdle bs) t l .line) (λ i. room (suc i)) (lasts .tables) (lasts .line) in
+    both (allAccepted (lent 0) (thenIdle bs) t (linkOf l)) _ (unfold thenIdle in bytes-accepted bs (lent 0) t l (room 0) w o)
+    (rw (idle-run bs (lent 0) t l (room 0) w o) later)

@@ -2,8 +2,8 @@
 -- means is proved behind it.
 use Prim.Native.Nat.{ℕ, zero, suc}
 use lib.ListN.{getD}
-use mathlib.Core.Path.{_≡_, refl, sym, subst}
-use mathlib.Core.Bool.{Bool, true, false, _&&_, Bool·beq}
+use mathlib.Core.Path.{_≡_, sym, subst}
+use mathlib.Core.Bool.{Bool, true, Bool·beq}
 use mathlib.Core.List.{List, [], _∷_, List·Memᴰ, List·Memᴰ·not-nil, List·Memᴰ·cases-cons}
 use mathlib.Core.Logic.{_⊎_, inl, inr}
 use lib.Dec.{T, eqb, eqb→eq}
@@ -18,7 +18,7 @@ use Rattle.demands.specs.Example.{Case, found, stated, lineAt, exchange,
 use Rattle.demands.proofs.Opened.{opened}
 
 -- ---- the tests
-abbrev all-pass : List Bool → Bool
+abbrev pub all-pass : List Bool → Bool
 all-pass bs = every (λ b. b) bs
 
 abbrev datapointTests : Datapoint → Datapoint → List Bool
@@ -30,30 +30,34 @@ itemTests a b = eqb (a .id) (b .id) ∷ eqb (a .size) (b .size) ∷ Bool·beq (a
 abbrev linkTests : Link → Link → List Bool
 linkTests a b = same (a .receiver) (b .receiver) ∷ eqb (a .received) (b .received) ∷ Bool·beq (a .dropping) (b .dropping) ∷ Bool·beq (a .expected) (b .expected) ∷ Bool·beq (a .send) (b .send) ∷ same (a .outstanding) (b .outstanding) ∷ eqb (a .held) (b .held) ∷ eqb (a .resends) (b .resends) ∷ []
 
-unfoldable sameDatapoint : Datapoint → Datapoint → Bool
+unfoldable pub sameDatapoint : Datapoint → Datapoint → Bool
 sameDatapoint a b = all-pass (datapointTests a b)
 
-unfoldable sameItem : Item → Item → Bool
+unfoldable pub sameItem : Item → Item → Bool
 sameItem a b = all-pass (itemTests a b)
 
-unfoldable sameLink : Link → Link → Bool
+unfoldable pub sameLink : Link → Link → Bool
 sameLink a b = all-pass (linkTests a b)
 
-abbrev ranTests : Ran → Ran → List Bool
-ranTests a b =
-    same (a .sent) (b .sent)
-    ∷ sameBy sameDatapoint (a .tables .datapoints) (b .tables .datapoints)
-    ∷ sameBy sameItem (a .tables .items) (b .tables .items)
-    ∷ same (a .tables .parameters) (b .tables .parameters)
-    ∷ sameLink (a .link) (b .link)
+abbrev pub tablesTests : Tables → Tables → List Bool
+tablesTests a b =
+    sameBy sameDatapoint (a .datapoints) (b .datapoints)
+    ∷ sameBy sameItem (a .items) (b .items)
+    ∷ same (a .parameters) (b .parameters)
     ∷ []
 
-unfoldable agrees : Case → Bool
+unfoldable pub sameTables : Tables → Tables → Bool
+sameTables a b = all-pass (tablesTests a b)
+
+abbrev ranTests : Ran → Ran → List Bool
+ranTests a b = same (a .sent) (b .sent) ∷ sameTables (a .tables) (b .tables) ∷ sameLink (a .link) (b .link) ∷ []
+
+unfoldable pub agrees : Case → Bool
 agrees c = all-pass (ranTests (found c) (stated c))
 
 -- ---- computed
 tested : T (every agrees cases)
-unfolding cases opened found stated sameDatapoint sameItem sameLink agrees lineAt exchange item1 ask1 answer1 case1 case2 ask1even case2even datapoint datapoint5 answer3 set5 case3 case4 oneByteFrom oneBytes entriesFrom case5 case5more parameterBytes case6 case6more case9 case9one
+unfolding cases opened found stated sameDatapoint sameItem sameTables sameLink agrees lineAt exchange item1 ask1 answer1 case1 case2 ask1even case2even datapoint datapoint5 answer3 set5 case3 case4 oneByteFrom oneBytes entriesFrom case5 case5more parameterBytes case6 case6more case9 case9one
 tested = tt
 
 -- ---- what the tests mean
@@ -97,27 +101,35 @@ link-eq a b t =
       resends = eqb→eq (a .resends) (b .resends) (g 7) i;
     }
 
+pub tables-eq : (a b : Tables) → T (sameTables a b) → a ≡ b
+unfolding sameTables
+tables-eq a b t =
+    let g : (k : ℕ) → T (getD (tablesTests a b) k true) = nth (tablesTests a b) t in
+    λ i. record {
+      datapoints = sameBy→eq sameDatapoint datapoint-eq (a .datapoints) (b .datapoints) (g 0) i;
+      items = sameBy→eq sameItem item-eq (a .items) (b .items) (g 1) i;
+      parameters = same→eq (a .parameters) (b .parameters) (g 2) i;
+    }
+
 ran-eq : (a b : Ran) → T (all-pass (ranTests a b)) → a ≡ b
 ran-eq a b t =
     let g : (k : ℕ) → T (getD (ranTests a b) k true) = nth (ranTests a b) t in
     λ i. record {
       sent = same→eq (a .sent) (b .sent) (g 0) i;
-      tables =
-          record {
-            datapoints = sameBy→eq sameDatapoint datapoint-eq (a .tables .datapoints) (b .tables .datapoints) (g 1) i;
-            items = sameBy→eq sameItem item-eq (a .tables .items) (b .tables .items) (g 2) i;
-            parameters = same→eq (a .tables .parameters) (b .tables .parameters) (g 3) i;
-          };
-      link = link-eq (a .link) (b .link) (g 4) i;
+      tables = tables-eq (a .tables) (b .tables) (g 1) i;
+      link = link-eq (a .link) (b .link) (g 2) i;
     }
 
-each : (cs : List Case) → T (every agrees cs) → (c : Case) → List·Memᴰ c cs → found c ≡ stated c
+pub case-holds : (c : Case) → T (agrees c) → found c ≡ stated c
 unfolding agrees
+case-holds c t = ran-eq (found c) (stated c) t
+
+each : (cs : List Case) → T (every agrees cs) → (c : Case) → List·Memᴰ c cs → found c ≡ stated c
 each [] t c h = absurd (List·Memᴰ·not-nil h)
 each (d ∷ cs) t c h = go (List·Memᴰ·cases-cons h) (each cs (right (agrees d) (every agrees cs) t) c)
   where
     go : (c ≡ d) ⊎ List·Memᴰ c cs → (List·Memᴰ c cs → found c ≡ stated c) → found c ≡ stated c
-    go (inl e) r = subst (λ (x : Case). found x ≡ stated x) (sym e) (ran-eq (found d) (stated d) (left (agrees d) (every agrees cs) t))
+    go (inl e) r = subst (λ (x : Case). found x ≡ stated x) (sym e) (case-holds d (left (agrees d) (every agrees cs) t))
     go (inr m) r = r m
 
 pub computed-hold : (c : Case) → List·Memᴰ c cases → found c ≡ stated c

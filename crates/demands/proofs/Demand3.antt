@@ -26,7 +26,7 @@ use Rattle.server.specs.Call.{Done, saying}
 use Rattle.demands.specs.Run.{Ran}
 use Rattle.demands.specs.Exchange.{inTurn, Lent, thenIdle, delivery, Exchange, exchange, Start, Request, requestFrame, EachPossible, someSound, answerFrame, draws, Rest, same, acknowledged, noneBeginsE5, Once, Demand3}
 use Rattle.demands.proofs.ExchangeLaws.{noMessage, thenMarked, delivery-leaves, request-carried}
-use Rattle.demands.proofs.CallRuns.{ranOf, idle-run, idle-lasts}
+use Rattle.demands.proofs.CallRuns.{ranOf, idle-run, idle-lasts, deliveries-accepted}
 
 -- ---- words
 not-not : (b : Bool) → not (not b) ≡ b
@@ -303,6 +303,7 @@ from-line lent room m request ds t l ready o p s =
       drawn = went .drawn;
       tables = went .tables ∙ sym (ap (λ (r : Ran). r .tables) first);
       expected = ap (λ (j : Link). j .expected) (went .link) ∙ acted-expected (went .acted) ∙ sym (ap (λ (r : Ran). r .link .expected) first);
+      accepted = deliveries-accepted (requestFrame (linkOf l) m) ds lent t l room (ready .tables) (ready .line);
       rest = acted-rest _ (went .line) _ _ (ap (λ (r : Ran). r .link) first) (went .link) (went .acted);
       undisturbed = λ n. went .link ∙ ap linkOf (went .undisturbed n) ∙ sym (ap (λ (r : Ran). r .link) first);
     }

@@ -1,6 +1,6 @@
 -- The examples of document 01 that are marked P, proved together: one statement over the list.
 use mathlib.Core.Path.{_≡_, refl, sym, subst}
-use mathlib.Core.List.{List, [], _∷_, _++_, map, List·Memᴰ, List·Memᴰ·head, List·Memᴰ·tail, List·Memᴰ·not-nil, List·Memᴰ·cases-cons, List·Memᴰ·append-cases}
+use mathlib.Core.List.{List, [], _∷_, map, List·Memᴰ, List·Memᴰ·head, List·Memᴰ·tail, List·Memᴰ·not-nil, List·Memᴰ·cases-cons, List·Memᴰ·append-cases}
 use mathlib.Core.Logic.{_⊎_, inl, inr}
 use Rattle.demands.specs.Example.{Case, Example, computed, last-id-only, empty-tables, Holds, cases, examples, found, stated}
 use Rattle.demands.proofs.ComputedExamples.{computed-hold}

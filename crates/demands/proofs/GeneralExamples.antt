@@ -1,23 +1,22 @@
 -- Examples 7 and 8: they speak of every table and every request of a kind.
-use Prim.Native.Nat.{ℕ, zero, suc, _+_, _*_, _≤_, _<_}
-use mathlib.Core.Path.{_≡_, refl, sym, _∙_, ap}
-use mathlib.Core.Bool.{Bool, true, false, not, _&&_, _||_}
-use mathlib.Core.List.{List, [], _∷_, _++_, map}
+use Prim.Native.Nat.{ℕ, zero, suc, _+_, _≤_, _<_}
+use mathlib.Core.Path.{_≡_, refl, ap}
+use mathlib.Core.Bool.{Bool, true, false}
+use mathlib.Core.List.{List, [], _∷_}
 use native.Mathlib.Omega.{arith}
-use lib.ListN.{length, getD, drop}
+use lib.ListN.{length, drop}
 use lib.Dec.{T, leb, ltb, eqb, leb→le, ltb→lt}
 use borrow.Author.Tests.{le-ltb, lt-leb, eq-eqb, ne-eqb, eqb-true}
-use Rattle.link.specs.Words.{if_then_else_, keep, every, isEmpty}
+use Rattle.link.specs.Words.{keep, every}
 use Rattle.link.proofs.WordLaws.{left, right, true-T, T-true}
 use Rattle.services.specs.declared.datapoint.Datapoint.{Datapoint}
 use Rattle.services.specs.declared.item.Item.{Item}
-use Rattle.services.specs.Datapoint.{datapointId}
 use Rattle.services.specs.Table.{Tables, found}
-use Rattle.services.specs.Message.{mainService, subService, startOf, numberOf, filterOf, coded, Finding, fine, bad, Served, answerOf, afterOf, served}
+use Rattle.services.specs.Message.{mainService, subService, startOf, numberOf, filterOf, answerOf, afterOf, served}
 use Rattle.services.specs.Get.{AnswerEntry, inRequest, getFinding, getting, getServerItem, getDatapointDescription, asked, getDatapointValue, parameterEntries, getParameterByte}
-use Rattle.services.specs.Set.{fills, setEntries, firstDatapointEntry, judgedDatapoint, firstBad, setFinding, setting, setServerItem, setDatapointValue}
+use Rattle.services.specs.Set.{fills, setEntries, firstDatapointEntry, judgedDatapoint, firstBad, setFinding, setting, setDatapointValue}
 use Rattle.services.specs.Service.{service, unanswered, carriedOut}
-use Rattle.demands.specs.Example.{isGet, lastIds, TwoByteIds, LastIdOnly, RefusedWith, EmptyTable, EmptyTables}
+use Rattle.demands.specs.Example.{isGet, lastIds, TwoByteIds, LastIdOnly, RefusedWith, EmptyTable}
 
 -- ---- 7
 last-only : (m : List ℕ) (n : ℕ) → startOf m ≡ 0xFFFF → n < 0x1_0000 → T (inRequest m n) → n ≡ 0xFFFF

@@ -2,9 +2,14 @@ pub mod Opened
 pub mod ComputedExamples
 pub mod GeneralExamples
 pub mod Examples
+pub mod SecondRequest
 pub mod ExchangeLaws
 pub mod CallRuns
 pub mod Demand3
 pub mod Demand3Met
 pub mod Demand1
+pub mod ErrorLaws
+pub mod HostLaws
 pub mod ReadBack
+pub mod Demand2
+pub mod PremisesNeeded

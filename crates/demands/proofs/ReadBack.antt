@@ -1,5 +1,5 @@
 -- Each data frame that is sent reads back to its one message and count bit.
-use Prim.Native.Nat.{ℕ, _+_, _≤_}
+use Prim.Native.Nat.{ℕ, _≤_}
 use mathlib.Core.Path.{_≡_, refl, sym, _∙_, ap, subst}
 use mathlib.Core.Bool.{Bool, true, false, not}
 use mathlib.Core.List.{List, [], _++_}
@@ -26,15 +26,30 @@ use Rattle.server.specs.declared.event.Event.the-variants.{HostByte, IdleMark, 
 use Rattle.server.specs.Call.{saying, handedUp, onMoved, onPoll, happens, accepted, call}
 use Rattle.server.proofs.CallLaws.{not-refused}
 use Rattle.demands.specs.Run.{sentOf}
+use Rattle.demands.specs.Host.{hostReads}
+use Rattle.demands.proofs.HostLaws.{frame-read, answer-read, acknowledgement-read, fixed-read}
 use Rattle.demands.specs.SentFrames.{ReadsBack, Sends, nothing, acknowledges, resets, frames, answers, SentFramesRead}
 
 built-back : (odd : Bool) (m : List ℕ) → length m ≤ 254 → ReadsBack (dataFrame (serverControl odd) m) odd
 built-back odd m h =
     record {
       message = m;
+      short = h;
+      built = refl;
+      heard = frame-read odd m h;
       reads = frame-reads (serverControl odd) m h;
       only = λ c x r. reads-one r (frame-reads (serverControl odd) m h);
     }
+
+-- each form, as the host hears it
+acknowledging : {s : List ℕ} {l : Line} → s ≡ acknowledgement → Sends s l
+acknowledging e = acknowledges e (ap hostReads e ∙ acknowledgement-read)
+
+framing : {s : List ℕ} {l : Line} → s ≡ l .outstanding → ReadsBack (l .outstanding) (l .send) → Sends s l
+framing e r = frames e r (ap hostReads e ∙ r .heard)
+
+answering : {s : List ℕ} {l : Line} → s ≡ acknowledgement ++ l .outstanding → ReadsBack (l .outstanding) (l .send) → Sends s l
+answering {s} {l} e r = answers e r (ap hostReads (e ∙ ap (λ (f : List ℕ). acknowledgement ++ f) (r .built)) ∙ answer-read (l .send) (r .message) (r .short))
 
 -- ---- a message taken back
 data Framed (v : Moved) : Type 0 where
@@ -57,8 +72,8 @@ unfolding saying
 answer-sends v l = go (message-framed (v .says) l)
   where
     go : Framed (onMessage (v .says) l) → Sends (acknowledgement ++ onMessage (v .says) l .sent) (onMessage (v .says) l .line)
-    go (silent e) = acknowledges (ap (λ (s : List ℕ). acknowledgement ++ s) e)
-    go (framed e r) = answers (ap (λ (s : List ℕ). acknowledgement ++ s) e) r
+    go (silent e) = acknowledging (ap (λ (s : List ℕ). acknowledgement ++ s) e)
+    go (framed e r) = answering (ap (λ (s : List ℕ). acknowledgement ++ s) e) r
 
 indication-sends : (v : Served) (l : Line) → Sends (saying [] v l .sent) (saying [] v l .line)
 unfolding saying
@@ -66,7 +81,7 @@ indication-sends v l = go (message-framed (v .says) l)
   where
     go : Framed (onMessage (v .says) l) → Sends (onMessage (v .says) l .sent) (onMessage (v .says) l .line)
     go (silent e) = nothing e
-    go (framed e r) = frames e r
+    go (framed e r) = framing e r
 
 -- ---- each event
 heard-sends : (h : Heard) (b : ℕ) (t : Tables) (l : Line) → Sends (onMoved (onHeard h b l) t .sent) (onMoved (onHeard h b l) t .line)
@@ -75,8 +90,8 @@ heard-sends Gathered b t l = nothing refl
 heard-sends Dropped b t l = nothing refl
 heard-sends Ignored b t l = nothing refl
 heard-sends Acknowledged b t l = nothing refl
-heard-sends Reset b t l = acknowledges refl
-heard-sends Repeat b t l = acknowledges refl
+heard-sends Reset b t l = acknowledging refl
+heard-sends Repeat b t l = acknowledging refl
 heard-sends (Request n) b t l = answer-sends (carriedOut t _) _
 
 -- "outstanding frame sent again unaltered"
@@ -90,8 +105,8 @@ wait-sends t l o = go (isEmpty (l .outstanding)) (ltb (l .resends) 3) refl refl
 
     go : (u v : Bool) → isEmpty (l .outstanding) ≡ u → ltb (l .resends) 3 ≡ v → Sends (onMoved (onAckWaitOver l) t .sent) (onMoved (onAckWaitOver l) t .line)
     go true v e d = simp (e, onAckWaitOver) (nothing refl)
-    go false true e d = simp (e, d, onAckWaitOver) (unfold holding in frames refl (whole e (outstanding-decided l .0 (outstanding-of l o))))
-    go false false e d = simp (e, d, onAckWaitOver) (resets refl)
+    go false true e d = simp (e, d, onAckWaitOver) (unfold holding in framing refl (whole e (outstanding-decided l .0 (outstanding-of l o))))
+    go false false e d = simp (e, d, onAckWaitOver) (resets refl (fixed-read 0xC0))
 
 poll-sends : (t : Tables) (l : Line) → Sends (onPoll t l .sent) (onPoll t l .line)
 unfolding onPoll

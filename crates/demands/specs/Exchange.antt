@@ -1,7 +1,11 @@
--- Demand 3: one request delivered any number of times, an idle mark behind each delivery.
+-- Demand 3. "Start with tables, link record and output room that no call refuses, the receiver at a frame start and nothing outstanding. One request, first byte
+-- F0, carrying the expected count bit is delivered any number of times, at least once sound; each other delivery has exactly one byte changed or lost; each is
+-- followed by an idle mark, and nothing else happens. Then the tables and the expected bit are those after one sound delivery. Each sound delivery draws one
+-- acknowledgement, a damaged one draws none, and the answer is sent at most once, exactly when one sound delivery would send it. This is here because retries are
+-- the normal state of the line."
 use Prim.Native.Nat.{ℕ, suc, _≤_}
 use mathlib.Core.Path.{_≡_}
-use mathlib.Core.Bool.{Bool, false, not, _||_}
+use mathlib.Core.Bool.{Bool, true, false, not, _&&_, _||_}
 use mathlib.Core.List.{List, [], _∷_, _++_, map}
 use lib.ListN.{length, getD}
 use lib.Dec.{T, eqb}
@@ -15,6 +19,8 @@ use Rattle.services.specs.Table.{Tables, wellFormed}
 use Rattle.services.specs.Service.{carriedOut}
 use Rattle.server.specs.declared.event.Event.{Event}
 use Rattle.server.specs.declared.event.Event.the-variants.{HostByte, IdleMark}
+use Rattle.server.specs.declared.reply.Reply.{Reply}
+use Rattle.server.specs.declared.reply.Reply.the-variants.{Refused, Accepted}
 use Rattle.server.specs.Call.{Done, quiet, happens, call}
 use Rattle.demands.specs.Run.{Ran, sentOf, before}
 
@@ -64,6 +70,25 @@ exchange lent f (d ∷ ds) t k =
     let s = exchange (λ i. lent (suc i)) f ds (r .tables) (r .link) in
     record { sent = r .sent ∷ s .sent; tables = s .tables; link = s .link }
 
+-- ---- no call is refused
+unfoldable pub isAccepted : Reply → Bool
+isAccepted (Refused n) = false
+isAccepted (Accepted count) = true
+
+-- of the events in turn
+unfoldable pub allAccepted : (ℕ → Lent) → List Event → Tables → Link → Bool
+allAccepted lent [] t k = true
+allAccepted lent (e ∷ es) t k =
+    let c = call e (lent 0 .value) t k (lent 0 .output) in
+    isAccepted (c .reply) && allAccepted (λ n. lent (suc n)) es (c .tables) (c .link)
+
+-- of all deliveries
+unfoldable pub noneRefused : (ℕ → ℕ → Lent) → List ℕ → List Delivery → Tables → Link → Bool
+noneRefused lent f [] t k = true
+noneRefused lent f (d ∷ ds) t k =
+    let r = delivery (lent 0) f d t k in
+    allAccepted (lent 0) (thenIdle (arrives f d)) t k && noneRefused (λ i. lent (suc i)) f ds (r .tables) (r .link)
+
 -- ---- the premises
 -- "Start with tables, link record and output room that no call refuses, the receiver at a frame start and nothing outstanding."
 pub record Start (lent : ℕ → ℕ → Lent) (t : Tables) (k : Link) : Type 0 where
@@ -99,8 +124,8 @@ someSound (d ∷ ds) = isSound d || someSound ds
 unfoldable pub answerFrame : Tables → Link → List ℕ → List ℕ
 answerFrame t k m = if isEmpty (carriedOut t m .says) then [] else dataFrame (serverControl (k .send)) (carriedOut t m .says)
 
--- "Each sound delivery draws one acknowledgement, a damaged one draws none, and the answer is sent at most once": what each delivery draws, where this
--- answer's frame is still to be sent
+-- what each delivery draws, where this answer's frame is still to be sent: a sound one the acknowledgement and the answer, and then no later one the answer; a
+-- damaged one nothing
 unfoldable pub draws : List ℕ → List Delivery → List (List ℕ)
 draws answer [] = []
 draws answer (d ∷ ds) = (if isSound d then acknowledgement ++ answer else []) ∷ draws (if isSound d then [] else answer) ds
@@ -118,11 +143,13 @@ pub record Once (lent : ℕ → ℕ → Lent) (m : List ℕ) (ds : List Delivery
   -- "exactly when one sound delivery would send it": what that sends, and what it does to the tables
   pub alone : delivery (lent 0) (requestFrame k m) sound t k .sent ≡ acknowledgement ++ answerFrame t k m
   pub carried : delivery (lent 0) (requestFrame k m) sound t k .tables ≡ carriedOut t m .after
-  -- so no call is refused: a refusal would show in what was sent
+  -- "Each sound delivery draws one acknowledgement, a damaged one draws none, and the answer is sent at most once, exactly when [..]"
   pub drawn : exchange lent (requestFrame k m) ds t k .sent ≡ draws (answerFrame t k m) ds
   -- "Then the tables and the expected bit are those after one sound delivery."
   pub tables : exchange lent (requestFrame k m) ds t k .tables ≡ delivery (lent 0) (requestFrame k m) sound t k .tables
   pub expected : exchange lent (requestFrame k m) ds t k .link .expected ≡ delivery (lent 0) (requestFrame k m) sound t k .link .expected
+  -- none of the calls is refused
+  pub accepted : T (noneRefused lent (requestFrame k m) ds t k)
   -- what the demand leaves open: the rest of the link record
   pub rest : Rest (delivery (lent 0) (requestFrame k m) sound t k .link) (exchange lent (requestFrame k m) ds t k .link)
   pub undisturbed : T (noneBeginsE5 (requestFrame k m) ds) → exchange lent (requestFrame k m) ds t k .link ≡ delivery (lent 0) (requestFrame k m) sound t k .link
@@ -131,3 +158,8 @@ abbrev pub Demand3 : Type 0
 Demand3 =
     (lent : ℕ → ℕ → Lent) (m : List ℕ) (ds : List Delivery) (t : Tables) (k : Link) → Start lent t k → Request m → EachPossible (requestFrame k m) ds → T (someSound ds)
     → Once lent m ds t k
+
+-- To read it: whatever is lent beside the events, and whatever stands in the output buffers, which may be others at each call so long as each has 262 bytes, the
+-- request is carried out at its first sound delivery and never again. Of all deliveries, each a run of calls with one host byte each and one with an idle mark:
+-- `drawn` lists, delivery by delivery, the bytes that are sent; `tables` and `expected` are those after one sound delivery from the same start; no call is refused.
+-- Beyond the demand, `rest` and `undisturbed` say what becomes of the rest of the link record.

@@ -7,7 +7,7 @@ use Rattle.services.specs.Table.{Tables}
 use Rattle.server.specs.declared.event.Event.{Event}
 use Rattle.server.specs.declared.reply.Reply.{Reply}
 use Rattle.server.specs.declared.reply.Reply.the-variants.{Refused, Accepted}
-use Rattle.server.specs.Call.{Called, call}
+use Rattle.server.specs.Call.{call}
 
 -- what a run of calls sent, and the tables and the link record after it
 pub record Ran : Type 0 where

@@ -2,10 +2,9 @@
 use Prim.Native.Nat.{ℕ, _+_, _-_, _≤_, _<_}
 use mathlib.Core.Path.{_≡_, refl, sym, _∙_, ap}
 use mathlib.Core.Bool.{Bool, true, false}
-use mathlib.Core.List.{List, [], _∷_, _++_, append-assoc}
+use mathlib.Core.List.{List, [], _∷_, _++_}
 use native.Mathlib.Omega.{arith}
-use lib.ListN.{length, take, drop, length-append}
-use lib.Seq.{take-append-le, take-take, drop-append-add, drop-drop, length-take-le}
+use lib.ListN.{length, take, drop}
 use lib.Dec.{T, ltb, eqb, leb→le}
 use borrow.Author.Tests.{le-ltb, ltb-false, eqb-true, eqb-false}
 use Rattle.link.specs.declared.record.Link.{Link}
@@ -37,29 +36,7 @@ use Rattle.server.specs.declared.reply.Reply.the-variants.{Accepted}
 use Rattle.server.specs.Reply.{replyNumbers}
 use Rattle.server.specs.Call.{saying, handedUp, onMoved, accepted}
 use Rattle.server.specs.Promise.{Leaves, acknowledgementOf, messageEnd}
-
--- ---- bytes written over bytes
--- what is written at the front stands there, and the buffer is as it was behind it
-pub put-front : (out s : List ℕ) → put out 0 s ≡ s ++ drop (length s) out
-unfolding put
-put-front out s =
-    let e : 0 + length s ≡ length s = omega arith in
-    ap {B = List ℕ} (λ (n : ℕ). s ++ drop n out) e
-
--- bytes that cover others leave nothing of them
-pub put-over : (l : List ℕ) (at k : ℕ) (vs ws : List ℕ) → k ≤ at → at ≤ length l → at + length vs ≤ k + length ws → put (put l at vs) k ws ≡ put l k ws
-unfolding put
-put-over l at k vs ws h r e =
-    let p : List ℕ = take at l ++ vs in
-    let d : List ℕ = drop (at + length vs) l in
-    let n : length (take at l) ≡ at = length-take-le at l r in
-    let f : take k (p ++ d) ≡ take k l =
-    ap {B = List ℕ} (take k) (append-assoc (take at l) vs d) ∙ take-append-le k (take at l) (vs ++ d) (omega arith) ∙ take-take k at l h in
-    let j : ℕ = k + length ws - (at + length vs) in
-    let g : drop (k + length ws) (p ++ d) ≡ drop (k + length ws) l =
-    ap {B = List ℕ} (λ (i : ℕ). drop i (p ++ d)) {x = k + length ws} {y = length p + j} (omega (arith, length-append (take at l) vs)) ∙ drop-append-add p d j ∙ drop-drop j (at + length vs) l
-    ∙ ap {B = List ℕ} (λ (i : ℕ). drop i l) {x = at + length vs + j} {y = k + length ws} (omega arith) in
-    λ i. f i ++ ws ++ g i
+use Rattle.server.proofs.OutputLaws.{put-front, put-over}
 
 -- ---- a byte that ends no request
 unrequested : (h : Heard) (b : ℕ) (k : Link) (out : List ℕ) (t : Tables) → messageEnd h ≡ 0

@@ -2,22 +2,18 @@
 use Prim.Native.Nat.{ℕ, _+_, _-_, _≤_}
 use mathlib.Core.Path.{_≡_, refl, sym, _∙_, ap, subst}
 use mathlib.Core.Bool.{Bool, true, false, not}
-use mathlib.Core.List.{List, [], _∷_, _++_}
+use mathlib.Core.List.{List, [], _++_}
 use native.Mathlib.Omega.{arith}
-use lib.ListN.{length, take, drop, length-append}
-use lib.Seq.{take-append-le, take-take, drop-append-add, drop-drop, length-take-le}
+use lib.ListN.{length, take, drop}
 use lib.Dec.{T, eqb}
-use borrow.Author.Tests.{le-ltb}
 use Rattle.link.specs.Words.{isEmpty, put}
 use Rattle.link.specs.declared.record.Link.{Link}
-use Rattle.link.specs.Frame.{dataFrame}
-use Rattle.link.specs.Record.{Line, lineOf, linkOf, serverControl, inRange}
+use Rattle.link.specs.Record.{Line, lineOf, linkOf, inRange}
 use Rattle.link.specs.Rules.{Moved, onMessage}
-use Rattle.link.proofs.ByteLaws.{length-put, put-read}
-use Rattle.link.proofs.FrameLaws.{frame-length}
+use Rattle.link.proofs.ByteLaws.{length-put}
 use Rattle.link.proofs.RangeLaws.{empty-take}
 use Rattle.link.proofs.PlaceLaws.{held-fits, outstanding-places}
-use Rattle.link.proofs.EventLaws.{range-stays, put-none}
+use Rattle.link.proofs.EventLaws.{range-stays}
 use Rattle.walks.proofs.Branches.{no-T, yes-T}
 use Rattle.services.specs.declared.datapoint.Datapoint.{Datapoint}
 use Rattle.services.specs.declared.item.Item.{Item}
@@ -30,39 +26,7 @@ use Rattle.server.specs.declared.reply.Reply.the-variants.{Accepted}
 use Rattle.server.specs.Reply.{replyNumbers}
 use Rattle.server.specs.Call.{Done, quiet, saying, onPoll, accepted}
 use Rattle.server.specs.Promise.{Leaves}
-
--- ---- bytes written over others
--- all that was written before is written over
-pub put-over : (o : List ℕ) (at i : ℕ) (vs ws : List ℕ) → at ≤ i → i + length vs ≤ at + length ws → at + length ws ≤ length o → put (put o i vs) at ws ≡ put o at ws
-unfolding put
-put-over o at i vs ws a b c =
-    let p : List ℕ = take i o ++ vs in
-    let d : List ℕ = drop (i + length vs) o in
-    let f : length (take i o) ≡ i = length-take-le i o (omega arith) in
-    let n : length p ≡ i + length vs = length-append (take i o) vs ∙ ap (λ (j : ℕ). j + length vs) f in
-    let j : ℕ = at + length ws - (i + length vs) in
-    let t : take at (p ++ d) ≡ take at o = take-append-le at p d (omega arith) ∙ take-append-le at (take i o) vs (omega arith) ∙ take-take at i o a in
-    let r : drop (at + length ws) (p ++ d) ≡ drop (at + length ws) o =
-    ap (λ (x : ℕ). drop x (p ++ d)) {x = at + length ws} {y = length p + j} (omega arith) ∙ drop-append-add p d j ∙ drop-drop j (i + length vs) o ∙ ap (λ (x : ℕ). drop x o) {x = i + length vs + j} {y = at + length ws} (omega arith) in
-    rw (t, r)
-
-pub put-front : (o ws : List ℕ) → put o 0 ws ≡ ws ++ drop (length ws) o
-unfolding put
-put-front o ws = ap {B = List ℕ} (λ (i : ℕ). ws ++ drop i o) {x = 0 + length ws} {y = length ws} (omega arith)
-
--- a frame goes over its message, which stands behind the room for its head; where nothing is said nothing is written
-pub framed-over : (o : List ℕ) (at i : ℕ) (m : List ℕ) (l : Line) → i ≡ at + 5 → isEmpty (l .outstanding) ≡ true → length m ≤ 254 → at + 261 ≤ length o
-    → put (put o i m) at (onMessage m l .sent) ≡ put o at (onMessage m l .sent)
-unfolding onMessage
-framed-over o at i [] l w e h r = ap (λ (x : List ℕ). put x at []) (sym (put-none o i))
-framed-over o at i (x ∷ m) l w e h r =
-    let f : List ℕ = dataFrame (serverControl (l .send)) (x ∷ m) in
-    let n : length f ≡ length (x ∷ m) + 7 = frame-length (serverControl (l .send)) (x ∷ m) in
-    simp (e, le-ltb 254 (length (x ∷ m)) h) (put-over o at i (x ∷ m) f (omega arith) (omega arith) (omega arith))
-
--- the message stands where it was written
-pub message-stands : (o : List ℕ) (i n : ℕ) (m : List ℕ) → n ≡ length m → i + length m ≤ length o → take n (drop i (put o i m)) ≡ m
-message-stands o i n m e h = put-read o i i n [] m (omega arith) (omega arith) e
+use Rattle.server.proofs.OutputLaws.{put-front, framed-over, message-stands}
 
 -- ---- whether something is outstanding
 pub held-empty : (k : Link) → T (inRange k) → isEmpty (lineOf k .outstanding) ≡ eqb (k .held) 0
