@@ -1,0 +1,134 @@
+#define _POSIX_C_SOURCE 200809L
+#include "table_file.h"
+
+#include <errno.h>
+#include <stdio.h>
+#include <stdlib.h>
+#include <string.h>
+
+#include "words.h"
+
+#define ROOM(array) (sizeof(array) / sizeof *(array))
+
+size_t value_size(uint8_t typecode)
+{
+    static const uint8_t sizes[] = {1, 1, 1, 1, 1, 1, 1, 1, 2, 3, 4, 6, 8, 10, 14};
+    return sizes[typecode];
+}
+
+/* The library alone judges what is well formed: it refuses any event with tables that are not. */
+static bool is_accepted(struct tables *tables)
+{
+    static struct tagobrelin_link link;
+    static uint8_t out[TAGOBRELIN_ROOM];
+    static const uint8_t no_value[1];
+    tagobrelin_fresh_link(&link);
+    return tagobrelin_call(TAGOBRELIN_IDLE_MARK, 0, 0, 0, no_value, 0, tables->datapoints, tables->datapoint_count, tables->items, tables->item_count,
+                           tables->parameters, tables->parameter_count, &link, out, sizeof out) == 0;
+}
+
+/* datapoint ID type CODE flags BYTE dpt BYTE state BYTE value BYTES */
+static bool read_datapoint(struct words *words, struct tables *tables)
+{
+    unsigned long id, typecode, flags, dpt, state;
+    size_t count;
+    if (tables->datapoint_count == ROOM(tables->datapoints))
+        return wrong(words, "there are more than %zu datapoints", ROOM(tables->datapoints));
+    struct tagobrelin_datapoint *datapoint = &tables->datapoints[tables->datapoint_count];
+    if (!read_number(words, "ID", 1, 65535, &id) || !read_name(words, "type") || !read_number(words, "type code", 0, 14, &typecode) ||
+        !read_name(words, "flags") || !read_number(words, "flags byte", 0, 255, &flags) || !read_name(words, "dpt") ||
+        !read_number(words, "DPT", 0, 255, &dpt) || !read_name(words, "state") || !read_number(words, "state", 0, 31, &state) ||
+        !read_name(words, "value") || !read_bytes(words, datapoint->value, sizeof datapoint->value, &count))
+        return false;
+    if (tables->datapoint_count > 0 && id <= datapoint[-1].id)
+        return wrong(words, "datapoint %lu stands behind datapoint %u: IDs have to rise", id, datapoint[-1].id);
+    if (count != value_size((uint8_t)typecode))
+        return wrong(words, "a value of type %lu has %zu bytes, not %zu", typecode, value_size((uint8_t)typecode), count);
+    datapoint->id = (uint16_t)id;
+    datapoint->typecode = (uint8_t)typecode;
+    datapoint->flags = (uint8_t)flags;
+    datapoint->dpt = (uint8_t)dpt;
+    datapoint->state = (uint8_t)state;
+    tables->datapoint_count++;
+    return true;
+}
+
+/* item ID size N writable yes|no bytes BYTES */
+static bool read_item(struct words *words, struct tables *tables)
+{
+    unsigned long id, size;
+    size_t count;
+    const char *answer;
+    if (tables->item_count == ROOM(tables->items))
+        return wrong(words, "there are more than %zu items", ROOM(tables->items));
+    struct tagobrelin_item *item = &tables->items[tables->item_count];
+    if (!read_number(words, "ID", 1, 65535, &id) || !read_name(words, "size") || !read_number(words, "size", 1, 16, &size) ||
+        !read_name(words, "writable"))
+        return false;
+    answer = next_word(words);
+    if (answer == NULL || (strcmp(answer, "yes") != 0 && strcmp(answer, "no") != 0))
+        return wrong(words, "behind 'writable' stands neither yes nor no");
+    if (!read_name(words, "bytes") || !read_bytes(words, item->bytes, sizeof item->bytes, &count))
+        return false;
+    if (tables->item_count > 0 && id <= item[-1].id)
+        return wrong(words, "item %lu stands behind item %u: IDs have to rise", id, item[-1].id);
+    if (count != size)
+        return wrong(words, "the size is %lu, and there are %zu bytes", size, count);
+    item->id = (uint16_t)id;
+    item->size = (uint8_t)size;
+    item->writable = strcmp(answer, "yes") == 0;
+    tables->item_count++;
+    return true;
+}
+
+/* parameters BYTES: further ones of the run that begins with index 1 */
+static bool read_parameters(struct words *words, struct tables *tables)
+{
+    size_t count, before = tables->parameter_count;
+    if (!read_bytes(words, tables->parameters + before, sizeof tables->parameters - before, &count))
+        return false;
+    tables->parameter_count += count;
+    return true;
+}
+
+static bool read_entry(struct words *words, struct tables *tables)
+{
+    const char *kind = next_word(words);
+    bool is_read;
+    if (kind == NULL)
+        return true;
+    if (strcmp(kind, "datapoint") == 0)
+        is_read = read_datapoint(words, tables);
+    else if (strcmp(kind, "item") == 0)
+        is_read = read_item(words, tables);
+    else if (strcmp(kind, "parameters") == 0)
+        is_read = read_parameters(words, tables);
+    else
+        return wrong(words, "'%s' is none of datapoint, item, parameters", kind);
+    if (is_read && !is_accepted(tables))
+        return wrong(words, "the value has bits set that its type does not have");
+    return is_read;
+}
+
+bool read_tables(const char *path, struct tables *tables)
+{
+    struct words words = {.source = path};
+    char *line = NULL;
+    size_t room = 0;
+    bool is_read = true;
+    FILE *file = fopen(path, "r");
+    if (file == NULL)
+        return wrong(&words, "%s", strerror(errno));
+    while (is_read && getline(&line, &room, file) >= 0) {
+        words.line++;
+        words.rest = line;
+        is_read = read_entry(&words, tables);
+    }
+    if (is_read && ferror(file)) {
+        words.line = 0;
+        is_read = wrong(&words, "%s", strerror(errno));
+    }
+    free(line);
+    fclose(file);
+    return is_read;
+}
