@@ -1,25 +1,23 @@
 -- One call: when it is refused and what a refusal leaves, and that an accepted call leaves what the next one does not refuse.
-use Prim.Native.Nat.{ℕ, zero, suc, _+_, _-_, _≤_, _<_}
-use mathlib.Core.Path.{_≡_, refl, sym, _∙_, ap}
+use Prim.Native.Nat.{ℕ, _+_, _-_, _≤_, _<_}
+use mathlib.Core.Path.{_≡_, refl}
 use mathlib.Core.Logic.{_≢_}
-use mathlib.Core.Bool.{Bool, true, false, not, _&&_}
-use mathlib.Core.List.{List, [], _∷_, _++_}
+use mathlib.Core.Bool.{Bool, true, false, not}
+use mathlib.Core.List.{List, [], _∷_}
 use native.Mathlib.Omega.{arith}
-use lib.ListN.{length, drop, length-append, length-drop}
-use lib.Dec.{T, leb, ltb, eqb}
-use borrow.Author.Tests.{ltb-true, ltb-false, lt-ltb, le-ltb, ne-eqb, eqb-true}
+use lib.ListN.{length}
+use lib.Dec.{T, ltb, eqb}
+use borrow.Author.Tests.{ltb-false, lt-ltb, le-ltb, ne-eqb}
 use Rattle.link.specs.Words.{if_then_else_, isEmpty, every}
 use Rattle.link.specs.declared.record.Link.{Link}
-use Rattle.link.specs.Frame.{longestMessage}
-use Rattle.link.specs.Record.{Line, lineOf, linkOf, lineOk, memoryOk, inRange}
-use Rattle.link.specs.Rules.{Up, nothing, acknowledged, reset, message, Moved, onHostByte, onIdleMark, onAckWaitOver, onMessage}
-use Rattle.link.proofs.WordLaws.{left, right, both, T-true, true-T, T-false}
+use Rattle.link.specs.Record.{Line, lineOf, lineOk, memoryOk, inRange}
+use Rattle.link.specs.Rules.{Up, nothing, acknowledged, reset, message}
+use Rattle.link.proofs.WordLaws.{right, both, true-T}
 use Rattle.link.proofs.RecordLaws.{line-in-range}
 use Rattle.link.proofs.RulesLaws.{host-byte-ok, idle-mark-ok, ack-wait-ok, message-ok}
 use Rattle.services.specs.declared.datapoint.Datapoint.{Datapoint}
 use Rattle.services.specs.Datapoint.{datapointId, datapointOk, isValue, withState, withValue, withMark, busValue, outcome}
-use Rattle.services.specs.Table.{Tables, wellFormed, tableOk, found, changed}
-use Rattle.services.specs.Message.{Served}
+use Rattle.services.specs.Table.{Tables, wellFormed, found}
 use Rattle.services.specs.Service.{carriedOut}
 use Rattle.services.specs.Indication.{indication}
 use Rattle.services.proofs.TableLaws
@@ -33,7 +31,7 @@ use Rattle.server.specs.declared.reply.Reply.{Reply}
 use Rattle.server.specs.declared.reply.Reply.the-variants.{Refused, Accepted}
 use Rattle.server.specs.Event.{statusOf, atDatapoint, valueFits, busOk}
 use Rattle.server.specs.Reply.{replyNumbers}
-use Rattle.server.specs.Call.{Done, quiet, saying, handedUp, onMoved, onPoll, happens, refusal, Called, refused, accepted, call}
+use Rattle.server.specs.Call.{Done, saying, handedUp, onMoved, onPoll, happens, refusal, Called, refused, accepted, call}
 
 -- ---- the reply's numbers tell its case and its values
 pub reply-told : (r s : Reply) → replyNumbers r ≡ replyNumbers s → r ≡ s

@@ -1,1 +1,9 @@
 pub mod CallLaws
+pub mod Types
+pub mod BusLaws
+pub mod RefusalLaws
+pub mod OutputLaws
+pub mod PollLaws
+pub mod HostByteLaws
+pub mod MessageParts
+pub mod CallJoins

@@ -5,6 +5,7 @@
 --     looked-part, shut-part       a `&D` is looked into, which gives a share of the value in memory, and shut
 --     part-of, cell-of             a value in memory from its cell, and its cell
 --     lends, backs                 a `&mut D` is lent again for a call, and comes back at its last value
+--     lends-as-ref, ref-back-as    a `&mut D` is lent as a `&D`, and comes back as it was
 --     lends-part, part-back        what lies in memory is lent as a `&mut`, for a lifetime of its own, and comes back at its last value
 --     shares-part, part-unshared   a share of it is lent as a `&`, and comes back
 --     parts-out, parts-in, Again   a declared struct in memory is its fields side by side, and back, at any values of the fields
@@ -42,6 +43,10 @@ use lib.Dec.{T}
 use borrow.Struct.Items.{array-same}
 use denote.Struct.Declared as SD
 use Rattle.walks.proofs.Data.{Data, Good, Mut, Shr}
+
+-- what the holder of a `&κ mut D` at (b, o) under γ keeps while it is lent as a `&D` for κ′, at the value x
+abbrev pub KeptR : (D : Data) → Lft → Lft → Share → GName → ℕ → ℕ → D .row .Denot → Fml
+KeptR D κ κ′ q γ b o x = fsep (flent κ′ (partAt (D .row) fullShare x b o)) (fsep (fobor κ q (Body (mem (D .row)) b o γ)) (fsep (fobs γ (D .row .coded .code x)) (fauth γ (D .row .coded .code x))))
 
 -- ---- a value in memory, and references to it
 module _ {M : Type 1} {𝓤 : URA M} {H : Heap 𝓤} {A : Atoms 𝓤} {K : Type 0} {W : Given 𝓤 H A} {Γ : List (Item 𝓤)} {G : Goal 𝓤 H} where
@@ -128,6 +133,20 @@ module _ {M : Type 1} {𝓤 : URA M} {H : Heap 𝓤} {A : Atoms 𝓤} {K : Type 
       → Step K W (‵ (Mut D κ b o γ y) ∷ ‵ (flft κ q) ∷ Γ) G (‵ (flft (ν ∷ []) fullShare) ∷ ‵ (fres δ (D .row .coded .code y)) ∷ ‵ (LentAgain (D .row) κ (ν ∷ []) q γ b o δ x) ∷ Γ) G
   backs t z D {κ} {ν} {q} {b} {o} {γ} {δ} x y = step (λ s. lft-end t z $ move t (0 ∷ 2 ∷ 1 ∷ []) $
       use3 W (later (‵ (Mut D κ b o γ y) ⊛ ‵ (flft κ q))) (comes-back 𝓤 H A W (D .row) erased κ (ν ∷ []) q γ b o δ x y) $ await t z $ split t $ s)
+
+  -- a `&mut D` is lent as a `&D`, for a lifetime ν and under a name δ of the call
+  pub lends-as-ref : K → Soaks G → (D : Data) (x : D .row .Denot) {κ : Lft} {q : Share} {b o : ℕ} {γ : GName}
+      → ((ν : ℕ) (δ : GName) → Seq K W (‵ (flft (ν ∷ []) fullShare) ∷ ‵ (Shr D (ν ∷ []) b o δ x) ∷ ‵ (KeptR D κ (ν ∷ []) q γ b o x) ∷ Γ) G)
+      → Seq K W (‵ (Mut D κ b o γ x) ∷ ‵ (flft κ q) ∷ Γ) G
+  lends-as-ref t z D x {b = b} {o = o} k = opened-part t z D x $ shares-part t z (D .row) fullShare x b o (λ ν δ.
+      -- [token; reference; lent; the open borrow, in three entries]
+      move t (4 ∷ 5 ∷ []) $ fjoin t $ move t (4 ∷ 0 ∷ []) $ fjoin t $ move t (3 ∷ 0 ∷ []) $ fjoin t $ move t (1 ∷ 2 ∷ 0 ∷ []) $ k ν δ)
+
+  -- and comes back as it was
+  pub ref-back-as : K → Soaks G → (D : Data) (x : D .row .Denot) {κ : Lft} {ν : ℕ} {q : Share} {b o : ℕ} {γ : GName}
+      → Step K W (‵ (Mut D κ b o γ x) ∷ ‵ (flft κ q) ∷ Γ) G (‵ (flft (ν ∷ []) fullShare) ∷ ‵ (KeptR D κ (ν ∷ []) q γ b o x) ∷ Γ) G
+  ref-back-as t z D x {b = b} {o = o} = step (λ s. move t (1 ∷ []) $ fsplit t $ move t (2 ∷ 0 ∷ []) $ part-unshared t z (D .row) fullShare x b o $
+      move t (1 ∷ []) $ fsplit t $ move t (1 ∷ []) $ fsplit t $ move t (3 ∷ 2 ∷ 0 ∷ 1 ∷ []) $ closed-part t z D x x $ s)
 
   -- a field that is a struct stands in its holder at the struct's tuple: it is the struct's own row at the record, and back
   pub as-record : K → (T : SD.Declared) (q : Share) (x : T .D) (b o : ℕ) → Step K W (‵ (partAt (SD.row T) q x b o) ∷ Γ) G (‵ (partAt (Struct (SD.shape T)) q (T .to x) b o) ∷ Γ) G
