@@ -46,6 +46,13 @@ pub waiting-keeps : (n b : ℕ) (l : Line) → l .dropping ≡ false → judged 
 unfolding onHostByte heardAt onHeard caseOf caseOfData atStart
 waiting-keeps n b l p d o = simp (p, d, o, eq-eqb (hostControl (l .expected)) (hostControl (l .expected)) refl)
 
+-- "C = 40 is the reset request: answered E5, both bits become odd, the outstanding frame is dropped"
+pub reset-answered : (b : ℕ) (l : Line) → l .dropping ≡ false → judged (l .gathered) b ≡ Fixed 0x40
+    → onHostByte b l
+    ≡ record { sent = acknowledgement; up = reset; line = record { gathered = []; dropping = false; expected = true; send = true; outstanding = []; resends = 0 } }
+unfolding onHostByte heardAt onHeard caseOf caseOfFixed atStart cleared expecting
+reset-answered b l p d = simp (p, d)
+
 -- with something outstanding a message is not taken back
 pub message-waits : (m : List ℕ) (l : Line) → isEmpty (l .outstanding) ≡ false → onMessage m l ≡ still l
 unfolding onMessage
