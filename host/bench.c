@@ -1,0 +1,116 @@
+/* Times the proved call beside the hand-written one: both on the same memory, in turns within one run. Usage: bench [ROUNDS].
+ * Each round plays the same batch of some 20 microseconds by each of them, in another order from round to round; the benchmark's own share, played with
+ * a call that does nothing, is taken off. Times are the 10th percentile over the rounds, in nanoseconds a call. */
+#define _POSIX_C_SOURCE 199309L
+#include <stdio.h>
+#include <stdlib.h>
+#include <time.h>
+
+#include "plays.h"
+
+/* tuned.c once more, at -O3 */
+call_function tuned_o3_call;
+
+static int32_t no_call(uint8_t event, uint8_t byte, uint16_t id, uint8_t outcome, const uint8_t *value, size_t value_count,
+                       struct tagobrelin_datapoint *datapoints, size_t datapoint_count, struct tagobrelin_item *items, size_t item_count,
+                       const uint8_t *parameters, size_t parameter_count, struct tagobrelin_link *link, uint8_t *out, size_t room)
+{
+    (void)byte, (void)id, (void)outcome, (void)value, (void)value_count, (void)datapoints, (void)datapoint_count, (void)items, (void)item_count;
+    (void)parameters, (void)parameter_count, (void)link, (void)out, (void)room;
+    return event;
+}
+
+static const struct row {
+    const char *name;
+    enum kind kind;
+    size_t size, held;
+} rows[] = {
+    {"host byte in mid-frame", STREAM, 100, 0},
+    {"the same, 261 bytes outstanding", STREAM, 100, 261},
+    {"get of 20 values, all its bytes", GET_FRAME, 20, 0},
+    {"get of 20 values, its last byte", GET, 20, 0},
+    {"set of 40 entries, all its bytes", SET_FRAME, 40, 0},
+    {"set of 40 entries, its last byte", SET, 40, 0},
+    {"poll, 40 marks", POLL, 40, 0},
+    {"poll, no mark", POLL, 0, 0},
+    {"frame of 261 bytes, all its bytes", FRAME, 261, 0},
+    {"248 parameter bytes, its last byte", PARAMETERS, 248, 0},
+    {"261 bytes sent again", RESEND, 261, 0},
+    {"bus value", BUS_VALUE, 0, 0},
+    {"outcome", OUTCOME, 0, 0},
+};
+
+enum { OURS, TUNED, TUNED_O3, NONE, FUNCTIONS, MOST_ROUNDS = 5000 };
+static call_function *const functions[FUNCTIONS] = {tagobrelin_call, tuned_call, tuned_o3_call, no_call};
+static double times[FUNCTIONS][MOST_ROUNDS], quotients[MOST_ROUNDS];
+
+static double now(void)
+{
+    struct timespec t;
+    clock_gettime(CLOCK_MONOTONIC, &t);
+    return (double)t.tv_sec * 1e9 + (double)t.tv_nsec;
+}
+
+static int by_size(const void *a, const void *b)
+{
+    double x = *(const double *)a, y = *(const double *)b;
+    return x < y ? -1 : x > y;
+}
+
+/* `count` plays, from variant `first` on */
+static double batch(call_function *f, unsigned first, unsigned count)
+{
+    double start = now();
+    for (unsigned i = first; i < first + count; i++)
+        play(&plays[i % VARIANTS], f);
+    return (now() - start) / count;
+}
+
+static double floor_of(unsigned rounds)
+{
+    static volatile uint64_t sink;
+    for (unsigned r = 0; r < rounds; r++) {
+        double start = now();
+        for (unsigned i = 0; i < 50; i++)
+            sink = read_all();
+        times[0][r] = (now() - start) / 50;
+    }
+    qsort(times[0], rounds, sizeof **times, by_size);
+    (void)sink;
+    return times[0][rounds / 10];
+}
+
+int main(int argc, char **argv)
+{
+    static const size_t sizes[] = {0, 10, 100, 1000};
+    unsigned rounds = argc > 1 ? (unsigned)strtoul(argv[1], NULL, 10) : 400;
+    if (rounds < 10 || rounds > MOST_ROUNDS)
+        rounds = 400;
+    for (size_t s = 0; s < sizeof sizes / sizeof *sizes; s++) {
+        make_tables(sizes[s], 64);
+        printf("%s%zu datapoints, 64 items, 255 parameter bytes; each lent byte read once: %.0f ns\n", s ? "\n" : "", sizes[s], floor_of(rounds));
+        printf("%-36s %9s %9s %7s %9s %9s %7s\n", "ns a call", "ours", "C -O2", "ratio", "in pairs", "C -O3", "ratio");
+        for (size_t i = 0; i < sizeof rows / sizeof *rows; i++) {
+            double at[FUNCTIONS];
+            unsigned calls = make_plays(rows[i].kind, rows[i].size, rows[i].held);
+            unsigned count = 1 + (unsigned)(20000 / (batch(tuned_call, 0, 8 * VARIANTS) + 1));
+            for (unsigned r = 0; r < rounds; r++) {
+                for (unsigned k = 0; k < FUNCTIONS; k++) {
+                    unsigned f = (k + r) % FUNCTIONS;
+                    times[f][r] = batch(functions[f], r * count, count);
+                }
+                quotients[r] = (times[OURS][r] - times[NONE][r]) / (times[TUNED][r] - times[NONE][r]);
+            }
+            for (unsigned f = 0; f < FUNCTIONS; f++) {
+                qsort(times[f], rounds, sizeof **times, by_size);
+                at[f] = times[f][rounds / 10];
+            }
+            qsort(quotients, rounds, sizeof *quotients, by_size);
+            for (unsigned f = 0; f < NONE; f++)
+                at[f] = (at[f] - at[NONE]) / calls;
+            printf("%-36s %9.1f %9.1f %7.2f %9.2f %9.1f %7.2f\n", rows[i].name, at[OURS], at[TUNED], at[OURS] / at[TUNED], quotients[rounds / 2],
+                   at[TUNED_O3], at[OURS] / at[TUNED_O3]);
+        }
+    }
+    return 0;
+}

@@ -1,0 +1,52 @@
+/* Instructions: run under callgrind, which counts inside the two calls alone and writes a part at each dump, named
+ * "EVENT DATAPOINTS ITEMS SIZE HELD FUNCTION CALLS". The scripts count and count_test read them. Usage: count [ours]: the proved call alone. */
+#include <stdio.h>
+#include <string.h>
+#include <valgrind/callgrind.h>
+
+#include "plays.h"
+
+static const struct row {
+    const char *name;
+    enum kind kind;
+    size_t size, held;
+} rows[] = {
+    {"mid-frame", MID_FRAME, 40, 0},    {"mid-frame", MID_FRAME, 232, 0}, {"mid-frame", MID_FRAME, 40, 40}, {"mid-frame", MID_FRAME, 40, 232},
+    {"get-frame", GET_FRAME, 20, 0},    {"get", GET, 5, 0},               {"get", GET, 20, 0},              {"set-frame", SET_FRAME, 40, 0},
+    {"set", SET, 8, 0},                 {"set", SET, 40, 0},              {"poll", POLL, 0, 0},             {"poll", POLL, 8, 0},
+    {"poll", POLL, 40, 0},              {"frame", FRAME, 261, 0},         {"checksum", CHECKSUM, 47, 0},    {"checksum", CHECKSUM, 239, 0},
+    {"parameters", PARAMETERS, 40, 0},  {"parameters", PARAMETERS, 232, 0}, {"resend", RESEND, 40, 0},      {"resend", RESEND, 232, 0},
+    {"bus-value", BUS_VALUE, 0, 0},     {"outcome", OUTCOME, 0, 0},       {"idle", IDLE, 40, 0},
+};
+
+static void count(const struct row *row, size_t datapoints, size_t items, call_function *f, const char *function)
+{
+    char name[100];
+    unsigned calls = make_plays(row->kind, row->size, row->held);
+    /* once before: the loader looks a function up at its first call */
+    for (size_t v = 0; v < VARIANTS; v++)
+        play(&plays[v], f);
+    CALLGRIND_ZERO_STATS;
+    for (size_t v = 0; v < VARIANTS; v++)
+        play(&plays[v], f);
+    snprintf(name, sizeof name, "%s %zu %zu %zu %zu %s %u", row->name, datapoints, items, row->size, row->held, function, calls * VARIANTS);
+    CALLGRIND_DUMP_STATS_AT(name);
+}
+
+int main(int argc, char **argv)
+{
+    static const struct {
+        size_t datapoints, items, rows;
+    } tables[] = {{0, 64, sizeof rows / sizeof *rows}, {10, 64, sizeof rows / sizeof *rows}, {100, 64, sizeof rows / sizeof *rows},
+                  {1000, 64, sizeof rows / sizeof *rows}, {0, 0, 1}};
+    bool both = argc < 2 || strcmp(argv[1], "ours") != 0;
+    for (size_t t = 0; t < sizeof tables / sizeof *tables; t++)
+        for (size_t i = 0; i < tables[t].rows; i++) {
+            for (int f = 0; f <= both; f++) {
+                /* the same tables and plays for each */
+                make_tables(tables[t].datapoints, tables[t].items);
+                count(&rows[i], tables[t].datapoints, tables[t].items, f ? tuned_call : tagobrelin_call, f ? "tuned" : "ours");
+            }
+        }
+    return 0;
+}

@@ -1,0 +1,251 @@
+#include <string.h>
+
+#include "plays.h"
+
+struct lent lent;
+struct play plays[VARIANTS];
+static size_t datapoint_count, item_count;
+
+static uint64_t state;
+
+static uint32_t random_below(uint32_t n)
+{
+    state ^= state << 13;
+    state ^= state >> 7;
+    state ^= state << 17;
+    return (uint32_t)((state >> 32) * n >> 32);
+}
+
+static const uint8_t size_of[15] = {1, 1, 1, 1, 1, 1, 1, 1, 2, 3, 4, 6, 8, 10, 14};
+
+static void random_value(uint8_t typecode, uint8_t *value)
+{
+    for (size_t i = 0; i < size_of[typecode]; i++)
+        value[i] = (uint8_t)random_below(256);
+    if (typecode < 7)
+        value[0] &= (uint8_t)((2 << typecode) - 1);
+}
+
+void make_tables(size_t datapoints, size_t items)
+{
+    uint32_t id = 0;
+    /* the same again for the same sizes */
+    state = 88172645463325252u;
+    memset(&lent, 0, sizeof lent);
+    datapoint_count = datapoints;
+    item_count = items;
+    for (size_t i = 0; i < datapoints; i++) {
+        struct tagobrelin_datapoint *d = &lent.datapoints[i];
+        id += 1 + random_below(20);
+        d->id = (uint16_t)id;
+        /* every third has a longer value */
+        d->typecode = (uint8_t)(i % 3 == 2 ? 8 + random_below(7) : random_below(8));
+        d->state = (uint8_t)random_below(32);
+        d->flags = (uint8_t)random_below(256);
+        d->dpt = (uint8_t)random_below(256);
+        random_value(d->typecode, d->value);
+    }
+    for (size_t i = 0; i < items; i++) {
+        struct tagobrelin_item *t = &lent.items[i];
+        t->id = (uint16_t)(i + 1);
+        t->size = (uint8_t)(1 + random_below(16));
+        t->writable = true;
+        for (size_t k = 0; k < t->size; k++)
+            t->bytes[k] = (uint8_t)random_below(256);
+    }
+    for (size_t i = 0; i < sizeof lent.parameters; i++)
+        lent.parameters[i] = (uint8_t)random_below(256);
+}
+
+static size_t framed(uint8_t control, const uint8_t *message, size_t count, uint8_t *f)
+{
+    uint8_t sum = control;
+    f[0] = f[3] = 0x68;
+    f[1] = f[2] = (uint8_t)(count + 1);
+    f[4] = control;
+    memcpy(f + 5, message, count);
+    for (size_t i = 0; i < count; i++)
+        sum = (uint8_t)(sum + message[i]);
+    f[count + 5] = sum;
+    f[count + 6] = 0x16;
+    return count + 7;
+}
+
+static void put_two_bytes(uint8_t *at, uint32_t n)
+{
+    at[0] = (uint8_t)(n >> 8);
+    at[1] = (uint8_t)n;
+}
+
+/* GetDatapointValue for so many datapoints, or as many as there are */
+static size_t get_message(uint8_t *m, size_t size)
+{
+    size_t from = datapoint_count > size ? random_below((uint32_t)(datapoint_count - size + 1)) : 0;
+    size_t last = datapoint_count > size ? from + size - 1 : datapoint_count - 1;
+    uint32_t start = datapoint_count ? lent.datapoints[from].id : 1;
+    uint32_t number = datapoint_count ? lent.datapoints[last].id - start + 1u : (uint32_t)size;
+    memcpy(m, "\xf0\x05", 2);
+    put_two_bytes(m + 2, start);
+    put_two_bytes(m + 4, number);
+    m[6] = 0;
+    return 7;
+}
+
+/* SetDatapointValue, value and request to send, for so many datapoints of one byte, anywhere in the table */
+static size_t set_message(uint8_t *m, size_t size)
+{
+    size_t at = 6;
+    memcpy(m, "\xf0\x06\x00\x01", 4);
+    put_two_bytes(m + 4, (uint32_t)size);
+    for (size_t i = 0; i < size; i++) {
+        size_t k = datapoint_count ? random_below((uint32_t)datapoint_count) : 0;
+        if (k % 3 == 2)
+            k--;
+        put_two_bytes(m + at, datapoint_count ? lent.datapoints[k].id : 1);
+        m[at + 2] = 3;
+        m[at + 3] = 1;
+        m[at + 4] = 0;
+        random_value(datapoint_count ? lent.datapoints[k].typecode : 0, m + at + 4);
+        at += 5;
+    }
+    return at;
+}
+
+/* `size` different datapoints, the longer values left out; all there are where there are less */
+static void choose_marks(struct play *p, size_t size)
+{
+    size_t eligible = datapoint_count - datapoint_count / 3, wanted = datapoint_count <= 10 && size > datapoint_count ? datapoint_count : size;
+    p->mark_count = 0;
+    if (wanted > eligible) {
+        for (size_t i = 0; i < datapoint_count && p->mark_count < wanted; i++)
+            p->marks[p->mark_count++] = (uint16_t)i;
+        return;
+    }
+    for (size_t i = 0; i < datapoint_count; i++)
+        if (i % 3 != 2) {
+            if (random_below((uint32_t)eligible) < wanted - p->mark_count)
+                p->marks[p->mark_count++] = (uint16_t)i;
+            eligible--;
+        }
+}
+
+static void add(struct play *p, uint8_t event, uint8_t byte, uint16_t id)
+{
+    p->steps[p->step_count++] = (struct step){event, byte, id};
+}
+
+unsigned make_plays(enum kind kind, size_t size, size_t held)
+{
+    for (size_t v = 0; v < VARIANTS; v++) {
+        struct play *p = &plays[v];
+        uint8_t message[254], f[261];
+        size_t n = 0, gathered = 0;
+        bool whole = false;
+        memset(p, 0, sizeof *p);
+        tagobrelin_fresh_link(&p->link);
+        for (size_t i = 0; i < sizeof message; i++)
+            message[i] = (uint8_t)(random_below(255) + 1);
+        memcpy(message, "\xf0\x04", 2);
+        if (kind == RESEND)
+            held = size;
+        if (held)
+            p->link.held = (uint16_t)framed(0xf3, message, held - 7, p->link.outstanding);
+        switch (kind) {
+        case MID_FRAME:
+        case STREAM:
+        case IDLE:
+            n = framed(0x73, message, sizeof message, f);
+            gathered = kind == STREAM ? 5 : size;
+            if (kind == IDLE)
+                add(p, TAGOBRELIN_IDLE_MARK, 0, 0);
+            else
+                for (size_t i = gathered; i < gathered + (kind == STREAM ? size : 1); i++)
+                    add(p, TAGOBRELIN_HOST_BYTE, f[i], 0);
+            break;
+        case GET:
+        case GET_FRAME:
+            n = framed(0x73, message, get_message(message, size), f);
+            whole = kind == GET_FRAME;
+            break;
+        case SET:
+        case SET_FRAME:
+            n = framed(0x73, message, set_message(message, size), f);
+            whole = kind == SET_FRAME;
+            break;
+        case PARAMETERS:
+            memcpy(message, "\xf0\x07\x00\x01\x00", 5);
+            message[5] = (uint8_t)size;
+            n = framed(0x73, message, 6, f);
+            break;
+        case FRAME:
+        case CHECKSUM:
+            n = framed(0x73, message, size - 7, f);
+            whole = kind == FRAME;
+            break;
+        case POLL:
+            choose_marks(p, size);
+            add(p, TAGOBRELIN_POLL, 0, 0);
+            break;
+        case BUS_VALUE:
+        case OUTCOME: {
+            /* without datapoints: refused */
+            size_t k = datapoint_count ? random_below((uint32_t)datapoint_count) : 0;
+            p->value_count = size_of[lent.datapoints[k].typecode];
+            random_value(lent.datapoints[k].typecode, p->value);
+            add(p, kind == OUTCOME ? TAGOBRELIN_OUTCOME : TAGOBRELIN_BUS_VALUE, 0, datapoint_count ? lent.datapoints[k].id : 1);
+            break;
+        }
+        case RESEND:
+            add(p, TAGOBRELIN_ACK_WAIT_OVER, 0, 0);
+            break;
+        }
+        if (n && p->step_count == 0) {
+            gathered = whole ? 0 : kind == CHECKSUM ? n - 2 : n - 1;
+            for (size_t i = gathered; i < (kind == CHECKSUM ? n - 1 : n); i++)
+                add(p, TAGOBRELIN_HOST_BYTE, f[i], 0);
+            if (whole)
+                add(p, TAGOBRELIN_HOST_BYTE, 0xe5, 0);
+        }
+        memcpy(p->link.receiver, f, gathered);
+        p->link.received = (uint16_t)gathered;
+    }
+    return plays[0].step_count;
+}
+
+int32_t play(const struct play *p, call_function *f)
+{
+    int32_t answer = 0;
+    memcpy(&lent.link, &p->link, sizeof lent.link);
+    for (size_t i = 0; i < p->mark_count; i++)
+        lent.datapoints[p->marks[i]].mark = true;
+    for (size_t i = 0; i < p->step_count; i++)
+        answer = f(p->steps[i].event, p->steps[i].byte, p->steps[i].id, 2, p->value, p->value_count, lent.datapoints, datapoint_count, lent.items,
+                   item_count, lent.parameters, sizeof lent.parameters, &lent.link, lent.out, sizeof lent.out);
+    return answer;
+}
+
+/* by words, four sums side by side, so that none waits for the one before it */
+static uint64_t read_bytes(const void *from, size_t n)
+{
+    const uint8_t *at = from;
+    uint64_t a = 0, b = 0, c = 0, d = 0, w;
+    for (; n >= 32; n -= 32, at += 32) {
+        memcpy(&w, at, 8);
+        a += w;
+        memcpy(&w, at + 8, 8);
+        b += w;
+        memcpy(&w, at + 16, 8);
+        c += w;
+        memcpy(&w, at + 24, 8);
+        d += w;
+    }
+    for (; n; n--)
+        a += *at++;
+    return a + b + c + d;
+}
+
+uint64_t read_all(void)
+{
+    return read_bytes(lent.datapoints, datapoint_count * sizeof *lent.datapoints) + read_bytes(lent.items, item_count * sizeof *lent.items) +
+           read_bytes(lent.parameters, sizeof lent.parameters) + read_bytes(&lent.link, sizeof lent.link);
+}

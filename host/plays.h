@@ -1,0 +1,65 @@
+/* What is timed and counted: tables of a given size, and calls on them that can be played again and again. */
+#ifndef PLAYS_H
+#define PLAYS_H
+
+#include "tuned.h"
+
+typedef int32_t call_function(uint8_t event, uint8_t byte, uint16_t id, uint8_t outcome, const uint8_t *value, size_t value_count,
+                              struct tagobrelin_datapoint *datapoints, size_t datapoint_count, struct tagobrelin_item *items, size_t item_count,
+                              const uint8_t *parameters, size_t parameter_count, struct tagobrelin_link *link, uint8_t *out, size_t room);
+
+/* Some calls: the link record that they begin with, the datapoints that have a report mark before them, and their events. */
+struct play {
+    struct tagobrelin_link link;
+    uint16_t marks[62];
+    uint16_t mark_count;
+    uint16_t step_count;
+    struct step {
+        uint8_t event, byte;
+        uint16_t id;
+    } steps[262];
+    uint8_t value[14], value_count;
+};
+
+/* Plays of one kind that differ in their IDs and values, so that no jump is learnt by heart. */
+enum { VARIANTS = 16 };
+extern struct play plays[VARIANTS];
+
+enum kind {
+    MID_FRAME,   /* one host byte behind `size` gathered ones of a data frame of 261 bytes */
+    STREAM,      /* `size` host bytes, one after the other, in such a frame */
+    GET,         /* the last byte of a request for `size` values */
+    GET_FRAME,   /* all bytes of it, and the acknowledgement of the answer */
+    SET,         /* the last byte of a request that sets `size` datapoints */
+    SET_FRAME,   /* all bytes of it, and the acknowledgement */
+    PARAMETERS,  /* the last byte of a request for `size` parameter bytes */
+    POLL,        /* a poll with `size` marks */
+    FRAME,       /* all bytes of a data frame of `size` bytes whose service is not known, and the acknowledgement */
+    CHECKSUM,    /* the checksum's byte of such a frame */
+    BUS_VALUE,   /* a value from the bus */
+    OUTCOME,     /* an outcome of a transmission */
+    RESEND,      /* ack wait over, a frame of `size` bytes outstanding */
+    IDLE         /* an idle mark behind `size` gathered bytes */
+};
+
+/* Fills the tables: so many datapoints and items, some parameter bytes. */
+void make_tables(size_t datapoints, size_t items);
+
+/* Makes the plays of a kind on these tables; a frame of `held` bytes is outstanding, 0: none. Answers how many calls each play has. */
+unsigned make_plays(enum kind kind, size_t size, size_t held);
+
+/* One play by this function. Answers what its last call answered. */
+int32_t play(const struct play *p, call_function *f);
+
+/* Reads each byte of the tables, the parameters and the link record once. */
+uint64_t read_all(void);
+
+/* All that is lent. */
+extern struct lent {
+    struct tagobrelin_datapoint datapoints[1000];
+    struct tagobrelin_item items[64];
+    struct tagobrelin_link link;
+    uint8_t parameters[255], out[TAGOBRELIN_ROOM];
+} lent;
+
+#endif

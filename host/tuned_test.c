@@ -1,0 +1,368 @@
+/* Holds tuned.c against the archive: random tables, link records and events; after each call both have given the same answer and left the same
+ * bytes, padding included. Usage: tuned_test [CALLS [SEED]]. Prints how often each answer was met; the exit status tells whether all were the same. */
+#include <stdio.h>
+#include <stdlib.h>
+#include <string.h>
+
+#include "tuned.h"
+
+enum { OUT = 300 };
+
+/* all that a call is lent */
+static struct world {
+    struct tagobrelin_datapoint datapoints[1001];
+    struct tagobrelin_item items[65];
+    struct tagobrelin_link link;
+    uint8_t out[OUT];
+    uint8_t parameters[256], value[20];
+} ours, tuned, saved;
+static size_t datapoint_count, item_count, parameter_count, value_count, room;
+
+static uint64_t state = 1;
+static unsigned long calls, limit = 1500000;
+static unsigned long refused[5], accepted[7], answered[8][11], sent_again, indications, longest;
+
+static uint32_t random_below(uint32_t n)
+{
+    state ^= state << 13;
+    state ^= state >> 7;
+    state ^= state << 17;
+    return (uint32_t)((state >> 32) * n >> 32);
+}
+
+static bool one_in(uint32_t n)
+{
+    return random_below(n) == 0;
+}
+
+static void differs(const char *what, uint8_t event, uint8_t byte)
+{
+    const uint8_t *a = (const uint8_t *)&ours, *b = (const uint8_t *)&tuned;
+    printf("call %lu, event %d, byte %02x, %zu datapoints: other %s\n", calls, event, byte, datapoint_count, what);
+    for (size_t i = 0, shown = 0; i < sizeof ours && shown < 20; i++)
+        if (a[i] != b[i] && ++shown)
+            printf("  at %zu: %02x, tuned %02x\n", i, a[i], b[i]);
+    exit(1);
+}
+
+/* one event to both */
+static int32_t call(uint8_t event, uint8_t byte, uint16_t id, uint8_t outcome)
+{
+    int32_t a = tagobrelin_call(event, byte, id, outcome, ours.value, value_count, ours.datapoints, datapoint_count, ours.items, item_count,
+                                ours.parameters, parameter_count, &ours.link, ours.out, room);
+    int32_t b = tuned_call(event, byte, id, outcome, tuned.value, value_count, tuned.datapoints, datapoint_count, tuned.items, item_count,
+                           tuned.parameters, parameter_count, &tuned.link, tuned.out, room);
+    calls++;
+    if (a != b) {
+        printf("%d, tuned %d\n", (int)a, (int)b);
+        differs("answer", event, byte);
+    }
+    if (memcmp(&ours, &tuned, sizeof ours))
+        differs("memory", event, byte);
+    if (a < 0)
+        refused[a == TAGOBRELIN_NO_EVENT ? 0 : -a]++;
+    else {
+        accepted[event]++;
+        if ((unsigned long)a > longest)
+            longest = (unsigned long)a;
+        if (event == TAGOBRELIN_HOST_BYTE && a > 1 && ours.out[7] >= 0x81 && ours.out[7] <= 0x88)
+            answered[ours.out[7] - 0x81][ours.out[10] || ours.out[11] ? 0 : ours.out[12] < 11 ? ours.out[12] : 0]++;
+        if (event == TAGOBRELIN_ACK_WAIT_OVER && a > 4)
+            sent_again++;
+        if (event == TAGOBRELIN_POLL && a > 0)
+            indications++;
+        memset(ours.out, 0xee, (size_t)a);
+        memset(tuned.out, 0xee, (size_t)a);
+    }
+    return a;
+}
+
+static const uint8_t size_of[16] = {1, 1, 1, 1, 1, 1, 1, 1, 2, 3, 4, 6, 8, 10, 14, 5};
+
+static void random_value(uint8_t typecode, uint8_t *value)
+{
+    for (size_t i = 0; i < size_of[typecode]; i++)
+        value[i] = (uint8_t)random_below(256);
+    if (typecode < 7)
+        value[0] &= (uint8_t)((2 << typecode) - 1);
+}
+
+static void new_world(void)
+{
+    static const size_t sizes[] = {0, 1, 2, 3, 5, 10, 33, 63, 64, 65, 100, 255, 256, 400, 511, 512, 513, 999, 1000};
+    uint32_t id = 0, dense = one_in(2);
+    memset(&ours, 0, sizeof ours);
+    datapoint_count = sizes[random_below(one_in(3) ? 19 : 11)];
+    item_count = one_in(3) ? 64 : random_below(65);
+    parameter_count = one_in(3) ? 255 : random_below(256);
+    room = TAGOBRELIN_ROOM + random_below(OUT - TAGOBRELIN_ROOM + 1);
+    uint32_t few = one_in(2) ? 8 : 15;
+    for (size_t i = 0; i < datapoint_count; i++) {
+        struct tagobrelin_datapoint *d = &ours.datapoints[i];
+        id += dense ? 1 : 1 + random_below((uint32_t)(65535 - 1000 - id) / (uint32_t)(datapoint_count + 1 - i) + 1);
+        d->id = (uint16_t)id;
+        if (i == datapoint_count - 1 && one_in(4))
+            d->id = 65535;
+        d->typecode = (uint8_t)random_below(few);
+        d->flags = (uint8_t)random_below(256);
+        d->dpt = (uint8_t)random_below(256);
+        d->state = (uint8_t)random_below(32);
+        random_value(d->typecode, d->value);
+        d->mark = one_in(4);
+        ((uint8_t *)d)[21] = (uint8_t)random_below(256);
+    }
+    id = 0;
+    for (size_t i = 0; i < item_count; i++) {
+        struct tagobrelin_item *t = &ours.items[i];
+        id += 1 + random_below(3);
+        t->id = (uint16_t)id;
+        t->size = (uint8_t)(1 + random_below(one_in(2) ? 16 : 3));
+        t->writable = random_below(4) > 0;
+        for (size_t k = 0; k < t->size; k++)
+            t->bytes[k] = (uint8_t)random_below(256);
+    }
+    for (size_t i = 0; i < parameter_count; i++)
+        ours.parameters[i] = (uint8_t)random_below(256);
+    tagobrelin_fresh_link(&ours.link);
+    ((uint8_t *)&ours.link)[529] = 0xa5;
+    memset(ours.out, 0xee, sizeof ours.out);
+    tuned = ours;
+    memcpy(&tuned, &ours, sizeof ours);
+}
+
+static uint16_t some_id(void)
+{
+    if (datapoint_count && random_below(20))
+        return (uint16_t)(ours.datapoints[random_below((uint32_t)datapoint_count)].id + (one_in(40) ? 1 : 0));
+    return (uint16_t)random_below(65536);
+}
+
+/* a request's message of some service, mostly in order */
+static size_t random_message(uint8_t *m)
+{
+    uint32_t sub = random_below(9), start, number, size = 6;
+    if (one_in(30)) {
+        size = random_below(20);
+        for (uint32_t i = 0; i < size; i++)
+            m[i] = (uint8_t)random_below(256);
+        return size;
+    }
+    m[0] = one_in(50) ? 0 : 0xf0;
+    m[1] = (uint8_t)(one_in(50) ? 0x80 + sub : sub);
+    start = sub == 1 || sub == 2 ? random_below(130) : sub == 7 ? random_below(one_in(2) ? 10 : 260) : some_id();
+    number = one_in(20) ? 0 : one_in(10) ? random_below(65536) : 1 + random_below(one_in(3) ? 250 : 30);
+    if (sub == 5) {
+        m[6] = (uint8_t)random_below(one_in(20) ? 256 : 3);
+        size = 7;
+    }
+    if (sub == 2 || sub == 6) {
+        uint32_t most = one_in(3) ? 62 : 6, entries = random_below(most + 1), head = sub == 2 ? 3 : 4, k;
+        for (k = 0; k < entries; k++) {
+            uint8_t *entry = m + size;
+            uint32_t count = 1, id, typecode = 7;
+            if (sub == 2) {
+                uint32_t i = item_count ? random_below((uint32_t)item_count) : 0;
+                id = one_in(60) ? random_below(200) : ours.items[i].id;
+                count = one_in(60) ? random_below(18) : ours.items[i].size;
+            } else {
+                uint32_t i = datapoint_count ? random_below((uint32_t)datapoint_count) : 0;
+                id = one_in(60) ? some_id() : ours.datapoints[i].id;
+                entry[2] = (uint8_t)(one_in(80) ? random_below(256) : random_below(6));
+                typecode = ours.datapoints[i].typecode;
+                count = one_in(60) ? random_below(18) : size_of[typecode];
+                if (one_in(8) && entry[2] != 1 && entry[2] != 3)
+                    count = 0;
+            }
+            if (size + head + count > 254)
+                break;
+            entry[0] = (uint8_t)(id >> 8);
+            entry[1] = (uint8_t)id;
+            entry[head - 1] = (uint8_t)count;
+            for (uint32_t q = 0; q < count; q++)
+                entry[head + q] = (uint8_t)random_below(256);
+            if (sub == 6 && count && typecode < 7 && random_below(60))
+                entry[head] &= (uint8_t)((2 << typecode) - 1);
+            size += head + count;
+        }
+        number = one_in(40) ? random_below(4) : k;
+    }
+    if (one_in(40))
+        m[size++] = 0;
+    m[2] = (uint8_t)(start >> 8);
+    m[3] = (uint8_t)start;
+    m[4] = (uint8_t)(number >> 8);
+    m[5] = (uint8_t)number;
+    return size > 254 ? 254 : size;
+}
+
+static void random_frame(void)
+{
+    uint8_t f[280];
+    size_t n = random_message(f + 5);
+    uint8_t sum = 0;
+    f[0] = f[3] = 0x68;
+    f[1] = f[2] = (uint8_t)(n + 1);
+    f[4] = one_in(20) ? (uint8_t)random_below(256) : (ours.link.expected != one_in(12)) ? 0x73 : 0x53;
+    for (size_t i = 4; i < n + 5; i++)
+        sum = (uint8_t)(sum + f[i]);
+    f[n + 5] = sum;
+    f[n + 6] = 0x16;
+    if (one_in(15))
+        f[random_below((uint32_t)n + 7)] ^= (uint8_t)(1 << random_below(8));
+    size_t count = one_in(20) ? random_below((uint32_t)n + 7) : n + 7;
+    for (size_t i = 0; i < count; i++)
+        call(TAGOBRELIN_HOST_BYTE, f[i], 0, 0);
+    if (random_below(4))
+        call(TAGOBRELIN_IDLE_MARK, 0, 0, 0);
+    if (random_below(4))
+        call(TAGOBRELIN_HOST_BYTE, 0xe5, 0, 0);
+}
+
+static uint8_t random_event(void)
+{
+    return (uint8_t)(1 + random_below(6));
+}
+
+/* some byte of the tables or of the link record is altered, or a count, for a call or a few */
+static void broken(void)
+{
+    size_t d = datapoint_count, i = item_count, p = parameter_count, r = room, k = 1 + random_below(3);
+    memcpy(&saved, &ours, sizeof ours);
+    switch (random_below(8)) {
+    case 0:
+        datapoint_count = 1001;
+        break;
+    case 1:
+        item_count = 65;
+        break;
+    case 2:
+        parameter_count = 256;
+        break;
+    case 3:
+        room = random_below(TAGOBRELIN_ROOM);
+        break;
+    case 4:
+        ours.link.received = tuned.link.received = (uint16_t)random_below(one_in(2) ? 300 : 65536);
+        break;
+    case 5:
+        ours.link.held = tuned.link.held = (uint16_t)random_below(one_in(2) ? 300 : 65536);
+        break;
+    default:
+        break;
+    }
+    while (k--) {
+        uint8_t *a, *b, mask = (uint8_t)(1 << random_below(8));
+        size_t at, in = random_below(3);
+        if (in == 0 && d) {
+            at = random_below((uint32_t)d) * sizeof *ours.datapoints + random_below(20);
+            a = (uint8_t *)ours.datapoints + at;
+            b = (uint8_t *)tuned.datapoints + at;
+        } else if (in == 1 && i) {
+            at = random_below((uint32_t)i) * sizeof *ours.items + random_below(20);
+            if (at % 20 == 3)
+                mask = 1;
+            a = (uint8_t *)ours.items + at;
+            b = (uint8_t *)tuned.items + at;
+        } else {
+            at = random_below(529);
+            if (at >= 262 && at <= 264)
+                mask = 1;
+            a = (uint8_t *)&ours.link + at;
+            b = (uint8_t *)&tuned.link + at;
+        }
+        *a ^= mask;
+        *b ^= mask;
+    }
+    call(random_event(), (uint8_t)random_below(256), some_id(), (uint8_t)random_below(3));
+    datapoint_count = d;
+    item_count = i;
+    parameter_count = p;
+    room = r;
+    memcpy(&ours, &saved, sizeof ours);
+    memcpy(&tuned, &saved, sizeof ours);
+}
+
+static void random_bus_value(void)
+{
+    uint16_t id = some_id();
+    value_count = random_below(16);
+    for (size_t i = 0; i < sizeof ours.value; i++)
+        ours.value[i] = (uint8_t)random_below(256);
+    for (size_t i = 0; i < datapoint_count && random_below(20); i++)
+        if (ours.datapoints[i].id == id) {
+            value_count = size_of[ours.datapoints[i].typecode];
+            if (random_below(20))
+                random_value(ours.datapoints[i].typecode, ours.value);
+        }
+    memcpy(tuned.value, ours.value, sizeof ours.value);
+    call(TAGOBRELIN_BUS_VALUE, 0, id, (uint8_t)random_below(256));
+}
+
+static void something(void)
+{
+    static const uint8_t reset[4] = {0x10, 0x40, 0x40, 0x16};
+    switch (random_below(12)) {
+    case 0:
+    case 1:
+    case 2:
+        random_frame();
+        break;
+    case 3:
+        random_bus_value();
+        break;
+    case 4:
+        call(TAGOBRELIN_OUTCOME, 0, some_id(), (uint8_t)random_below(one_in(20) ? 256 : 3));
+        break;
+    case 5:
+        call(TAGOBRELIN_POLL, 0, 0, 0);
+        break;
+    case 6:
+        for (uint32_t n = random_below(6); n; n--)
+            call(TAGOBRELIN_ACK_WAIT_OVER, 0, 0, 0);
+        break;
+    case 7:
+        call(TAGOBRELIN_IDLE_MARK, 0, 0, 0);
+        break;
+    case 8:
+        for (uint32_t i = 0; i < 4; i++)
+            call(TAGOBRELIN_HOST_BYTE, (uint8_t)(reset[i] ^ (one_in(8) ? 1 : 0)), 0, 0);
+        break;
+    case 9:
+        for (uint32_t n = random_below(8); n; n--)
+            call(TAGOBRELIN_HOST_BYTE, (uint8_t)(one_in(3) ? 0x10 : one_in(2) ? 0x68 : one_in(2) ? 0xe5 : random_below(256)), 0, 0);
+        break;
+    case 10:
+        for (uint32_t n = 6; n; n--)
+            broken();
+        break;
+    default:
+        if (one_in(20))
+            call((uint8_t)random_below(256), 0, 0, (uint8_t)random_below(4));
+        call(TAGOBRELIN_HOST_BYTE, 0xe5, 0, 0);
+    }
+}
+
+int main(int argc, char **argv)
+{
+    if (argc > 1)
+        limit = strtoul(argv[1], NULL, 10);
+    if (argc > 2)
+        state = strtoull(argv[2], NULL, 10) * 0x9e3779b97f4a7c15u + 1;
+    while (calls < limit) {
+        new_world();
+        for (int i = 0; i < 60; i++)
+            something();
+    }
+    printf("%lu calls, the same answers and the same bytes; the longest reply has %lu\n", calls, longest);
+    printf("  refused: no event %lu, 1: %lu, 2: %lu, 3: %lu, 4: %lu\n", refused[0], refused[1], refused[2], refused[3], refused[4]);
+    printf("  accepted: host byte %lu, idle mark %lu, ack wait over %lu (%lu sent again), poll %lu (%lu indications), bus value %lu, outcome %lu\n", accepted[1],
+           accepted[2], accepted[3], sent_again, accepted[4], indications, accepted[5], accepted[6]);
+    for (int sub = 1; sub <= 8; sub++) {
+        printf("  answers to sub %d:", sub);
+        for (int code = 0; code < 11; code++)
+            if (answered[sub - 1][code])
+                printf(" %s%d: %lu", code ? "code " : "", code, answered[sub - 1][code]);
+        printf("\n");
+    }
+    return 0;
+}
