@@ -37,7 +37,7 @@ pub struct Wanted {
 pub struct Gathered {
     pub count: u16,
     // How many bytes the entries take.
-    pub size: u16,
+    pub size: usize,
     // The ID of the first entry that does not fit, 0 where all do.
     pub over: u16,
     // Nothing after this is looked at.
@@ -125,7 +125,7 @@ fn with_entry(g: Gathered, id: u16, n: usize) -> Gathered
     requires { ⌜ (g .count ≤ g .size) × (g .size ≤ 248) × (n ≤ 19) ⌝ }
     ensures { λ r. ⌜ r ≡ withEntry id n g ⌝ }
 {
-    let size = g.size + n as u16;
+    let size = g.size + n;
     let mut r = g;
     if 248 < size {
         r.over = id;

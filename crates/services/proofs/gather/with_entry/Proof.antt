@@ -6,9 +6,6 @@ use Rattle.services.specs.Gather.{withEntry}
 use Rattle.services.proofs.gather.with_entry.Statement.{statement}
 use Rattle.services.proofs.gather.with_entry.Tie as tie
 
-cast-size : tie.Need-cast-size
-cast-size c = search needs
-
 add-size : tie.Need-add-size
 add-size c = search needs
 
@@ -28,4 +25,4 @@ returns-2 c =
     simp (le-ltb 248 (a .g .size + a .n) (omega arith))
 
 pub with-entry-spec : {M : Type 1} → statement M
-with-entry-spec = tie.close (tie.spec cast-size add-size returns add-r returns-2)
+with-entry-spec = tie.close (tie.spec add-size returns add-r returns-2)
