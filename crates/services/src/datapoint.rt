@@ -187,6 +187,22 @@ pub fn fits_after(d: Datapoint, last: u16) -> bool
     are_clear(m, low, high)
 }
 
+// Whether four records may stand one behind the other, the first behind one with the ID `last`. Four a turn: one loop's jump and count for four records.
+pub fn four_fit_after(a: Datapoint, b: Datapoint, c: Datapoint, d: Datapoint, last: u16) -> bool
+    ensures { λ r. ⌜ r ≡ (ltb last (a .id) && datapointOk a && (ltb (a .id) (b .id) && datapointOk b && (ltb (b .id) (c .id) && datapointOk c && (ltb (c .id) (d .id) && datapointOk d)))) ⌝ }
+{
+    if !fits_after(a, last) {
+        return false;
+    }
+    if !fits_after(b, a.id) {
+        return false;
+    }
+    if !fits_after(c, b.id) {
+        return false;
+    }
+    fits_after(d, c.id)
+}
+
 // The value was handed out.
 pub fn handed_out(d: Datapoint) -> Datapoint
     ensures { λ r. ⌜ r ≡ handedOut d ⌝ }

@@ -135,6 +135,22 @@ pub fn item_fits_after(i: Item, last: u16) -> bool
     are_clear(m, low, high)
 }
 
+// Whether four items may stand one behind the other, the first behind one with the ID `last`.
+pub fn four_items_fit_after(a: Item, b: Item, c: Item, d: Item, last: u16) -> bool
+    ensures { λ r. ⌜ r ≡ (ltb last (a .id) && itemOk a && (ltb (a .id) (b .id) && itemOk b && (ltb (b .id) (c .id) && itemOk c && (ltb (c .id) (d .id) && itemOk d)))) ⌝ }
+{
+    if !item_fits_after(a, last) {
+        return false;
+    }
+    if !item_fits_after(b, a.id) {
+        return false;
+    }
+    if !item_fits_after(c, b.id) {
+        return false;
+    }
+    item_fits_after(d, c.id)
+}
+
 // The code of a set entry for this item, 0 where nothing is wrong.
 pub fn item_code(i: Item, value: &[u8]) -> u8
     ensures { λ r. ⌜ r ≡ itemCode i (now (value .entry)) ⌝ }

@@ -9,7 +9,9 @@ ghost use Rattle.services.specs.Item.{itemId, itemOk, zeroItem};
 ghost use Rattle.services.specs.Table.{tableOk, place, rising};
 use crate::datapoint::Datapoint;
 use crate::datapoint::fits_after;
+use crate::datapoint::four_fit_after;
 use crate::item::Item;
+use crate::item::four_items_fit_after;
 use crate::item::item_fits_after;
 
 // Whether the table of datapoints is well formed, in one pass.
@@ -19,9 +21,21 @@ pub fn datapoints_well_formed(table: &[Datapoint]) -> bool
     if table.len() > 1000 {
         return false;
     }
+    let n = table.len();
     let mut last: u16 = 0;
     let mut i: usize = 0;
-    while i < table.len() {
+    while i + 3 < n {
+        let a = table[i];
+        let b = table[i + 1];
+        let c = table[i + 2];
+        let d = table[i + 3];
+        if !four_fit_after(a, b, c, d, last) {
+            return false;
+        }
+        last = d.id;
+        i += 4;
+    }
+    while i < n {
         let d = table[i];
         if !fits_after(d, last) {
             return false;
@@ -39,9 +53,21 @@ pub fn items_well_formed(table: &[Item]) -> bool
     if table.len() > 64 {
         return false;
     }
+    let n = table.len();
     let mut last: u16 = 0;
     let mut i: usize = 0;
-    while i < table.len() {
+    while i + 3 < n {
+        let a = table[i];
+        let b = table[i + 1];
+        let c = table[i + 2];
+        let d = table[i + 3];
+        if !four_items_fit_after(a, b, c, d, last) {
+            return false;
+        }
+        last = d.id;
+        i += 4;
+    }
+    while i < n {
         let item = table[i];
         if !item_fits_after(item, last) {
             return false;
