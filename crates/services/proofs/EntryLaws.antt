@@ -1,17 +1,18 @@
 -- A law for each answer of a command, a filter and the code of a set entry; values kept in a record's memory.
-use Prim.Native.Nat.{ℕ, zero, suc, _+_, _-_, _≤_, _<_}
+use Prim.Native.Nat.{ℕ, zero, suc, _+_, _-_, _/_, _%_, _≤_, _<_}
 use mathlib.Core.Path.{_≡_, refl, _∙_, ap}
 use mathlib.Core.Bool.{true, false}
 use mathlib.Core.List.{List, [], _∷_, _++_}
 use native.Mathlib.Omega.{arith}
-use lib.ListN.{length, take, drop, replicate}
-use lib.Seq.{sets, length-take-le}
+use lib.ListN.{length, getD, take, drop, replicate}
+use lib.Seq.{sets, length-take-le, take-suc}
 use borrow.Author.Tests.{lt-ltb, le-ltb, eq-eqb, ne-eqb}
 use Rattle.link.specs.Words.{pad, put, isEmpty}
 use Rattle.link.proofs.ByteLaws.{put-sets, put-put}
 use Rattle.services.specs.declared.datapoint.Datapoint.{Datapoint}
 use Rattle.services.specs.declared.item.Item.{Item}
-use Rattle.services.specs.Datapoint.{sizeOf, unusedBitsOk, withValid, withRequest, withStatus, withState, withValue, commanded}
+use Rattle.services.specs.Datapoint.{sizeOf, valueOf, unusedBitsOk, withValid, withRequest, withStatus, withState, withValue, commanded}
+use Rattle.services.specs.Get.{valueEntry}
 use Rattle.services.specs.Set.{itemCode, datapointCode}
 
 -- ---- a value in memory that was 0
@@ -106,3 +107,19 @@ module _ (i : Item) (v : List ℕ) where
 pub put-entry : (l : List ℕ) (at k n : ℕ) (vs a : List ℕ) → k ≡ at + length vs → n ≤ length a → at + length vs + n ≤ length l → put (sets l at vs) k (take n a) ≡ put l at (vs ++ take n a)
 put-entry l at k n vs a e h m =
     ap (λ (r : List ℕ). put r k (take n a)) (put-sets vs l at (omega arith)) ∙ put-put l at k vs (take n a) e (omega (arith, length-take-le n a h))
+
+-- a value of one byte, as codes 0 to 7 have: its entry has five bytes
+first-of : (n x : ℕ) (ys : List ℕ) (k : ℕ) → k < n → getD (replicate n x ++ ys) k 0 ≡ x
+first-of zero x ys k h = absurd (omega arith)
+first-of (suc n) x ys zero h = refl
+first-of (suc n) x ys (suc k) h = first-of n x ys k (omega arith)
+
+pub one-byte : (typecode : ℕ) → typecode < 8 → sizeOf typecode ≡ 1
+unfolding sizeOf
+one-byte typecode h = first-of 8 1 (2 ∷ 3 ∷ 4 ∷ 6 ∷ 8 ∷ 10 ∷ 14 ∷ []) typecode h
+
+pub one-byte-entry : (d : Datapoint) → d .typecode < 8 → length (d .value) ≡ 14 → valueEntry d .bytes ≡ d .id / 256 ∷ d .id % 256 ∷ d .state ∷ 1 ∷ getD (d .value) 0 0 ∷ []
+unfolding valueEntry valueOf
+one-byte-entry d h l =
+    ap (λ (n : ℕ). d .id / 256 ∷ d .id % 256 ∷ d .state ∷ n ∷ take n (d .value)) (one-byte (d .typecode) h)
+    ∙ ap (λ (r : List ℕ). d .id / 256 ∷ d .id % 256 ∷ d .state ∷ 1 ∷ r) (take-suc (d .value) 0 0 (omega arith))

@@ -353,6 +353,12 @@ pub fn put_value(out: &mut [u8], at: usize, d: Datapoint) -> usize
     out[at] = (d.id / 256) as u8;
     out[at + 1] = (d.id % 256) as u8;
     out[at + 2] = d.state;
+    // One byte, as most values have: no copy.
+    if d.typecode < 8 {
+        out[at + 3] = 1;
+        out[at + 4] = v[0];
+        return at + 5;
+    }
     out[at + 3] = n as u8;
     put_bytes(&mut *out, at + 4, &v[..n]);
     at + 4 + n

@@ -210,7 +210,8 @@ pub fn measure_items(table: &[Item], from: usize, w: Wanted) -> Gathered
 }
 
 // The second pass over the datapoints, from a place on: the entries go into the buffer at `at`, and each record is left as it is after its entry was built.
-// Answers where the entries end.
+// Answers where the entries end. A wanted record is read anew, so that the others are not copied, and stored before its entry is built, so that only what is
+// changed is stored.
 pub fn build_datapoints(
     table: &mut [Datapoint],
     from: usize,
@@ -229,8 +230,9 @@ pub fn build_datapoints(
             return end;
         }
         if is_wanted(w, d) {
-            end = put_entry(out, end, w, d);
-            table[i] = left_of(w, d);
+            let e = table[i];
+            table[i] = left_of(w, e);
+            end = put_entry(out, end, w, e);
         }
         i += 1;
     }

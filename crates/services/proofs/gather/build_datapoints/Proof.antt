@@ -1,4 +1,4 @@
--- A walk of the loop: the table and the buffer are opened once, at the entry, and closed where the function returns. In each turn record i is read; if it is wanted, the buffer is lent for its entry and what is left of it is stored.
+-- A walk of the loop: the table and the buffer are opened once, at the entry, and closed where the function returns. In each turn record i is read; if it is wanted, it is read anew, what is left of it is stored and the buffer is lent for its entry.
 -- Assumes nothing.
 use Rattle.walks.proofs.Data.{boolD, Good, typed, MutS}
 use Rattle.walks.proofs.Walk.{Blocks, homes, allocs-all, frees-all, Param, dataP, mutSliceP, Ends, ends-in, Walk, meets-by, behind, starts, cell, room}
@@ -74,7 +74,7 @@ ps = mutSliceP 2 0 tt datapointD ∷ dataP 2 placeD ∷ dataP 2 wantedD ∷ mutS
 
 -- where local j stands
 abbrev loc : ℕ → ℕ
-loc j = 42 - 2 * j
+loc j = 46 - 2 * j
 
 record Known {M : Type 1} (𝓤 : URA M) (H : Heap 𝓤) (A : Atoms 𝓤) (mem : Memory → SProp 𝓤) (run : Routine → Fun 𝓤) (C : Calls 𝓤 H) : Type 1 where
   pub is-behind : Triple 𝓤 (C #services·gather·is-behind) (tripleOf 𝓤 H A is-behind.signature (is-behind.spec 𝓤 H A mem run))
@@ -158,48 +158,55 @@ module _ {M : Type 1} (𝓤 : URA M) (H : Heap 𝓤) (A : Atoms 𝓤) (W : Given
     turn : (s : State) → Sq W (Inv s) (runs (𝓣 .C) (𝓣 .Λ) En part.turn-1 (anyQ (afterTurn 𝓤 H (Below 𝓤 H A ≺ Inv s) (Kit.post 𝓤 H Left))))
     unfolding afterTurn
     turn s =
-        lets ! (loc 9) (of-opd ! (load ! (from ! (fld ! refl (stop !))) (look-in ! (loc 1) (sub ! 1 refl (whole !))))) refl (tt, record { fits = gn .0 }) $
-        lets ! (loc 10) (bin ! (val ! (loc 6) refl) (val ! (loc 9) refl) tt) refl (tt, tt) $
-        tests ! (val ! (loc 10) refl) (λ small.
-        sets ! (loc 9) (bin ! (val ! (loc 6) refl) (lit ! tt) (record { fits = datapoint-offset-fits n i (gn .1) (lt small) })) refl (tt, record { fits = datapoint-offset-fits n i (gn .1) (lt small) }) $
-        lets ! (loc 11) (bin ! (load ! (from ! (fld ! refl (stop !))) (look-in ! (loc 1) (sub ! 0 refl (whole !)))) (val ! (loc 9) refl) tt) refl (tt, tt) $
-        rewrite ! (loc 11) (λ (j : ℕ). ‵ (fat fullShare tyPtr (l .1 .1 .1 .1 .1 .1 .1 .1 .1 .1 .1 .0) 0 (vptr b j))) (sym (offset-is 22 o i)) refl $
+        lets ! (loc 10) (of-opd ! (load ! (from ! (fld ! refl (stop !))) (look-in ! (loc 1) (sub ! 1 refl (whole !))))) refl (tt, record { fits = gn .0 }) $
+        lets ! (loc 11) (bin ! (val ! (loc 6) refl) (val ! (loc 10) refl) tt) refl (tt, tt) $
+        tests ! (val ! (loc 11) refl) (λ small.
+        sets ! (loc 10) (bin ! (val ! (loc 6) refl) (lit ! tt) (record { fits = datapoint-offset-fits n i (gn .1) (lt small) })) refl (tt, record { fits = datapoint-offset-fits n i (gn .1) (lt small) }) $
+        lets ! (loc 12) (bin ! (load ! (from ! (fld ! refl (stop !))) (look-in ! (loc 1) (sub ! 0 refl (whole !)))) (val ! (loc 10) refl) tt) refl (tt, tt) $
+        rewrite ! (loc 12) (λ (j : ℕ). ‵ (fat fullShare tyPtr (l .1 .1 .1 .1 .1 .1 .1 .1 .1 .1 .1 .1 .0) 0 (vptr b j))) (sym (offset-is 22 o i)) refl $
         takes-at ! datapointD fullShare zs i zeroDatapoint b o (lt-zs small) (λ d-ok.
-        lets ! (1 + loc 12) (of-opd ! (load ! (from ! (hop ! (look ! (1 + loc 11) refl) (stop !))) (look-raw ! 0 refl))) refl (typed 𝓤 H A datapointD W d d-ok .0) $
+        lets ! (1 + loc 13) (of-opd ! (load ! (from ! (hop ! (look ! (1 + loc 12) refl) (stop !))) (look-raw ! 0 refl))) refl (typed 𝓤 H A datapointD W d d-ok .0) $
         back-at ! datapointD fullShare zs i zeroDatapoint b o (lt-zs small) d-ok $
-        lets ! (loc 8) (of-opd ! (val ! (loc 12) refl)) refl (typed 𝓤 H A datapointD W d d-ok .0) $
+        lets ! (loc 8) (of-opd ! (val ! (loc 13) refl)) refl (typed 𝓤 H A datapointD W d d-ok .0) $
         calls-plain ! (fmOf 𝓤 H (W .laws) 𝓣) (wantedD ∷ idD ∷ []) boolD (is-behind.clauses 𝓤 H A mem run) (known .is-behind) (w, (d .id, tt)) tt (w-ok, ((refl, datapoint-id-fits d d-ok), tt)) (id⊢ 𝓤 _) (past d) (λ _ _. id⊢ 𝓤 _)
         (λ _. and-then ! (val ! (1 + loc 3) refl) (and-then ! (load ! (from ! (fld ! refl (stop !))) (look-in ! (1 + loc 8) (sub ! 0 refl (whole !)))) (no-more !))) (λ _.
-        land ! (from ! (stop !)) (init ! (loc 13) refl (tt, tt)) $
-        leaves-early ! (val ! (loc 13) refl) (λ behind-it.
+        land ! (from ! (stop !)) (init ! (loc 14) refl (tt, tt)) $
+        leaves-early ! (val ! (loc 14) refl) (λ behind-it.
         lets ! (loc 0) (of-opd ! (val ! (loc 7) refl)) refl (tt, record { fits = end-fits }) $
         move ! (0 ∷ 2 ∷ []) $ closed-slice ! tt datapointD n ys zs b o refl (s .4 .1) gn $ move ! (2 ∷ 3 ∷ []) $ closed-slice ! tt byteD m out bs b′ o′ refl (putting .long) gm $ move ! (2 ∷ 3 ∷ []) $
-        returns-within ! Done refl (look ! (loc 0) refl) $ behind ! 4 $ frees-all ! (room ∷ room ∷ room ∷ room ∷ room ∷ room ∷ cell ∷ cell ∷ cell ∷ cell ∷ cell ∷ cell ∷ cell ∷ cell ∷ cell ∷ cell ∷ cell ∷ cell ∷ cell ∷ cell ∷ []) _ $
+        returns-within ! Done refl (look ! (loc 0) refl) $ behind ! 4 $ frees-all ! (room ∷ room ∷ room ∷ room ∷ room ∷ room ∷ room ∷ cell ∷ cell ∷ cell ∷ cell ∷ cell ∷ room ∷ cell ∷ cell ∷ cell ∷ cell ∷ cell ∷ cell ∷ cell ∷ cell ∷ cell ∷ []) _ $
         by ! (exits end zs bs end-fits (s .4 .1) (putting .long) (left-behind past (isWanted w) zeroDatapoint zs i (leftOf w) (lt-zs small) behind-it ∙ s .4 .3) (stopped (built-behind past (isWanted w) zeroDatapoint zs i (entryOf w) (lt-zs small) behind-it))))
         (λ ahead.
         calls-plain ! (fmOf 𝓤 H (W .laws) 𝓣) (wantedD ∷ datapointD ∷ []) boolD (is-wanted.clauses 𝓤 H A mem run) (known .is-wanted) (w, (d, tt)) tt (w-ok, (d-ok, tt)) (id⊢ 𝓤 _) (isWanted w d) (λ _ _. id⊢ 𝓤 _)
         (λ _. and-then ! (val ! (1 + loc 3) refl) (and-then ! (val ! (1 + loc 8) refl) (no-more !))) (λ _.
-        land ! (from ! (stop !)) (init ! (loc 14) refl (tt, tt)) $
-        both ! 𝓣 (val ! (loc 14) refl) (λ hit.
-        lets ! (loc 15) (addr ! (from ! (fld ! refl (hop ! (look-in ! (loc 4) (sub ! 0 refl (whole !))) (stop !))))) refl (tt, tt) $
-        lets ! (loc 16) (agg ! (and-then ! (val ! (loc 15) refl) (and-then ! (load ! (from ! (fld ! refl (stop !))) (look-in ! (loc 4) (sub ! 1 refl (whole !)))) (no-more !)))) refl (tt, (tt, (record { fits = gm .0 }, tt))) $
+        land ! (from ! (stop !)) (init ! (loc 15) refl (tt, tt)) $
+        both ! 𝓣 (val ! (loc 15) refl) (λ hit.
+        lets ! (loc 16) (bin ! (val ! (loc 6) refl) (lit ! tt) (record { fits = datapoint-offset-fits n i (gn .1) (lt small) })) refl (tt, record { fits = datapoint-offset-fits n i (gn .1) (lt small) }) $
+        lets ! (loc 17) (bin ! (load ! (from ! (fld ! refl (stop !))) (look-in ! (loc 1) (sub ! 0 refl (whole !)))) (val ! (loc 16) refl) tt) refl (tt, tt) $
+        rewrite ! (loc 17) (λ (j : ℕ). ‵ (fat fullShare tyPtr (l .1 .1 .1 .1 .1 .1 .1 .1 .1 .1 .1 .1 .1 .1 .1 .1 .1 .0) 0 (vptr b j))) (sym (offset-is 22 o i)) refl $
+        takes-at ! datapointD fullShare zs i zeroDatapoint b o (lt-zs small) (λ _.
+        lets ! (1 + loc 18) (of-opd ! (load ! (from ! (hop ! (look ! (1 + loc 17) refl) (stop !))) (look-raw ! 0 refl))) refl (typed 𝓤 H A datapointD W d d-ok .0) $
+        back-at ! datapointD fullShare zs i zeroDatapoint b o (lt-zs small) d-ok $
+        lets ! (loc 9) (of-opd ! (val ! (loc 18) refl)) refl (typed 𝓤 H A datapointD W d d-ok .0) $
+        calls-plain ! (fmOf 𝓤 H (W .laws) 𝓣) (wantedD ∷ datapointD ∷ []) datapointD (left-of.clauses 𝓤 H A mem run) (known .left-of) (w, (d, tt)) tt (w-ok, (d-ok, tt)) (id⊢ 𝓤 _) (leftOf w d) (λ _ _. id⊢ 𝓤 _)
+        (λ _. and-then ! (val ! (1 + loc 3) refl) (and-then ! (val ! (1 + loc 9) refl) (no-more !))) (λ left-ok.
+        land ! (from ! (stop !)) (store ! (loc 18) refl (typed 𝓤 H A datapointD W (leftOf w d) left-ok .0)) $
+        sets ! (loc 16) (bin ! (val ! (loc 6) refl) (lit ! tt) (record { fits = datapoint-offset-fits n i (gn .1) (lt small) })) refl (tt, record { fits = datapoint-offset-fits n i (gn .1) (lt small) }) $
+        lets ! (loc 19) (bin ! (load ! (from ! (fld ! refl (stop !))) (look-in ! (loc 1) (sub ! 0 refl (whole !)))) (val ! (loc 16) refl) tt) refl (tt, tt) $
+        rewrite ! (loc 19) (λ (j : ℕ). ‵ (fat fullShare tyPtr (l .1 .1 .1 .1 .1 .1 .1 .1 .1 .1 .1 .1 .1 .1 .1 .1 .1 .1 .1 .0) 0 (vptr b j))) (sym (offset-is 22 o i)) refl $
+        takes-at ! datapointD fullShare zs i zeroDatapoint b o (lt-zs small) (λ _.
+        assigns ! (of-opd ! (val ! (1 + loc 18) refl)) (from ! (hop ! (look ! (1 + loc 19) refl) (stop !))) (store-raw ! 0 refl (typed 𝓤 H A datapointD W (leftOf w d) left-ok .0)) $
+        puts-at ! datapointD fullShare zs i (leftOf w d) b o (lt-zs small) left-ok $
+        lets ! (loc 20) (addr ! (from ! (fld ! refl (hop ! (look-in ! (loc 4) (sub ! 0 refl (whole !))) (stop !))))) refl (tt, tt) $
+        lets ! (loc 21) (agg ! (and-then ! (val ! (loc 20) refl) (and-then ! (load ! (from ! (fld ! refl (stop !))) (look-in ! (loc 4) (sub ! 1 refl (whole !)))) (no-more !)))) refl (tt, (tt, (record { fits = gm .0 }, tt))) $
         move ! (1 ∷ 0 ∷ []) $
         calls-mutR ! (fmOf 𝓤 H (W .laws) 𝓣) byteD (placeD ∷ wantedD ∷ datapointD ∷ []) placeD (put-entry.clauses 𝓤 H A mem run) (known .put-entry) m bs (sym (putting .long)) (subst (Room (byteD .row)) (sym (putting .long)) gm) (λ _. (end, (w, (d, tt)))) (λ _ _. tt) (λ _. ((refl, end-fits), (w-ok, (d-ok, tt))))
         (λ _ _. factI 𝓤 _ (emp 𝓤) (code-fits d (here small .0), entry-fits out at all bs end es _ (wanted-putting small ahead hit))) (put bs end es) (end + length es) (λ _ _ _ _. id⊢ 𝓤 _)
-        (λ _ _ _. and-then ! (val ! (1 + loc 16) refl) (and-then ! (val ! (1 + loc 7) refl) (and-then ! (val ! (1 + loc 3) refl) (and-then ! (val ! (1 + loc 8) refl) (no-more !))))) (λ _ end-ok.
+        (λ _ _ _. and-then ! (val ! (1 + loc 21) refl) (and-then ! (val ! (1 + loc 7) refl) (and-then ! (val ! (1 + loc 3) refl) (and-then ! (val ! (1 + loc 9) refl) (no-more !))))) (λ _ end-ok.
         land ! (from ! (stop !)) (store ! (loc 7) refl (tt, record { fits = end-ok .1 })) $
         move ! (1 ∷ 0 ∷ []) $
-        calls-plain ! (fmOf 𝓤 H (W .laws) 𝓣) (wantedD ∷ datapointD ∷ []) datapointD (left-of.clauses 𝓤 H A mem run) (known .left-of) (w, (d, tt)) tt (w-ok, (d-ok, tt)) (id⊢ 𝓤 _) (leftOf w d) (λ _ _. id⊢ 𝓤 _)
-        (λ _. and-then ! (val ! (1 + loc 3) refl) (and-then ! (val ! (1 + loc 8) refl) (no-more !))) (λ left-ok.
-        land ! (from ! (stop !)) (init ! (loc 17) refl (typed 𝓤 H A datapointD W (leftOf w d) left-ok .0)) $
-        lets ! (loc 18) (bin ! (val ! (loc 6) refl) (lit ! tt) (record { fits = datapoint-offset-fits n i (gn .1) (lt small) })) refl (tt, record { fits = datapoint-offset-fits n i (gn .1) (lt small) }) $
-        lets ! (loc 19) (bin ! (load ! (from ! (fld ! refl (stop !))) (look-in ! (loc 1) (sub ! 0 refl (whole !)))) (val ! (loc 18) refl) tt) refl (tt, tt) $
-        rewrite ! (loc 19) (λ (j : ℕ). ‵ (fat fullShare tyPtr (l .1 .1 .1 .1 .1 .1 .1 .1 .1 .1 .1 .1 .1 .1 .1 .1 .1 .1 .1 .0) 0 (vptr b j))) (sym (offset-is 22 o i)) refl $
-        takes-at ! datapointD fullShare zs i zeroDatapoint b o (lt-zs small) (λ _.
-        assigns ! (of-opd ! (val ! (1 + loc 17) refl)) (from ! (hop ! (look ! (1 + loc 19) refl) (stop !))) (store-raw ! 0 refl (typed 𝓤 H A datapointD W (leftOf w d) left-ok .0)) $
-        puts-at ! datapointD fullShare zs i (leftOf w d) b o (lt-zs small) left-ok $
         assigns-last ! (bin ! (val ! (loc 6) refl) (lit ! tt) (record { fits = fits-next i n (gn .0) (lt small) })) (from ! (stop !)) (store ! (loc 6) refl (tt, record { fits = fits-next i n (gn .0) (lt small) })) $
-        forget ! (loc 8) refl $ forget ! (loc 9) refl $ forget ! (loc 10) refl $ forget ! (loc 11) refl $ forget ! (loc 12) refl $ forget ! (loc 13) refl $ forget ! (loc 14) refl $ forget ! (loc 15) refl $ forget ! (loc 16) refl $ forget ! (loc 17) refl $ forget ! (loc 18) refl $ forget ! (loc 19) refl $
+        forget ! (loc 8) refl $ forget ! (loc 9) refl $ forget ! (loc 10) refl $ forget ! (loc 11) refl $ forget ! (loc 12) refl $ forget ! (loc 13) refl $ forget ! (loc 14) refl $ forget ! (loc 15) refl $ forget ! (loc 16) refl $ forget ! (loc 17) refl $ forget ! (loc 18) refl $ forget ! (loc 19) refl $ forget ! (loc 20) refl $ forget ! (loc 21) refl $
         again ! ≺ Inv s (
           i + 1,
           end + length es,
@@ -212,10 +219,10 @@ module _ {M : Type 1} (𝓤 : URA M) (H : Heap 𝓤) (A : Atoms 𝓤) (W : Given
             left-wanted past (isWanted w) zeroDatapoint zs i (leftOf w) (lt-zs small) ahead hit ∙ s .4 .3,
             subst (λ (r : List Datapoint). Putting out at all (put bs end es) (end + length es) (datapointsBuilt w r)) (sym (drop-set zs i (leftOf w d))) (putting-next out at all bs end es _ (wanted-putting small ahead hit)),
           ),
-        ) (omega (arith, lt small))))))
+        ) (omega (arith, lt small)))))))
         (λ miss.
         assigns-last ! (bin ! (val ! (loc 6) refl) (lit ! tt) (record { fits = fits-next i n (gn .0) (lt small) })) (from ! (stop !)) (store ! (loc 6) refl (tt, record { fits = fits-next i n (gn .0) (lt small) })) $
-        forget ! (loc 8) refl $ forget ! (loc 9) refl $ forget ! (loc 10) refl $ forget ! (loc 11) refl $ forget ! (loc 12) refl $ forget ! (loc 13) refl $ forget ! (loc 14) refl $
+        forget ! (loc 8) refl $ forget ! (loc 10) refl $ forget ! (loc 11) refl $ forget ! (loc 12) refl $ forget ! (loc 13) refl $ forget ! (loc 14) refl $ forget ! (loc 15) refl $
         again ! ≺ Inv s (
           i + 1,
           end,
@@ -231,7 +238,7 @@ module _ {M : Type 1} (𝓤 : URA M) (H : Heap 𝓤) (A : Atoms 𝓤) (W : Given
         ) (omega (arith, lt small))))))))
         (λ big. exec ! (𝓣 .C) (𝓣 .Λ) En part.t-4 (atRet En Done) $ lets ! (loc 0) (of-opd ! (val ! (loc 7) refl)) refl (tt, record { fits = end-fits }) $
         move ! (0 ∷ 2 ∷ []) $ closed-slice ! tt datapointD n ys zs b o refl (s .4 .1) gn $ move ! (2 ∷ 3 ∷ []) $ closed-slice ! tt byteD m out bs b′ o′ refl (putting .long) gm $ move ! (2 ∷ 3 ∷ []) $
-        returns ! (look ! (loc 0) refl) $ behind ! 4 $ frees-all ! (room ∷ room ∷ room ∷ room ∷ room ∷ room ∷ room ∷ room ∷ room ∷ cell ∷ cell ∷ room ∷ cell ∷ cell ∷ cell ∷ cell ∷ cell ∷ cell ∷ cell ∷ cell ∷ []) _ $
+        returns ! (look ! (loc 0) refl) $ behind ! 4 $ frees-all ! (room ∷ room ∷ room ∷ room ∷ room ∷ room ∷ room ∷ room ∷ room ∷ room ∷ cell ∷ cell ∷ room ∷ room ∷ cell ∷ cell ∷ cell ∷ cell ∷ cell ∷ cell ∷ cell ∷ cell ∷ []) _ $
         by ! (exits end zs bs end-fits (s .4 .1) (putting .long) (left-end past (isWanted w) zeroDatapoint zs i (leftOf w) (ge big) ∙ s .4 .3) (stopped (built-end past (isWanted w) zeroDatapoint zs i (entryOf w) (ge big)))))
       where
         i : ℕ
@@ -285,10 +292,10 @@ module _ {M : Type 1} (𝓤 : URA M) (H : Heap 𝓤) (A : Atoms 𝓤) (W : Given
   walk : Walk 2 𝓤 H A W ps placeD (f.clauses 𝓤 H A mem run) 𝓣 code.function (κ, (κ′, tt)) (q, (q′, tt)) x tt
   walk =
       starts 𝓤 H A W 2 ps (κ, (κ′, tt)) (q, (q′, tt)) x ∵ enter ! (𝓣 .C) (𝓣 .Λ) code.function _ _ $ allocs-all ! (code.function .locals) (λ l. params1 ! $
-      pass1 ! (init ! 36 refl (tt, (tt, (record { fits = gn .0 }, tt)))) $ pass1 ! (init ! 34 refl (tt, record { fits = start-ok .1 })) $ pass1 ! (init ! 32 refl (typed 𝓤 H A wantedD W w w-ok .0)) $
-      pass1 ! (init ! 30 refl (tt, (tt, (record { fits = gm .0 }, tt)))) $ pass1 ! (init ! 28 refl (tt, record { fits = at-ok .1 })) $ pass0 ! $
-      lets ! 26 (of-opd ! (val ! 34 refl)) refl (tt, record { fits = start-ok .1 }) $ lets ! 24 (of-opd ! (val ! 28 refl)) refl (tt, record { fits = at-ok .1 }) $
-      move ! (42 ∷ 40 ∷ []) $ opened-slice ! tt datapointD n ys b o refl (λ _. move ! (45 ∷ 42 ∷ []) $ opened-slice ! tt byteD m out b′ o′ refl (λ _. move ! (2 ∷ 0 ∷ 3 ∷ 1 ∷ []) $ begins l)))
+      pass1 ! (init ! 40 refl (tt, (tt, (record { fits = gn .0 }, tt)))) $ pass1 ! (init ! 38 refl (tt, record { fits = start-ok .1 })) $ pass1 ! (init ! 36 refl (typed 𝓤 H A wantedD W w w-ok .0)) $
+      pass1 ! (init ! 34 refl (tt, (tt, (record { fits = gm .0 }, tt)))) $ pass1 ! (init ! 32 refl (tt, record { fits = at-ok .1 })) $ pass0 ! $
+      lets ! 30 (of-opd ! (val ! 38 refl)) refl (tt, record { fits = start-ok .1 }) $ lets ! 28 (of-opd ! (val ! 32 refl)) refl (tt, record { fits = at-ok .1 }) $
+      move ! (46 ∷ 44 ∷ []) $ opened-slice ! tt datapointD n ys b o refl (λ _. move ! (49 ∷ 46 ∷ []) $ opened-slice ! tt byteD m out b′ o′ refl (λ _. move ! (2 ∷ 0 ∷ 3 ∷ 1 ∷ []) $ begins l)))
 
 pub build-datapoints-spec : {M : Type 1} → stated.statement M
 unfolding code.routine tablesOf
