@@ -136,6 +136,10 @@ reported-fits room (d ∷ ds) = go (d .mark) (leb (needs d) room) refl refl (rep
     go true true e c r =
         simp (e, c) (omega (arith, simp (e, c) at r, leb-true (needs d) room c, length-append (valueEntry d .bytes) (chosenBytes (room - needs d) ds)))
 
+pub entries-fit : (room : ℕ) (ds : List Datapoint) → length (entryBytes (map valueEntry (reported (choices room ds)))) ≤ room
+unfolding chosenBytes
+entries-fit room ds = reported-fits room ds
+
 pub indication-sized : (t : Tables) → Sized (indication t .says)
 unfolding indication chosenBytes
 indication-sized t = go (reported (choices roomForEntries (t .datapoints))) (reported-fits roomForEntries (t .datapoints))

@@ -33,7 +33,7 @@ is-passed : {X : Type 0} (y : Bool) (a b : X) → T (not y) → (if y then a els
 is-passed true a b t = absurd t
 is-passed false a b t = refl
 
-drop-next : {A : Type 0} (xs : List A) (i : ℕ) (blank : A) → i < length xs → drop i xs ≡ getD xs i blank ∷ drop (i + 1) xs
+pub drop-next : {A : Type 0} (xs : List A) (i : ℕ) (blank : A) → i < length xs → drop i xs ≡ getD xs i blank ∷ drop (i + 1) xs
 drop-next xs i blank l = drop-step xs i blank l ∙ ap (λ (k : ℕ). getD xs i blank ∷ drop k xs) (sym (add-one i))
 
 -- a record put in place i: it is the last of the first i + 1, and those behind it stay
@@ -52,10 +52,10 @@ drop-suc [] i y = refl
 drop-suc (x ∷ xs) zero y = refl
 drop-suc (x ∷ xs) (suc i) y = drop-suc xs i y
 
-take-next : {A : Type 0} (xs : List A) (i : ℕ) (blank : A) (r : List A) → i < length xs → take (i + 1) xs ++ r ≡ take i xs ++ (getD xs i blank ∷ r)
+pub take-next : {A : Type 0} (xs : List A) (i : ℕ) (blank : A) (r : List A) → i < length xs → take (i + 1) xs ++ r ≡ take i xs ++ (getD xs i blank ∷ r)
 take-next xs i blank r l = ap (λ (k : ℕ). take k xs ++ r) (add-one i) ∙ take-suc xs i blank r l
 
-take-set : {A : Type 0} (xs : List A) (i : ℕ) (y : A) (r : List A) → i < length xs → take (i + 1) (set xs i y) ++ r ≡ take i xs ++ (y ∷ r)
+pub take-set : {A : Type 0} (xs : List A) (i : ℕ) (y : A) (r : List A) → i < length xs → take (i + 1) (set xs i y) ++ r ≡ take i xs ++ (y ∷ r)
 take-set xs i y r l = ap (λ (k : ℕ). take k (set xs i y) ++ r) (add-one i) ∙ set-suc xs i y r l
 
 pub drop-set : {A : Type 0} (xs : List A) (i : ℕ) (y : A) → drop (i + 1) (set xs i y) ≡ drop (i + 1) xs

@@ -16,6 +16,8 @@ use Rattle.services.proofs.gather.Wanted as W
 use Rattle.services.proofs.gather.Wanted.Laws as W′
 use Rattle.services.proofs.gather.Gathered as G
 use Rattle.services.proofs.gather.Gathered.Laws as G′
+use Rattle.services.proofs.indication.Told as Said
+use Rattle.services.proofs.indication.Told.Laws as Said′
 use Rattle.services.proofs.message.Verdict as Judged
 use Rattle.services.proofs.message.Verdict.Laws as Judged′
 use Rattle.walks.proofs.Data.{Data, Good, structD, uintD}
@@ -31,6 +33,9 @@ wantedD = structD W.the-type W′.the-laws W′.the-plain (λ x f. refl)
 
 abbrev pub gatheredD : Data
 gatheredD = structD G.the-type G′.the-laws G′.the-plain (λ x f. refl)
+
+abbrev pub toldD : Data
+toldD = structD Said.the-type Said′.the-laws Said′.the-plain (λ x f. refl)
 
 abbrev pub verdictD : Data
 verdictD = structD Judged.the-type Judged′.the-laws Judged′.the-plain (λ x f. refl)
@@ -66,3 +71,6 @@ fits-next i n g l = omega (arith, g, l)
 -- no fault
 pub zero-verdict : Good verdictD (record { id = 0; code = 0 })
 zero-verdict = LL.owes Judged.the-type Judged′.the-laws (record { id = 0; code = 0 }) ((refl, lit< tt), ((refl, lit< tt), tt))
+
+pub told-good : (c e : ℕ) → c < 2 ^ 16 → e < 2 ^ 64 → Good toldD (record { count = c; end = e })
+told-good c e f g = LL.owes Said.the-type Said′.the-laws (record { count = c; end = e }) ((refl, f), ((refl, g), tt))

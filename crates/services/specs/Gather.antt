@@ -2,7 +2,7 @@
 -- cite these; what an answer has to be is said by Get and Indication.
 use Prim.Native.Nat.{ℕ, _+_, _-_}
 use mathlib.Core.Bool.{Bool, true, false, not, _&&_, _||_}
-use mathlib.Core.List.{List, [], _∷_, _++_}
+use mathlib.Core.List.{List, [], _∷_, _++_, map, flatten}
 use lib.ListN.{length}
 use lib.Dec.{leb, ltb, eqb}
 use Rattle.link.specs.Words.{if_then_else_}
@@ -15,7 +15,7 @@ use Rattle.services.specs.declared.message.Verdict.{Verdict}
 use Rattle.services.specs.Table.{Tables}
 use Rattle.services.specs.Message.{startOf, numberOf, filterOf, Finding, fine, bad, Served}
 use Rattle.services.specs.Get.{AnswerEntry, roomForEntries, itemEntry, descriptionEntry, getDatapointDescription, valueEntry, passes, getDatapointValue}
-use Rattle.services.specs.Get.{AnswerEntry, roomForEntries, itemEntry, descriptionEntry, getDatapointDescription, valueEntry, passes, getDatapointValue}
+use Rattle.services.specs.Indication.{Choice, reported}
 
 -- ---- which records, and what is said of one and left of it
 -- behind the range, as all records after it are
@@ -131,10 +131,7 @@ itemsBuilt w is = built (λ (i : Item). isBehind w (i .id)) (λ (i : Item). isWi
 unfoldable pub getDatapoints : Bool → Tables → List ℕ → Served
 getDatapoints values t m = if values then getDatapointValue t m else getDatapointDescription t m
 
--- ---- an indication around the two passes
-abbrev pub markedWanted : Wanted
-markedWanted = record { start = 0; end = 0x1_0000; filter = 0; values = true; marked = true }
-
--- the first that does not fit, and all after it, wait
-unfoldable pub fittingOf : Gathered → Wanted
-fittingOf g = record { start = 0; end = if eqb (g .over) 0 then 0x1_0000 else g .over; filter = 0; values = true; marked = true }
+-- ---- an indication
+-- the bytes of the entries that it carries
+abbrev pub entriesTold : List Choice → List ℕ
+entriesTold cs = flatten (map (λ (e : AnswerEntry). e .bytes) (map valueEntry (reported cs)))

@@ -1,43 +1,67 @@
 // DatapointValue.Ind: marked datapoints in rising ID, while they fit.
 ghost use mathlib.Core.Path.{_≡_};
-ghost use mathlib.Core.Bool.{true};
-ghost use Prim.Native.Nat.{_+_, _≤_};
+ghost use mathlib.Core.Bool.{true, not};
+ghost use Prim.Native.Nat.{_+_, _-_, _≤_};
 ghost use lib.ListN.{length};
+ghost use lib.Dec.{leb};
 ghost use Rattle.link.specs.Words.{put};
 ghost use Rattle.services.specs.Datapoint.{datapointId, datapointOk};
 ghost use Rattle.services.specs.Table.{datapointsOnly, tableOk};
-ghost use Rattle.services.specs.Gather.{markedWanted, fittingOf};
-ghost use Rattle.services.specs.Indication.{indication};
+ghost use Rattle.services.specs.Get.{roomForEntries};
+ghost use Rattle.services.specs.Gather.{entriesTold};
+ghost use Rattle.services.specs.Indication.{needs, choices, reported, afterReport, indication};
 use crate::datapoint::Datapoint;
-use crate::gather::Gathered;
-use crate::gather::Wanted;
-use crate::gather::build_datapoints;
-use crate::gather::measure_datapoints;
+use crate::datapoint::put_value;
+use crate::datapoint::reported;
+use crate::datapoint::size_of;
 use crate::message::put_indication_head;
 
-// All that is marked.
-fn marked_wanted() -> Wanted
-    ensures { λ r. ⌜ r ≡ markedWanted ⌝ }
-{
-    Wanted {
-        start: 0,
-        end: 0x10000,
-        filter: 0,
-        values: true,
-        marked: true,
-    }
+// How many datapoints an indication carries, and where their entries end.
+pub struct Told {
+    pub count: u16,
+    pub end: usize,
 }
 
-// What is marked and fits: the first that does not fit, and all after it, wait.
-fn fitting(g: Gathered) -> Wanted
-    ensures { λ r. ⌜ r ≡ fittingOf g ⌝ }
+// Whether a marked datapoint has to wait: its entry does not fit between `end` and `most`.
+fn waits(d: Datapoint, end: usize, most: usize) -> bool
+    requires { ⌜ (d .typecode ≤ 14) × (end ≤ most) ⌝ }
+    ensures { λ r. ⌜ r ≡ not (leb (needs d) (most - end)) ⌝ }
 {
-    let mut w = marked_wanted();
-    if g.over == 0 {
-        return w;
+    most - end < 4 + size_of(d.typecode)
+}
+
+// The entries of the marked datapoints, into the buffer at `at`, until the next one does not fit; each record that is carried is left without its mark and
+// bit 3. One pass: what does not fit ends it, and nothing has to be taken back.
+pub fn tell_marked(table: &mut [Datapoint], out: &mut [u8], at: usize) -> Told
+    requires { ⌜ (tableOk 1000 datapointId datapointOk (now table) ≡ true) × (at + 248 ≤ length (now out)) ⌝ }
+    ensures { λ r. ⌜ (now (table .exit) ≡ afterReport (choices roomForEntries (now (table .entry))))
+        × (now (out .exit) ≡ put (now (out .entry)) at (entriesTold (choices roomForEntries (now (table .entry)))))
+        × (r .count ≡ length (reported (choices roomForEntries (now (table .entry)))))
+        × (r .end ≡ at + length (entriesTold (choices roomForEntries (now (table .entry))))) ⌝ }
+{
+    let most = at + 248;
+    let mut i: usize = 0;
+    let mut end = at;
+    let mut count: u16 = 0;
+    while i < table.len() {
+        if table[i].mark {
+            let d = table[i];
+            if waits(d, end, most) {
+                return Told {
+                    count: count,
+                    end: end,
+                };
+            }
+            end = put_value(out, end, d);
+            table[i] = reported(d);
+            count += 1;
+        }
+        i += 1;
     }
-    w.end = g.over as u32;
-    w
+    Told {
+        count: count,
+        end: end,
+    }
 }
 
 // One indication, into the buffer at `at`; answers where it ends. Where nothing is marked nothing is said.
@@ -47,13 +71,10 @@ pub fn indicate(table: &mut [Datapoint], out: &mut [u8], at: usize) -> usize
         × (now (out .exit) ≡ put (now (out .entry)) at (indication (datapointsOnly (now (table .entry))) .says))
         × (r ≡ at + length (indication (datapointsOnly (now (table .entry))) .says)) ⌝ }
 {
-    let w = marked_wanted();
-    let g = measure_datapoints(table, 0, w);
-    if g.count == 0 {
+    let told = tell_marked(table, out, at + 6);
+    if told.count == 0 {
         return at;
     }
-    let f = fitting(g);
-    let end = build_datapoints(table, 0, f, out, at + 6);
-    put_indication_head(out, at, g.count);
-    end
+    put_indication_head(out, at, told.count);
+    told.end
 }
