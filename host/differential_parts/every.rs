@@ -1,0 +1,524 @@
+//! The first episode: one thing at a time goes through all its values.
+
+use crate::bench::{Bench, NO_EVENT};
+use crate::frames;
+use crate::lent::Call;
+use crate::plain::{Datapoint, Item, Server};
+use crate::tables::{self, SIZES};
+
+const NAME: &str = "every value, one thing at a time, by calls";
+
+pub fn lists() -> Vec<(&'static str, Vec<&'static str>)> {
+    vec![(NAME, EVERY.iter().map(|(label, _)| *label).collect())]
+}
+
+const EVERY: [(&str, fn(&mut Bench)); 20] = [
+    ("room 0 to 263, each event", rooms),
+    ("event 0 to 255, outcome 0 to 255", events),
+    ("host byte at each place of a frame", bytes_in_frames),
+    ("control byte", controls),
+    ("C", fixed_frames),
+    ("L", lengths),
+    ("each byte of a frame lost, doubled, or the last before an idle mark", faults),
+    ("sub, each size up to 14", subs),
+    ("first byte of a message", first_bytes),
+    ("filter", filters),
+    ("command, each type, each length up to 16", commands),
+    ("value of 1 to 7 bits, each command", narrow_values),
+    ("bus value of 1 to 7 bits; each length up to 16", bus_values),
+    ("state byte, each event and command", states),
+    ("start and number around the IDs of a table", ranges),
+    ("start and number around 65535", ranges_at_the_end),
+    ("number of entries", entry_counts),
+    ("each bit of a datapoint", datapoint_bits),
+    ("each bit of an item", item_bits),
+    ("each bit and count of a link record", link_bits),
+];
+
+/// All of them, each on small tables of its own.
+pub fn episode(bench: &mut Bench) {
+    for (label, every) in EVERY {
+        bench.server = small(bench);
+        bench.lend_anew();
+        let calls = bench.calls;
+        every(bench);
+        bench.counts.add(NAME, label, bench.calls - calls);
+    }
+}
+
+/// A datapoint of each type, an item of each length, twenty parameter bytes.
+fn small(bench: &mut Bench) -> Server {
+    let random = &mut bench.random;
+    let datapoints = (0..15)
+        .map(|typecode| {
+            let mut value = [0; 14];
+            value[..SIZES[usize::from(typecode)]].copy_from_slice(&tables::value(random, typecode));
+            let (flags, dpt, state) = (random.byte(), random.byte(), random.byte() & 0x1F);
+            Datapoint { id: 10 + u16::from(typecode) * 3, typecode, flags, dpt, state, value, mark: random.coin() }
+        })
+        .collect();
+    let items = (1..=16)
+        .map(|size| {
+            let mut bytes = [0; 16];
+            random.fill(&mut bytes[..size]);
+            Item { id: 5 + 2 * size as u16, size: size as u8, writable: size % 3 != 0, bytes }
+        })
+        .collect();
+    Server { datapoints, items, parameters: random.bytes(20), link: frames::fresh() }
+}
+
+/// A call with tables and link record as they were before the last.
+fn once(bench: &mut Bench, before: &Server, call: Call) -> Result<Vec<u8>, i32> {
+    bench.server = before.clone();
+    bench.lend();
+    bench.call(&call)
+}
+
+fn byte(byte: u8) -> Call {
+    Call { event: 1, byte, id: 0, outcome: 0, value: Vec::new(), room: 262 }
+}
+
+/// The message arrives with the expected bit, nothing outstanding, on tables as they were before.
+fn ask(bench: &mut Bench, before: &Server, message: &[u8]) -> Result<Vec<u8>, i32> {
+    let mut server = before.clone();
+    server.link = frames::fresh();
+    server.link.expected = bench.random.coin();
+    server.link.send = bench.random.coin();
+    let frame = frames::data(frames::host_control(server.link.expected), message);
+    frames::set_receiver(&mut server.link, &frame[..frame.len() - 1]);
+    once(bench, &server, byte(0x16))
+}
+
+/// Something outstanding.
+fn hold(bench: &mut Bench, server: &mut Server) {
+    let frame = frames::server_frame(&mut bench.random, server.link.send);
+    frames::set_outstanding(&mut server.link, &frame);
+    server.link.resends = bench.random.below(4) as u8;
+}
+
+fn rooms(bench: &mut Bench) {
+    let before = bench.server.clone();
+    for room in 0..=263 {
+        for event in 1..=6 {
+            let value = tables::value(&mut bench.random, 14);
+            let call = Call { event, byte: 0xE5, id: 52, outcome: 1, value, room };
+            let answer = once(bench, &before, call);
+            if answer.as_ref().err().copied() != (room < 262).then_some(-3) {
+                bench.missed("3 for a room below 262", &answer);
+            }
+        }
+    }
+}
+
+fn events(bench: &mut Bench) {
+    let before = bench.server.clone();
+    for event in 0..=255 {
+        for outcome in 0..=255 {
+            if event == 6 || outcome < 4 {
+                let call = Call { event, byte: 0x68, id: 10, outcome, value: vec![1], room: 262 };
+                let answer = once(bench, &before, call);
+                let is_event = (1..=5).contains(&event) || (event == 6 && outcome < 3);
+                if answer.as_ref().err().copied() != (!is_event).then_some(NO_EVENT) {
+                    bench.missed("-100 where there is no event", &answer);
+                }
+            }
+        }
+    }
+}
+
+fn bytes_in_frames(bench: &mut Bench) {
+    let mut before = bench.server.clone();
+    let longest = bench.random.bytes(254);
+    let sound = [
+        frames::data(0x73, &[0xF0, 1, 0, 7, 0, 1]),
+        frames::data(0x53, &[]),
+        frames::data(0x73, &longest),
+        frames::fixed(frames::RESET),
+        frames::fixed(0x16),
+    ];
+    for frame in sound {
+        for place in (0..frame.len()).filter(|place| *place < 8 || *place + 3 > frame.len()) {
+            for held in [false, true] {
+                before.link = frames::fresh();
+                if held {
+                    hold(bench, &mut before);
+                }
+                frames::set_receiver(&mut before.link, &frame[..place]);
+                for given in 0..=255 {
+                    let _ = once(bench, &before, byte(given));
+                }
+            }
+        }
+    }
+    before.link = frames::fresh();
+    before.link.dropping = true;
+    hold(bench, &mut before);
+    for given in 0..=255 {
+        let _ = once(bench, &before, byte(given));
+    }
+}
+
+fn controls(bench: &mut Bench) {
+    let mut before = bench.server.clone();
+    for control in 0..=255 {
+        for kind in 0..8 {
+            before.link = frames::fresh();
+            before.link.expected = kind & 1 != 0;
+            before.link.send = kind & 2 != 0;
+            if kind & 4 != 0 {
+                hold(bench, &mut before);
+            }
+            let frame = frames::data(control, &[0xF0, 5, 0, 10, 0, 5, 0]);
+            frames::set_receiver(&mut before.link, &frame[..frame.len() - 1]);
+            let _ = once(bench, &before, byte(0x16));
+        }
+    }
+}
+
+fn fixed_frames(bench: &mut Bench) {
+    let mut before = bench.server.clone();
+    for c in 0..=255 {
+        for kind in 0..8 {
+            before.link = frames::fresh();
+            before.link.expected = kind & 1 != 0;
+            before.link.send = kind & 2 != 0;
+            if kind & 4 != 0 {
+                hold(bench, &mut before);
+            }
+            frames::set_receiver(&mut before.link, &frames::fixed(c)[..3]);
+            let _ = once(bench, &before, byte(0x16));
+        }
+    }
+}
+
+fn lengths(bench: &mut Bench) {
+    let before = bench.server.clone();
+    for length in 0..=254 {
+        for first in [0xF0, 0xF1] {
+            let mut message = bench.random.bytes(length);
+            if length > 1 {
+                message[0] = first;
+                message[1] = 0x7E;
+            }
+            let _ = ask(bench, &before, &message);
+            // byte by byte
+            bench.server.link = frames::fresh();
+            bench.lend_link();
+            if first == 0xF0 && (length < 9 || length > 250) {
+                for given in frames::data(0x73, &message) {
+                    bench.byte(given);
+                }
+            }
+        }
+    }
+}
+
+fn faults(bench: &mut Bench) {
+    let mut before = bench.server.clone();
+    let sound = [frames::data(0x73, &[0xF0, 6, 0, 10, 0, 1, 0, 10, 3, 1, 1]), frames::fixed(frames::RESET)];
+    for frame in sound {
+        for held in [false, true] {
+            before.link = frames::fresh();
+            if held {
+                hold(bench, &mut before);
+            }
+            for place in 0..frame.len() {
+                for fault in 0..3 {
+                    bench.server = before.clone();
+                    bench.lend();
+                    for (at, given) in frame.iter().enumerate() {
+                        if !(fault == 0 && at == place) {
+                            bench.byte(*given);
+                        }
+                        if fault == 1 && at == place {
+                            bench.byte(*given);
+                        }
+                        if fault == 2 && at == place {
+                            bench.idle_mark();
+                        }
+                    }
+                    bench.idle_mark();
+                    for given in &frame {
+                        bench.byte(*given);
+                    }
+                }
+            }
+        }
+    }
+}
+
+fn subs(bench: &mut Bench) {
+    let before = bench.server.clone();
+    for sub in 0..=255 {
+        for size in 2..=14 {
+            for number in [0, 1, 2] {
+                let mut message = vec![0xF0, sub, 0, 10, 0, number, 0, 10, 1, 1, 0, 13, 1, 1];
+                message.truncate(size);
+                let _ = ask(bench, &before, &message);
+            }
+        }
+    }
+}
+
+fn first_bytes(bench: &mut Bench) {
+    let before = bench.server.clone();
+    for first in 0..=255 {
+        let _ = ask(bench, &before, &[first, 1, 0, 7, 0, 1]);
+    }
+}
+
+fn filters(bench: &mut Bench) {
+    let before = bench.server.clone();
+    for filter in 0..=255 {
+        let _ = ask(bench, &before, &[0xF0, 5, 0, 10, 0, 100, filter]);
+    }
+}
+
+fn commands(bench: &mut Bench) {
+    let before = bench.server.clone();
+    for command in 0..=255 {
+        for datapoint in &before.datapoints {
+            for length in 0..=16 {
+                let mut message = vec![0xF0, 6, 0, 1, 0, 1, 0, datapoint.id as u8, command, length as u8];
+                message.extend(vec![1; length]);
+                let _ = ask(bench, &before, &message);
+            }
+        }
+    }
+}
+
+fn narrow_values(bench: &mut Bench) {
+    let before = bench.server.clone();
+    for datapoint in &before.datapoints[..8] {
+        for value in 0..=255 {
+            for command in 0..=5 {
+                let _ = ask(bench, &before, &[0xF0, 6, 0, 1, 0, 1, 0, datapoint.id as u8, command, 1, value]);
+            }
+        }
+    }
+}
+
+fn bus_values(bench: &mut Bench) {
+    let before = bench.server.clone();
+    for datapoint in &before.datapoints {
+        let call = |value: Vec<u8>| Call { event: 5, byte: 0, id: datapoint.id, outcome: 0, value, room: 262 };
+        for length in 0..=16 {
+            let _ = once(bench, &before, call(vec![1; length]));
+        }
+        for value in 0..=255 {
+            let mut bytes = vec![0xFF; SIZES[usize::from(datapoint.typecode)]];
+            bytes[0] = value;
+            let _ = once(bench, &before, call(bytes));
+        }
+    }
+    for id in (0..=65).chain(65530..=65535) {
+        let _ = once(bench, &before, Call { event: 5, byte: 0, id, outcome: 0, value: vec![1], room: 262 });
+        let _ = once(bench, &before, Call { event: 6, byte: 0, id, outcome: 2, value: Vec::new(), room: 262 });
+    }
+}
+
+fn states(bench: &mut Bench) {
+    let mut before = bench.server.clone();
+    before.datapoints.truncate(8);
+    for kind in 0..64 {
+        for datapoint in &mut before.datapoints {
+            datapoint.state = kind & 0x1F;
+            datapoint.mark = kind >= 32;
+        }
+        before.link = frames::fresh();
+        for command in 0..=5 {
+            let _ = ask(bench, &before, &[0xF0, 6, 0, 31, 0, 1, 0, 31, command, 0]);
+            let _ = ask(bench, &before, &[0xF0, 6, 0, 31, 0, 1, 0, 31, command, 1, 0xA5]);
+            for next in 0..=5 {
+                let _ = ask(bench, &before, &[0xF0, 6, 0, 31, 0, 2, 0, 31, command, 1, 0xA5, 0, 31, next, 1, 0x5A]);
+            }
+        }
+        for outcome in 0..=2 {
+            let _ = once(bench, &before, Call { event: 6, byte: 0, id: 31, outcome, value: Vec::new(), room: 262 });
+        }
+        let _ = once(bench, &before, Call { event: 5, byte: 0, id: 31, outcome: 0, value: vec![7], room: 262 });
+        let _ = once(bench, &before, Call { event: 4, byte: 0, id: 0, outcome: 0, value: Vec::new(), room: 262 });
+        for filter in 0..=2 {
+            let _ = ask(bench, &before, &[0xF0, 5, 0, 31, 0, 1, filter]);
+        }
+    }
+}
+
+fn get(sub: u8, start: u16, number: u16, filter: u8) -> Vec<u8> {
+    let (start, number) = (start.to_be_bytes(), number.to_be_bytes());
+    let mut message = vec![0xF0, sub, start[0], start[1], number[0], number[1]];
+    if sub == 5 {
+        message.push(filter);
+    }
+    message
+}
+
+fn ranges(bench: &mut Bench) {
+    let before = bench.server.clone();
+    for start in 0..=60 {
+        for number in 0..=24 {
+            for sub in [1, 3, 5, 7] {
+                let filter = bench.random.below(3) as u8;
+                let _ = ask(bench, &before, &get(sub, start, number, filter));
+            }
+        }
+    }
+}
+
+fn ranges_at_the_end(bench: &mut Bench) {
+    let mut before = bench.server.clone();
+    for with_last in [false, true] {
+        before.datapoints.truncate(5);
+        before.items.truncate(5);
+        for (at, id) in [1, 65530, 65532, 65533, if with_last { 65535 } else { 65534 }].into_iter().enumerate() {
+            before.datapoints[at].id = id;
+            before.items[at].id = id;
+        }
+        for start in (0..=2).chain(65528..=65535) {
+            for number in (0..=9).chain(65525..=65535) {
+                for sub in [1, 3, 5, 7] {
+                    let _ = ask(bench, &before, &get(sub, start, number, 0));
+                }
+            }
+        }
+    }
+}
+
+fn entry_counts(bench: &mut Bench) {
+    let mut before = bench.server.clone();
+    for count in 0..=257 {
+        let (datapoints, items) = (count.min(70), count.min(66));
+        before.parameters = bench.random.bytes(count);
+        before.items = tables::items(&mut bench.random, items);
+        before.datapoints = tables::datapoints(&mut bench.random, datapoints);
+        for at in 0..datapoints {
+            before.datapoints[at].typecode = 7;
+            before.datapoints[at].value = [0; 14];
+            before.datapoints[at].mark = true;
+        }
+        for sub in [1, 3, 5, 7] {
+            for start in [0, 1] {
+                let _ = ask(bench, &before, &get(sub, start, 65535, 0));
+            }
+        }
+        before.link = frames::fresh();
+        let _ = once(bench, &before, Call { event: 4, byte: 0, id: 0, outcome: 0, value: Vec::new(), room: 262 });
+    }
+    for count in [999, 1000, 1001] {
+        before.parameters.clear();
+        before.items.clear();
+        before.datapoints = tables::datapoints(&mut bench.random, count);
+        before.link = frames::fresh();
+        for event in 1..=4 {
+            let _ = once(bench, &before, Call { event, byte: 0x68, id: 0, outcome: 0, value: Vec::new(), room: 262 });
+        }
+    }
+}
+
+/// Any call that looks at nothing more.
+const IDLE: Call = Call { event: 2, byte: 0, id: 0, outcome: 0, value: Vec::new(), room: 262 };
+
+fn datapoint_bits(bench: &mut Bench) {
+    let before = bench.server.clone();
+    for at in 0..before.datapoints.len() {
+        for bit in 0..8 {
+            for place in 0..14 {
+                let mut server = before.clone();
+                server.datapoints[at].value[place] ^= 1 << bit;
+                let _ = once(bench, &server, IDLE);
+            }
+            for field in 0..6 {
+                let mut server = before.clone();
+                let datapoint = &mut server.datapoints[at];
+                match field {
+                    0 => datapoint.state ^= 1 << bit,
+                    1 => datapoint.typecode ^= 1 << bit,
+                    2 => datapoint.flags ^= 1 << bit,
+                    3 => datapoint.dpt ^= 1 << bit,
+                    4 => datapoint.id ^= 1 << bit,
+                    _ => datapoint.id ^= 0x100 << bit,
+                }
+                let _ = once(bench, &server, IDLE);
+            }
+        }
+        for number in 0..=255 {
+            for zero in [false, true] {
+                let mut server = before.clone();
+                if zero {
+                    server.datapoints[at].value = [0; 14];
+                }
+                server.datapoints[at].typecode = number;
+                let _ = once(bench, &server, IDLE);
+            }
+            let mut server = before.clone();
+            server.datapoints[at].state = number;
+            let _ = once(bench, &server, IDLE);
+        }
+    }
+}
+
+fn item_bits(bench: &mut Bench) {
+    let before = bench.server.clone();
+    for at in 0..before.items.len() {
+        for bit in 0..8 {
+            for place in 0..16 {
+                let mut server = before.clone();
+                server.items[at].bytes[place] ^= 1 << bit;
+                let _ = once(bench, &server, IDLE);
+            }
+            for shift in [0, 8] {
+                let mut server = before.clone();
+                server.items[at].id ^= 1 << (bit + shift);
+                let _ = once(bench, &server, IDLE);
+            }
+        }
+        for size in 0..=255 {
+            let mut server = before.clone();
+            server.items[at].size = size;
+            let _ = once(bench, &server, IDLE);
+        }
+    }
+}
+
+fn link_bits(bench: &mut Bench) {
+    let mut before = bench.server.clone();
+    let longest = bench.random.bytes(254);
+    for (message, held) in [(&[0xF0, 1, 0, 1, 0, 1][..], true), (&longest[..], true), (&longest[..200], false)] {
+        before.link = frames::fresh();
+        let frame = frames::data(0x73, message);
+        frames::set_receiver(&mut before.link, &frame[..frame.len() - 1]);
+        if held {
+            frames::set_outstanding(&mut before.link, &frames::data(0xF3, message));
+        }
+        for bit in 0..8 {
+            for place in 0..260 {
+                let mut server = before.clone();
+                server.link.receiver[place] ^= 1 << bit;
+                let _ = once(bench, &server, IDLE);
+            }
+            for place in 0..261 {
+                let mut server = before.clone();
+                server.link.outstanding[place] ^= 1 << bit;
+                let _ = once(bench, &server, IDLE);
+            }
+        }
+        for number in 0..=600 {
+            let mut server = before.clone();
+            server.link.received = number;
+            let _ = once(bench, &server, IDLE);
+            let mut server = before.clone();
+            server.link.held = number;
+            let _ = once(bench, &server, IDLE);
+            let mut server = before.clone();
+            server.link.resends = number as u8;
+            let _ = once(bench, &server, IDLE);
+        }
+        // zeros behind a beginning, counted
+        for number in 0..=261 {
+            let mut server = before.clone();
+            frames::set_receiver(&mut server.link, &frame[..frame.len().min(5)]);
+            server.link.received = number;
+            let _ = once(bench, &server, IDLE);
+        }
+    }
+}

@@ -1,0 +1,740 @@
+//! Request messages. Most are made for one row of the error table, or for one edge, and say which answer they aim at.
+
+use crate::plain::Server;
+use crate::random::Random;
+use crate::tables::{absent_datapoint, absent_item, used_bits, value, SIZES};
+
+/// A message and what is to come of it: an answer of this code and ID (code 0: a positive one), none, or anything.
+pub struct Request {
+    pub message: Vec<u8>,
+    pub aim: &'static str,
+    pub wants: Wants,
+}
+
+#[derive(Clone, Copy, PartialEq)]
+pub enum Wants {
+    Code(u8, u16),
+    Silence,
+    Anything,
+}
+
+pub const AIMS: &[&str] = &[
+    "shorter than 6 bytes",
+    "first byte not F0",
+    "sub 80 and above",
+    "5: sub 00",
+    "5: sub 04",
+    "5: sub 08",
+    "5: sub 09 to 7F",
+    "5 before 10 and 6",
+    "get: answered",
+    "get: answered, the whole table",
+    "get: answered, exactly 254 bytes",
+    "get: answered, exactly 49 or 248 entries of one size",
+    "get: start FFFF, number FFFF",
+    "get: range beyond 65535",
+    "get: 10, one byte too many",
+    "get: 10, many bytes too many",
+    "get value: 10, no filter",
+    "get: 10 before 6",
+    "get: 6, number 0",
+    "get: 6 before 2",
+    "get value: 6, filter 3",
+    "get value: 6, filter above 3",
+    "get: 2, a gap",
+    "get: 2, behind the last",
+    "get: 2, start 0, number 1",
+    "get value: 2, nothing passes the filter",
+    "get parameters: 2, start 0",
+    "get: 3, exactly 255 bytes",
+    "get: 3, more",
+    "set: answered, one entry",
+    "set: answered, several entries",
+    "set: answered, an ID twice",
+    "set: answered, 254 bytes",
+    "set: 10, a byte too many",
+    "set: 10, a byte missing",
+    "set: 10, number one too high",
+    "set: 10, number one too low",
+    "set: 10, number FFFF",
+    "set: 10, no entry, number 1 or more",
+    "set: 10, the last length too high",
+    "set: 10 before 6",
+    "set: 10 before 7 and on",
+    "set: 6, number 0",
+    "set: 7, the first entry",
+    "set: 7, a later entry",
+    "set: 7, ID 0",
+    "set item: 4, the first entry",
+    "set item: 4, a later entry",
+    "set item: 4 before 9",
+    "set item: 9, length below",
+    "set item: 9, length above",
+    "set item: 9, length 0",
+    "set value: 8, command 6 to 15",
+    "set value: 8, reserved bits",
+    "set value: 8 (command) before 9",
+    "set value: 9, length below",
+    "set value: 9, length above",
+    "set value: 9, no value with command 1",
+    "set value: 9, no value with command 3",
+    "set value: 9 before 8 (unused bits)",
+    "set value: 8, unused bits, the first entry",
+    "set value: 8, unused bits, a later entry",
+    "set: an ID twice, the second one bad",
+    "set: two bad entries, the first decides",
+];
+
+fn head(sub: u8, start: u16, number: u16) -> Vec<u8> {
+    let (start, number) = (start.to_be_bytes(), number.to_be_bytes());
+    vec![0xF0, sub, start[0], start[1], number[0], number[1]]
+}
+
+/// Any request. What it aims at depends on the tables.
+pub fn request(random: &mut Random, server: &Server) -> Request {
+    if random.one_in(16) {
+        anything(random, server)
+    } else {
+        aimed(random, server)
+    }
+}
+
+fn aimed(random: &mut Random, server: &Server) -> Request {
+    for _ in 0..20 {
+        let made = match random.below(30) {
+            0 | 1 => Some(unanswered(random)),
+            2 => Some(unknown(random)),
+            3..=17 => get(random, server),
+            18..=22 => set_items(random, server),
+            _ => set_values(random, server),
+        };
+        if let Some(request) = made {
+            return request;
+        }
+    }
+    unknown(random)
+}
+
+/// A good request, carried out and answered, if the tables have one.
+pub fn good(random: &mut Random, server: &Server) -> Request {
+    for _ in 0..20 {
+        let request = aimed(random, server);
+        if matches!(request.wants, Wants::Code(0, _)) {
+            return request;
+        }
+    }
+    unknown(random)
+}
+
+fn made(aim: &'static str, code: u8, id: u16, message: Vec<u8>) -> Option<Request> {
+    Some(Request { message, aim, wants: Wants::Code(code, id) })
+}
+
+fn unanswered(random: &mut Random) -> Request {
+    let mut message = head(random.pick(&[1, 2, 3, 5, 6, 7, 9]), random.number(), random.number());
+    let more = random.below(10);
+    message.extend(random.bytes(more));
+    let aim = match random.below(3) {
+        0 => {
+            message.truncate(random.below(6));
+            "shorter than 6 bytes"
+        }
+        1 => {
+            message[0] = random.byte_but(0xF0);
+            "first byte not F0"
+        }
+        _ => {
+            message[1] = 0x80 | random.byte_like(&[0x80, 0x81, 0x83, 0x86, 0xC1, 0xFF]);
+            "sub 80 and above"
+        }
+    };
+    Request { message, aim, wants: Wants::Silence }
+}
+
+fn unknown(random: &mut Random) -> Request {
+    let (sub, aim) = match random.below(5) {
+        0 => (0, "5: sub 00"),
+        1 => (4, "5: sub 04"),
+        2 => (8, "5: sub 08"),
+        3 => (random.edgy(9, 0x7F) as u8, "5: sub 09 to 7F"),
+        _ => (random.pick(&[0, 4, 8, 0x7F]), "5 before 10 and 6"),
+    };
+    let before = aim == "5 before 10 and 6";
+    let start = random.number();
+    let mut message = head(sub, start, if before { 0 } else { random.between(1, 9) as u16 });
+    let more = if before { random.between(2, 248) } else { random.below(2) };
+    message.extend(random.bytes(more));
+    Request { message, aim, wants: Wants::Code(5, start) }
+}
+
+/// Messages without an aim: a good one with a byte altered, lost or added; or any bytes behind F0 and a sub.
+fn anything(random: &mut Random, server: &Server) -> Request {
+    let mut message = if random.coin() {
+        good(random, server).message
+    } else {
+        let mut message = head(random.below(10) as u8, random.below(40) as u16, random.below(5) as u16);
+        let more = random.pick(&[0, 1, 4, 5, 8, 40, 248]);
+        let span = random.pick(&[4, 16, 256]);
+        message.extend((0..more).map(|_| random.below(span) as u8));
+        message
+    };
+    if !message.is_empty() {
+        let at = random.below(message.len());
+        match random.below(4) {
+            0 => message[at] = random.byte(),
+            1 => message[at] ^= 1 << random.below(8),
+            2 => drop(message.remove(at)),
+            _ if message.len() < 254 => message.insert(at, random.byte()),
+            _ => {}
+        }
+    }
+    Request { message, aim: "", wants: Wants::Anything }
+}
+
+// ------------------------------------------------------------------------------------------------------------ the gets
+
+/// What a get of this sub and filter can return: ID or index, and its size in the answer.
+fn present(server: &Server, sub: u8, filter: u8) -> Vec<(u16, usize)> {
+    let datapoints = server.datapoints.iter();
+    match sub {
+        1 => server.items.iter().map(|item| (item.id, 3 + usize::from(item.size))).collect(),
+        3 => datapoints.map(|datapoint| (datapoint.id, 5)).collect(),
+        5 => datapoints
+            .filter(|datapoint| match filter {
+                1 => datapoint.state & 0x10 != 0,
+                2 => datapoint.state & 0x08 != 0,
+                _ => true,
+            })
+            .map(|datapoint| (datapoint.id, 4 + SIZES[usize::from(datapoint.typecode)]))
+            .collect(),
+        _ => (1..=server.parameters.len()).map(|index| (index as u16, 1)).collect(),
+    }
+}
+
+/// The size of all that a get returns from start to last.
+pub fn size_of_range(server: &Server, message: &[u8], start: u16, last: u16) -> usize {
+    let filter = message.get(6).copied().unwrap_or(0);
+    let entries = present(server, message[1], filter).into_iter();
+    entries.filter(|(id, _)| (start..=last).contains(id)).map(|(_, size)| size).sum()
+}
+
+/// Entries first to last of `entries`, as start and number: their own IDs, or somewhat into the gaps around them.
+fn range(random: &mut Random, entries: &[(u16, usize)], first: usize, last: usize, lowest: u16) -> Option<(u16, u16)> {
+    let low = if first == 0 { lowest } else { entries[first - 1].0 + 1 };
+    let high = entries.get(last + 1).map_or(65535 + 200, |next| usize::from(next.0) - 1);
+    let id_first = entries[first].0;
+    let id_last = usize::from(entries[last].0);
+    let start = if random.coin() { id_first } else { random.between(usize::from(low), usize::from(id_first)) as u16 };
+    let end = if random.coin() { id_last } else { random.between(id_last, high) };
+    u16::try_from(end - usize::from(start) + 1).ok().map(|number| (start, number))
+}
+
+/// A run of entries whose sizes sum up to one that is wanted; begun at a random place.
+fn run_of(random: &mut Random, entries: &[(u16, usize)], wanted: impl Fn(usize) -> bool) -> Option<(usize, usize)> {
+    let from = random.below(entries.len());
+    for step in 0..entries.len().min(64) {
+        let first = (from + step) % entries.len();
+        let mut sum = 0;
+        for (last, entry) in entries.iter().enumerate().skip(first) {
+            sum += entry.1;
+            if wanted(sum) {
+                return Some((first, last));
+            }
+            if sum > 270 {
+                break;
+            }
+        }
+    }
+    None
+}
+
+fn get(random: &mut Random, server: &Server) -> Option<Request> {
+    let sub = random.pick(&[1, 3, 5, 5, 7]);
+    let filter = if sub == 5 { random.below(3) as u8 } else { 0 };
+    let message = |start: u16, number: u16, filter: u8| {
+        let mut message = head(sub, start, number);
+        if sub == 5 {
+            message.push(filter);
+        }
+        message
+    };
+    let lowest = if sub == 7 { 1 } else { 0 };
+    let entries = present(server, sub, filter);
+    let some_start = random.between(1, 300) as u16;
+    let some_number = random.between(1, 300) as u16;
+    match random.below(30) {
+        0 => {
+            let mut long = message(some_start, some_number, filter);
+            long.push(random.byte());
+            made("get: 10, one byte too many", 10, some_start, long)
+        }
+        1 => {
+            let mut long = message(some_start, some_number, filter);
+            let more = random.between(2, 247);
+            long.extend(random.bytes(more));
+            made("get: 10, many bytes too many", 10, some_start, long)
+        }
+        2 if sub == 5 => {
+            let short = head(sub, some_start, random.pick(&[0, some_number, some_number]));
+            made("get value: 10, no filter", 10, some_start, short)
+        }
+        3 => {
+            let mut long = message(some_start, 0, filter);
+            let more = random.between(1, 4);
+            long.extend(random.bytes(more));
+            made("get: 10 before 6", 10, some_start, long)
+        }
+        4 => {
+            let start = entries.first().map_or(1, |entry| entry.0);
+            made("get: 6, number 0", 6, start, message(start, 0, filter))
+        }
+        5 => made("get: 6 before 2", 6, 0, message(0, 0, filter)),
+        6 if sub == 5 => made("get value: 6, filter 3", 6, some_start, message(some_start, some_number, 3)),
+        7 if sub == 5 => {
+            let filter = random.between(4, 255) as u8;
+            made("get value: 6, filter above 3", 6, some_start, message(some_start, some_number, filter))
+        }
+        8 | 9 => {
+            // between two entries, or before the first
+            let all = present(server, sub, 0);
+            let gaps: Vec<(u16, u16)> = (0..all.len())
+                .map(|at| (if at == 0 { 1 } else { all[at - 1].0 + 1 }, all[at].0))
+                .filter(|(low, next)| low < next)
+                .collect();
+            if gaps.is_empty() || sub == 7 {
+                return None;
+            }
+            let (low, next) = random.pick(&gaps);
+            let start = random.between(usize::from(low), usize::from(next) - 1) as u16;
+            let number = if random.coin() { next - start } else { random.between(1, usize::from(next - start)) as u16 };
+            made("get: 2, a gap", 2, start, message(start, number, filter))
+        }
+        10 => {
+            let last = entries.last().map_or(0, |entry| entry.0);
+            let start = if random.coin() {
+                last.checked_add(1)?
+            } else {
+                random.between(usize::from(last) + 1, 65536).try_into().ok()?
+            };
+            let number = random.pick(&[1, some_number, 0xFFFF]);
+            made("get: 2, behind the last", 2, start, message(start, number, filter))
+        }
+        11 if sub != 7 => made("get: 2, start 0, number 1", 2, 0, message(0, 1, filter)),
+        12 | 13 if sub == 5 && filter != 0 => {
+            let hidden = |id: u16| !entries.iter().any(|entry| entry.0 == id);
+            let all = present(server, sub, 0);
+            let first =
+                (0..all.len()).map(|at| (at + random.below(all.len())) % all.len()).find(|at| hidden(all[*at].0))?;
+            let mut last = first;
+            while last + 1 < all.len() && hidden(all[last + 1].0) && !random.one_in(3) {
+                last += 1;
+            }
+            let (start, number) = range(random, &all, first, last, 0)?;
+            made("get value: 2, nothing passes the filter", 2, start, message(start, number, filter))
+        }
+        14 | 25 if sub == 7 => {
+            made("get parameters: 2, start 0", 2, 0, message(0, random.pick(&[1, 255, some_number, 0xFFFF]), filter))
+        }
+        15 => {
+            let code = match entries.last() {
+                Some((65535, _)) => 0,
+                _ => 2,
+            };
+            made("get: start FFFF, number FFFF", code, 65535, message(65535, 65535, filter))
+        }
+        _ if entries.is_empty() => None,
+        16 => {
+            let first = random.below(entries.len());
+            let fits = entries[first..].iter().map(|entry| entry.1).sum::<usize>() <= 248;
+            let start = entries[first].0;
+            let number =
+                random.between(65536 - usize::from(start), 65535).max(65537 - usize::from(start)).try_into().ok()?;
+            if fits {
+                made("get: range beyond 65535", 0, start, message(start, number, filter))
+            } else {
+                None
+            }
+        }
+        17 | 22 => {
+            let (first, last) = run_of(random, &entries, |sum| sum == 248)?;
+            let (start, number) = range(random, &entries, first, last, lowest)?;
+            made("get: answered, exactly 254 bytes", 0, start, message(start, number, filter))
+        }
+        18 | 23 => {
+            let (first, last) = run_of(random, &entries, |sum| sum == 249)?;
+            let (start, number) = range(random, &entries, first, last, lowest)?;
+            made("get: 3, exactly 255 bytes", 3, entries[last].0, message(start, number, filter))
+        }
+        19 | 24 => {
+            let (first, over) = run_of(random, &entries, |sum| sum > 248)?;
+            let last = if random.coin() { over } else { random.between(over, entries.len() - 1) };
+            let (start, number) = range(random, &entries, first, last, lowest)?;
+            made("get: 3, more", 3, entries[over].0, message(start, number, filter))
+        }
+        20 => {
+            // as many entries of one size as fit: 49 of 5 bytes, 248 of 1 byte
+            let size = entries[0].1;
+            let count = 248 / size;
+            if entries.len() < count || entries.iter().any(|entry| entry.1 != size) || (size != 5 && size != 1) {
+                return None;
+            }
+            let first = random.between(0, entries.len() - count);
+            let (start, number) = range(random, &entries, first, first + count - 1, lowest)?;
+            made("get: answered, exactly 49 or 248 entries of one size", 0, start, message(start, number, filter))
+        }
+        21 => {
+            let all: usize = entries.iter().map(|entry| entry.1).sum();
+            if all > 248 {
+                return None;
+            }
+            made("get: answered, the whole table", 0, lowest, message(lowest, 65535, filter))
+                .filter(|_| lowest == 1 || entries[entries.len() - 1].0 < 65535)
+        }
+        _ => {
+            let first = random.below(entries.len());
+            let mut last = first;
+            let mut sum = entries[first].1;
+            let most = random.below(30);
+            while last + 1 < entries.len() && last - first < most && sum + entries[last + 1].1 <= 248 {
+                last += 1;
+                sum += entries[last].1;
+            }
+            let (start, number) = range(random, &entries, first, last, lowest)?;
+            made("get: answered", 0, start, message(start, number, filter))
+        }
+    }
+}
+
+// ------------------------------------------------------------------------------------------------------------ the sets
+
+/// A set request in the making.
+struct Set {
+    sub: u8,
+    start: u16,
+    entries: Vec<Entry>,
+}
+
+#[derive(Clone)]
+struct Entry {
+    id: u16,
+    command: u8,
+    value: Vec<u8>,
+}
+
+impl Set {
+    fn size_of(&self, entry: &Entry) -> usize {
+        entry.value.len() + if self.sub == 6 { 4 } else { 3 }
+    }
+
+    fn size(&self) -> usize {
+        6 + self.entries.iter().map(|entry| self.size_of(entry)).sum::<usize>()
+    }
+
+    fn message(&self) -> Vec<u8> {
+        let mut message = head(self.sub, self.start, self.entries.len() as u16);
+        for entry in &self.entries {
+            message.extend_from_slice(&entry.id.to_be_bytes());
+            if self.sub == 6 {
+                message.push(entry.command);
+            }
+            message.push(entry.value.len() as u8);
+            message.extend_from_slice(&entry.value);
+        }
+        message
+    }
+
+    fn with_number(&self, number: u16) -> Vec<u8> {
+        let mut message = self.message();
+        message[4..6].copy_from_slice(&number.to_be_bytes());
+        message
+    }
+
+    /// The whole request, if it is no longer than a message can be.
+    fn made(self, aim: &'static str, code: u8, id: u16) -> Option<Request> {
+        if self.size() > 254 {
+            return None;
+        }
+        made(aim, code, id, self.message())
+    }
+
+    /// The request in which one good entry is made bad: the first, or a later one.
+    fn spoiled(
+        mut self,
+        random: &mut Random,
+        aims: (&'static str, &'static str),
+        code: u8,
+        bad: Entry,
+    ) -> Option<Request> {
+        let at = random.below(self.entries.len());
+        let id = bad.id;
+        self.entries[at] = bad;
+        self.made(if at == 0 { aims.0 } else { aims.1 }, code, id)
+    }
+
+    /// Good entries up to exactly 254 bytes.
+    fn filled(mut self, random: &mut Random, good: impl Fn(&mut Random) -> Option<Entry>) -> Option<Request> {
+        for _ in 0..400 {
+            let room = 254 - self.size().min(254);
+            if room == 0 && self.size() == 254 {
+                let start = self.start;
+                return self.made("set: answered, 254 bytes", 0, start);
+            }
+            let entry = good(random)?;
+            if self.size_of(&entry) <= room {
+                self.entries.push(entry);
+            } else if random.one_in(20) {
+                self.entries.pop();
+            }
+        }
+        None
+    }
+
+    /// Sizes and numbers that do not meet.
+    fn sized_wrong(mut self, random: &mut Random) -> Option<Request> {
+        let (start, count) = (self.start, self.entries.len() as u16);
+        if self.size() > 253 {
+            return None;
+        }
+        match random.below(9) {
+            0 => {
+                let mut message = self.message();
+                let more = random.edgy(1, 254 - message.len());
+                message.extend(random.bytes(more));
+                made("set: 10, a byte too many", 10, start, message)
+            }
+            1 => {
+                let mut message = self.message();
+                message.truncate(random.between(7, message.len() - 1));
+                made("set: 10, a byte missing", 10, start, message)
+            }
+            2 => made("set: 10, number one too high", 10, start, self.with_number(count + 1)),
+            3 => made("set: 10, number one too low", 10, start, self.with_number(count - 1)).filter(|_| count > 1),
+            4 => made("set: 10, number FFFF", 10, start, self.with_number(0xFFFF)),
+            5 => {
+                self.entries.clear();
+                made("set: 10, no entry, number 1 or more", 10, start, self.with_number(random.pick(&[1, 2, 0xFFFF])))
+            }
+            6 => {
+                let mut message = self.message();
+                let last = self.entries[self.entries.len() - 1].value.len();
+                let at = message.len() - 1 - last;
+                message[at] = random.between(last + 1, 255) as u8;
+                made("set: 10, the last length too high", 10, start, message)
+            }
+            7 => made("set: 10 before 6", 10, start, self.with_number(0)),
+            _ => {
+                // any of the entries would be bad
+                for entry in &mut self.entries {
+                    entry.command = 0xFF;
+                    entry.id = 0;
+                }
+                made("set: 10 before 7 and on", 10, start, self.with_number(count + 1))
+            }
+        }
+    }
+}
+
+/// Some good entries, with room for one more.
+fn some_good(random: &mut Random, sub: u8, good: impl Fn(&mut Random) -> Option<Entry>) -> Option<Set> {
+    let mut set = Set { sub, start: if random.coin() { 1 } else { random.number() }, entries: Vec::new() };
+    let most = random.pick(&[1, 2, 4, 12]);
+    let count = random.between(1, most);
+    while set.entries.len() < count && set.size() < 200 {
+        set.entries.push(good(random)?);
+    }
+    Some(set)
+}
+
+fn set_items(random: &mut Random, server: &Server) -> Option<Request> {
+    let writable: Vec<usize> = (0..server.items.len()).filter(|at| server.items[*at].writable).collect();
+    let fixed: Vec<usize> = (0..server.items.len()).filter(|at| !server.items[*at].writable).collect();
+    if random.one_in(12) {
+        let start = random.number();
+        return made("set: 6, number 0", 6, start, head(2, start, 0));
+    }
+    let one_of = |random: &mut Random, among: &[usize]| {
+        let item = &server.items[random.pick(among)];
+        Entry { id: item.id, command: 0, value: random.bytes(usize::from(item.size)) }
+    };
+    let good = |random: &mut Random| if writable.is_empty() { None } else { Some(one_of(random, &writable)) };
+    let set = some_good(random, 2, good)?;
+    let start = set.start;
+    let mut bad = good(random)?;
+    let aimed = random.below(20);
+    match aimed {
+        0..=3 => return set.sized_wrong(random),
+        4 => return Set { sub: 2, start, entries: Vec::new() }.filled(random, good),
+        5 => {
+            let mut set = set;
+            let again = Entry { value: random.bytes(set.entries[0].value.len()), ..set.entries[0].clone() };
+            set.entries.push(again);
+            return set.made("set: answered, an ID twice", 0, start);
+        }
+        6 | 7 => {
+            bad.id = absent_item(random, &server.items)?;
+            let length = random.below(17);
+            bad.value = random.bytes(length);
+            return set.spoiled(random, ("set: 7, the first entry", "set: 7, a later entry"), 7, bad);
+        }
+        8 => {
+            bad.id = 0;
+            return set.spoiled(random, ("set: 7, ID 0", "set: 7, ID 0"), 7, bad);
+        }
+        9 | 10 if !fixed.is_empty() => {
+            bad = one_of(random, &fixed);
+            return set.spoiled(random, ("set item: 4, the first entry", "set item: 4, a later entry"), 4, bad);
+        }
+        11 if !fixed.is_empty() => {
+            bad = one_of(random, &fixed);
+            bad.value.push(random.byte());
+            return set.spoiled(random, ("set item: 4 before 9", "set item: 4 before 9"), 4, bad);
+        }
+        12 if bad.value.len() > 1 => {
+            bad.value.truncate(random.between(1, bad.value.len() - 1));
+            return set.spoiled(random, ("set item: 9, length below", "set item: 9, length below"), 9, bad);
+        }
+        13 => {
+            let more = random.pick(&[1, 1, 2, 16]);
+            bad.value.extend(random.bytes(more));
+            return set.spoiled(random, ("set item: 9, length above", "set item: 9, length above"), 9, bad);
+        }
+        14 => {
+            bad.value.clear();
+            return set.spoiled(random, ("set item: 9, length 0", "set item: 9, length 0"), 9, bad);
+        }
+        15 => {
+            // the second one is longer
+            let mut set = set;
+            bad = set.entries[0].clone();
+            bad.value.push(random.byte());
+            let id = bad.id;
+            set.entries.push(bad);
+            return set.made("set: an ID twice, the second one bad", 9, id);
+        }
+        16 => {
+            let mut set = set;
+            bad.value.clear();
+            let id = bad.id;
+            set.entries.push(bad);
+            set.entries.push(Entry { id: 0, command: 0, value: Vec::new() });
+            return set.made("set: two bad entries, the first decides", 9, id);
+        }
+        _ => {}
+    }
+    let aim = if set.entries.len() == 1 { "set: answered, one entry" } else { "set: answered, several entries" };
+    set.made(aim, 0, start)
+}
+
+fn set_values(random: &mut Random, server: &Server) -> Option<Request> {
+    let datapoints = &server.datapoints;
+    if random.one_in(20) {
+        let start = random.number();
+        return made("set: 6, number 0", 6, start, head(6, start, 0));
+    }
+    if datapoints.is_empty() {
+        let id = random.number();
+        let set = Set { sub: 6, start: id, entries: vec![Entry { id, command: random.byte(), value: Vec::new() }] };
+        return set.made("set: 7, the first entry", 7, id);
+    }
+    let good = |random: &mut Random| {
+        let datapoint = &datapoints[random.below(datapoints.len())];
+        let command = random.below(6) as u8;
+        let empty = command != 1 && command != 3 && random.coin();
+        let value = if empty { Vec::new() } else { value(random, datapoint.typecode) };
+        Some(Entry { id: datapoint.id, command, value })
+    };
+    let mut set = some_good(random, 6, good)?;
+    let start = set.start;
+    let datapoint = &datapoints[random.below(datapoints.len())];
+    let size = SIZES[usize::from(datapoint.typecode)];
+    let unused = !used_bits(datapoint.typecode);
+    let mut bad = Entry { id: datapoint.id, command: random.below(6) as u8, value: value(random, datapoint.typecode) };
+    match random.below(24) {
+        0..=3 => return set.sized_wrong(random),
+        4 => return Set { sub: 6, start, entries: Vec::new() }.filled(random, good),
+        5 | 6 => {
+            let typecode = datapoints.iter().find(|datapoint| datapoint.id == set.entries[0].id)?.typecode;
+            let again =
+                Entry { id: set.entries[0].id, command: random.pick(&[1, 3, 2, 4, 5]), value: value(random, typecode) };
+            set.entries.push(again);
+            return set.made("set: answered, an ID twice", 0, start);
+        }
+        7 | 8 => {
+            bad.id = absent_datapoint(random, datapoints)?;
+            bad.command = random.byte();
+            return set.spoiled(random, ("set: 7, the first entry", "set: 7, a later entry"), 7, bad);
+        }
+        9 => {
+            bad.id = 0;
+            return set.spoiled(random, ("set: 7, ID 0", "set: 7, ID 0"), 7, bad);
+        }
+        10 => {
+            bad.command = random.between(6, 15) as u8;
+            return set.spoiled(random, ("set value: 8, command 6 to 15", "set value: 8, command 6 to 15"), 8, bad);
+        }
+        11 => {
+            bad.command |= (random.between(1, 15) << 4) as u8;
+            return set.spoiled(random, ("set value: 8, reserved bits", "set value: 8, reserved bits"), 8, bad);
+        }
+        12 => {
+            bad.command = random.between(6, 255) as u8;
+            bad.value.push(random.byte());
+            return set.spoiled(random, ("set value: 8 (command) before 9", "set value: 8 (command) before 9"), 8, bad);
+        }
+        13 if size > 1 => {
+            bad.value.truncate(random.between(1, size - 1));
+            return set.spoiled(random, ("set value: 9, length below", "set value: 9, length below"), 9, bad);
+        }
+        14 | 15 => {
+            let more = random.pick(&[1, 1, 2, 14]);
+            bad.value.extend(random.bytes(more));
+            return set.spoiled(random, ("set value: 9, length above", "set value: 9, length above"), 9, bad);
+        }
+        16 => {
+            bad.value.clear();
+            bad.command = random.pick(&[1, 3]);
+            let aim = if bad.command == 1 {
+                "set value: 9, no value with command 1"
+            } else {
+                "set value: 9, no value with command 3"
+            };
+            return set.spoiled(random, (aim, aim), 9, bad);
+        }
+        17 if unused != 0 => {
+            bad.value = vec![0xFF, random.byte()];
+            return set.spoiled(
+                random,
+                ("set value: 9 before 8 (unused bits)", "set value: 9 before 8 (unused bits)"),
+                9,
+                bad,
+            );
+        }
+        18 | 19 if unused != 0 => {
+            let bits = random.byte() & unused;
+            bad.value[0] |= if bits == 0 || random.coin() { unused & unused.wrapping_neg() } else { bits };
+            return set.spoiled(
+                random,
+                ("set value: 8, unused bits, the first entry", "set value: 8, unused bits, a later entry"),
+                8,
+                bad,
+            );
+        }
+        20 => {
+            bad = set.entries[0].clone();
+            bad.command = 6;
+            let id = bad.id;
+            set.entries.push(bad);
+            return set.made("set: an ID twice, the second one bad", 8, id);
+        }
+        21 => {
+            bad.command = random.between(6, 255) as u8;
+            let id = bad.id;
+            set.entries.push(bad);
+            set.entries.push(Entry { id: 0, command: 1, value: Vec::new() });
+            return set.made("set: two bad entries, the first decides", 8, id);
+        }
+        _ => {}
+    }
+    let aim = if set.entries.len() == 1 { "set: answered, one entry" } else { "set: answered, several entries" };
+    set.made(aim, 0, start)
+}

@@ -1,0 +1,581 @@
+//! What a call did, told from the link record before it, the call, and its answer. It only counts.
+
+use crate::bench::Answer;
+use crate::counts::{Counts, Matrix};
+use crate::lent::Call;
+use crate::plain::{Link, Server};
+use crate::requests;
+use crate::tables::{type_of, SIZES};
+
+// The matrices, and their rows.
+pub const ERRORS: usize = 0;
+pub const TYPES: usize = 1;
+pub const COMMANDS: usize = 2;
+
+pub const BUS_TAKEN: usize = 0;
+pub const BUS_LENGTH: usize = 1;
+pub const BUS_BITS: usize = 2;
+pub const TABLE_BITS: usize = 3;
+pub const TABLE_BYTES: usize = 4;
+const SET_TAKEN: usize = 5;
+const SET_LENGTH: usize = 6;
+const SET_BITS: usize = 7;
+const ANSWERED: usize = 8;
+const INDICATED: usize = 9;
+
+const SERVICES: [&str; 7] = ["other", "01", "02", "03", "05", "06", "07"];
+
+pub fn matrices() -> Vec<Matrix> {
+    let gets = &[1, 3, 4, 6];
+    let sets = &[2, 5];
+    let six = &[1, 2, 3, 4, 5, 6];
+    let all_types: Vec<usize> = (0..15).collect();
+    let type_names = ["0", "1", "2", "3", "4", "5", "6", "7", "8", "9", "10", "11", "12", "13", "14"];
+    vec![
+        Matrix::new(
+            "Answers, by sub",
+            &SERVICES,
+            &[
+                ("5: sub", &[0]),
+                ("10: size", six),
+                ("6: number 0", six),
+                ("6: filter", &[4]),
+                ("7: ID absent", sets),
+                ("4: not writable", &[2]),
+                ("8: command", &[5]),
+                ("9: length", sets),
+                ("8: unused bits", &[5]),
+                ("2: nothing to return", gets),
+                ("3: too long", gets),
+                ("3: 255 bytes", &[1, 4, 6]),
+                ("answered", six),
+                ("answered, 254 bytes", &[1, 4, 6]),
+                ("range beyond 65535", gets),
+            ],
+        ),
+        Matrix::new(
+            "Values, by type code",
+            &type_names,
+            &[
+                ("bus value taken", &all_types),
+                ("bus value, other length: refusal 4", &all_types),
+                ("bus value, unused bits: refusal 4", &all_types[..7]),
+                ("table, unused bits: refusal 1", &all_types[..7]),
+                ("table, bytes behind: refusal 1", &all_types[..14]),
+                ("set, value taken", &all_types),
+                ("set, other length: 9", &all_types),
+                ("set, unused bits: 8", &all_types[..7]),
+                ("in an answer", &all_types),
+                ("in an indication", &all_types),
+            ],
+        ),
+        Matrix::new(
+            "Entries of a datapoint set, by command",
+            &["0", "1", "2", "3", "4", "5"],
+            &[
+                ("carried out, with a value", &[0, 1, 2, 3, 4, 5]),
+                ("carried out, without", &[0, 2, 4, 5]),
+                ("other length: 9", &[0, 1, 2, 3, 4, 5]),
+                ("no value: 9", &[1, 3]),
+                ("unused bits: 8", &[0, 1, 2, 3, 4, 5]),
+            ],
+        ),
+    ]
+}
+
+pub fn lists() -> Vec<(&'static str, Vec<&'static str>)> {
+    let mut lists = vec![
+        ("host bytes", HOST_BYTES.to_vec()),
+        ("damage is found at", FOUND_AT.to_vec()),
+        ("other events", EVENTS.to_vec()),
+        ("requests carried out", REQUESTS.to_vec()),
+        ("fresh link", vec!["made where another record stood"]),
+        ("requests, by aim", requests::AIMS.to_vec()),
+    ];
+    lists.extend(crate::walk::lists());
+    lists.extend(crate::broken::lists());
+    lists.extend(crate::garbage::lists());
+    lists.extend(crate::every::lists());
+    lists
+}
+
+const HOST_BYTES: [&str; 34] = [
+    "E5 while dropping",
+    "10 while dropping",
+    "68 while dropping",
+    "other byte while dropping",
+    "E5, something outstanding, send bit odd",
+    "E5, something outstanding, send bit even",
+    "E5, nothing outstanding",
+    "reset, nothing outstanding, bits odd odd",
+    "reset, nothing outstanding, expected even",
+    "reset, nothing outstanding, send even",
+    "reset, something outstanding, send bit odd",
+    "reset, something outstanding, send bit even",
+    "reset, something outstanding and sent again",
+    "fixed frame with another C",
+    "data frame with a server's control byte",
+    "data frame with another control byte",
+    "expected bit, carried out and answered, odd odd",
+    "expected bit, carried out and answered, odd even",
+    "expected bit, carried out and answered, even odd",
+    "expected bit, carried out and answered, even even",
+    "expected bit, no answer: no message (L = 1)",
+    "expected bit, no answer: 1 to 5 bytes",
+    "expected bit, no answer: first byte not F0",
+    "expected bit, no answer: sub 80 and above",
+    "expected bit, something outstanding: dropped",
+    "other bit, nothing outstanding",
+    "other bit, something outstanding",
+    "a data frame of 261 bytes",
+    "a data frame whose L is 10",
+    "a data frame whose L is 68",
+    "a data frame whose L is E5",
+    "E5 in mid-frame, something outstanding",
+    "E5 in mid-frame, nothing outstanding",
+    "byte gathered",
+];
+
+const FOUND_AT: [&str; 8] = [
+    "the first byte",
+    "L, which is 0",
+    "the second L",
+    "the fourth byte",
+    "the checksum",
+    "the last byte of a data frame",
+    "the second C",
+    "the last byte of a fixed frame",
+];
+
+const EVENTS: [&str; 28] = [
+    "idle mark at a frame start",
+    "idle mark in a data frame",
+    "idle mark in a fixed frame",
+    "idle mark while dropping",
+    "idle mark, something outstanding",
+    "ack wait, nothing outstanding",
+    "ack wait, first resend",
+    "ack wait, second resend",
+    "ack wait, third resend",
+    "ack wait, dropped, send bit odd",
+    "ack wait, dropped, send bit even",
+    "ack wait in mid-frame",
+    "poll, something outstanding, marks",
+    "poll, something outstanding, no mark",
+    "poll, no mark",
+    "poll, all marked are carried",
+    "poll, some are left over",
+    "poll, 254 bytes",
+    "poll, the next one would make 255 bytes",
+    "poll, a later one that is left over would fit",
+    "poll in mid-frame, indication sent",
+    "bus value taken",
+    "bus value taken in mid-frame",
+    "bus value taken, something outstanding",
+    "outcome sent",
+    "outcome failed",
+    "outcome in progress",
+    "accepted with room above 262",
+];
+
+const REQUESTS: [&str; 10] = [
+    "set of items, an ID twice",
+    "set of datapoints, an ID twice",
+    "set of items, start is not the first entry's",
+    "set of datapoints, start is not the first entry's",
+    "set of 254 bytes answered",
+    "filter 0 answered",
+    "filter 1 answered",
+    "filter 2 answered",
+    "49 descriptions answered",
+    "an answer that skips absent IDs",
+];
+
+/// The sizes that the marked datapoints have in an indication.
+pub fn marked_sizes(server: &Server) -> Vec<usize> {
+    let marked = server.datapoints.iter().filter(|datapoint| datapoint.mark && datapoint.typecode < 15);
+    marked.map(|datapoint| 4 + SIZES[usize::from(datapoint.typecode)]).collect()
+}
+
+pub fn seen(counts: &mut Counts, before: &Link, marks: &[usize], call: &Call, answer: &Answer, after: &Server) {
+    let Ok(sent) = answer else {
+        return;
+    };
+    if call.room > 262 {
+        counts.hit("other events", "accepted with room above 262");
+    }
+    match call.event {
+        1 => host_byte(counts, before, call.byte, sent, after),
+        2 => {
+            counts.hit("other events", idle_mark(before));
+            if before.held != 0 {
+                counts.hit("other events", "idle mark, something outstanding");
+            }
+        }
+        3 => {
+            counts.hit("other events", ack_wait(before));
+            if before.received != 0 && before.held != 0 {
+                counts.hit("other events", "ack wait in mid-frame");
+            }
+        }
+        4 => poll(counts, before, marks, sent, after),
+        5 => bus_value(counts, before, call, after),
+        _ => counts
+            .hit("other events", ["outcome sent", "outcome failed", "outcome in progress"][usize::from(call.outcome)]),
+    }
+}
+
+fn idle_mark(before: &Link) -> &'static str {
+    match (before.dropping, before.received, before.receiver[0]) {
+        (true, _, _) => "idle mark while dropping",
+        (false, 0, _) => "idle mark at a frame start",
+        (false, _, 0x10) => "idle mark in a fixed frame",
+        (false, _, _) => "idle mark in a data frame",
+    }
+}
+
+fn ack_wait(before: &Link) -> &'static str {
+    match (before.held, before.resends, before.send) {
+        (0, _, _) => "ack wait, nothing outstanding",
+        (_, 0, _) => "ack wait, first resend",
+        (_, 1, _) => "ack wait, second resend",
+        (_, 2, _) => "ack wait, third resend",
+        (_, _, true) => "ack wait, dropped, send bit odd",
+        (_, _, false) => "ack wait, dropped, send bit even",
+    }
+}
+
+fn poll(counts: &mut Counts, before: &Link, marks: &[usize], sent: &[u8], after: &Server) {
+    if before.held != 0 {
+        counts.hit(
+            "other events",
+            if marks.is_empty() {
+                "poll, something outstanding, no mark"
+            } else {
+                "poll, something outstanding, marks"
+            },
+        );
+        return;
+    }
+    if marks.is_empty() {
+        counts.hit("other events", "poll, no mark");
+        return;
+    }
+    if before.received != 0 {
+        counts.hit("other events", "poll in mid-frame, indication sent");
+    }
+    let message = &sent[5..sent.len() - 2];
+    if message.len() == 254 {
+        counts.hit("other events", "poll, 254 bytes");
+    }
+    let carried = usize::from(message[4]) * 256 + usize::from(message[5]);
+    if carried == marks.len() {
+        counts.hit("other events", "poll, all marked are carried");
+    } else {
+        counts.hit("other events", "poll, some are left over");
+        if message.len() + marks[carried] == 255 {
+            counts.hit("other events", "poll, the next one would make 255 bytes");
+        }
+        if marks[carried..].iter().any(|size| message.len() + size <= 254) {
+            counts.hit("other events", "poll, a later one that is left over would fit");
+        }
+    }
+    count_values(counts, INDICATED, message, after);
+}
+
+fn bus_value(counts: &mut Counts, before: &Link, call: &Call, after: &Server) {
+    counts.hit("other events", "bus value taken");
+    if let Some(typecode) = type_of(&after.datapoints, call.id) {
+        counts.cell(TYPES, BUS_TAKEN, usize::from(typecode));
+    }
+    if before.received != 0 {
+        counts.hit("other events", "bus value taken in mid-frame");
+    }
+    if before.held != 0 {
+        counts.hit("other events", "bus value taken, something outstanding");
+    }
+}
+
+fn host_byte(counts: &mut Counts, before: &Link, byte: u8, sent: &[u8], after: &Server) {
+    let hit = |counts: &mut Counts, label| counts.hit("host bytes", label);
+    if before.dropping {
+        let label = match byte {
+            0xE5 => "E5 while dropping",
+            0x10 => "10 while dropping",
+            0x68 => "68 while dropping",
+            _ => "other byte while dropping",
+        };
+        return hit(counts, label);
+    }
+    let gathered = usize::from(before.received);
+    let first = if gathered == 0 { byte } else { before.receiver[0] };
+    let length = usize::from(before.receiver[1]);
+    if after.link.dropping {
+        let place = match (first, gathered) {
+            (_, 0) => "the first byte",
+            (0x10, 2) => "the second C",
+            (0x10, _) => "the last byte of a fixed frame",
+            (_, 1) => "L, which is 0",
+            (_, 2) => "the second L",
+            (_, 3) => "the fourth byte",
+            _ if gathered == 4 + length => "the checksum",
+            _ => "the last byte of a data frame",
+        };
+        return counts.hit("damage is found at", place);
+    }
+    if gathered == 0 && byte == 0xE5 {
+        let label = match (before.held, before.send) {
+            (0, _) => "E5, nothing outstanding",
+            (_, true) => "E5, something outstanding, send bit odd",
+            (_, false) => "E5, something outstanding, send bit even",
+        };
+        return hit(counts, label);
+    }
+    if first == 0x10 && gathered == 3 {
+        return fixed_frame(counts, before);
+    }
+    if first == 0x68 && gathered >= 6 && gathered == 5 + length {
+        return data_frame(counts, before, &before.receiver[4..4 + length], sent, after);
+    }
+    if byte == 0xE5 {
+        hit(
+            counts,
+            if before.held == 0 {
+                "E5 in mid-frame, nothing outstanding"
+            } else {
+                "E5 in mid-frame, something outstanding"
+            },
+        );
+    }
+    hit(counts, "byte gathered");
+}
+
+fn fixed_frame(counts: &mut Counts, before: &Link) {
+    let hit = |counts: &mut Counts, label| counts.hit("host bytes", label);
+    if before.receiver[1] != 0x40 {
+        return hit(counts, "fixed frame with another C");
+    }
+    if before.held == 0 {
+        if !before.expected {
+            hit(counts, "reset, nothing outstanding, expected even");
+        }
+        if !before.send {
+            hit(counts, "reset, nothing outstanding, send even");
+        }
+        if before.expected && before.send {
+            hit(counts, "reset, nothing outstanding, bits odd odd");
+        }
+    } else {
+        hit(
+            counts,
+            if before.send {
+                "reset, something outstanding, send bit odd"
+            } else {
+                "reset, something outstanding, send bit even"
+            },
+        );
+        if before.resends > 0 {
+            hit(counts, "reset, something outstanding and sent again");
+        }
+    }
+}
+
+fn data_frame(counts: &mut Counts, before: &Link, control_and_data: &[u8], sent: &[u8], after: &Server) {
+    let hit = |counts: &mut Counts, label| counts.hit("host bytes", label);
+    match control_and_data.len() {
+        0x10 => hit(counts, "a data frame whose L is 10"),
+        0x68 => hit(counts, "a data frame whose L is 68"),
+        0xE5 => hit(counts, "a data frame whose L is E5"),
+        0xFF => hit(counts, "a data frame of 261 bytes"),
+        _ => {}
+    }
+    let message = &control_and_data[1..];
+    let odd = match control_and_data[0] {
+        0x73 => true,
+        0x53 => false,
+        0xF3 | 0xD3 => return hit(counts, "data frame with a server's control byte"),
+        _ => return hit(counts, "data frame with another control byte"),
+    };
+    let label = match (odd == before.expected, before.held) {
+        (true, 0) if sent.len() > 1 => match (before.expected, before.send) {
+            (true, true) => "expected bit, carried out and answered, odd odd",
+            (true, false) => "expected bit, carried out and answered, odd even",
+            (false, true) => "expected bit, carried out and answered, even odd",
+            (false, false) => "expected bit, carried out and answered, even even",
+        },
+        (true, 0) if message.is_empty() => "expected bit, no answer: no message (L = 1)",
+        (true, 0) if message.len() < 6 => "expected bit, no answer: 1 to 5 bytes",
+        (true, 0) if message[0] != 0xF0 => "expected bit, no answer: first byte not F0",
+        (true, 0) => "expected bit, no answer: sub 80 and above",
+        (true, _) => "expected bit, something outstanding: dropped",
+        (false, 0) => "other bit, nothing outstanding",
+        (false, _) => "other bit, something outstanding",
+    };
+    hit(counts, label);
+    if sent.len() > 1 {
+        answered(counts, message, &sent[6..sent.len() - 2], after);
+    }
+}
+
+fn number_at(message: &[u8], at: usize) -> u16 {
+    u16::from_be_bytes([message[at], message[at + 1]])
+}
+
+fn answered(counts: &mut Counts, message: &[u8], answer: &[u8], after: &Server) {
+    let sub = message[1];
+    let column = match sub {
+        1 | 2 | 3 => usize::from(sub),
+        5 | 6 | 7 => usize::from(sub) - 1,
+        _ => 0,
+    };
+    let (start, number, id) = (number_at(message, 2), number_at(message, 4), number_at(answer, 2));
+    let positive = number_at(answer, 4) != 0 || answer[6] == 0;
+    let code = if positive { 0 } else { answer[6] };
+    let set = sub == 2 || sub == 6;
+    let row = match code {
+        5 => 0,
+        10 => 1,
+        6 if number == 0 => 2,
+        6 => 3,
+        7 => 4,
+        4 => 5,
+        8 if bad_command(message, id, after) => 6,
+        9 => 7,
+        8 => 8,
+        2 => 9,
+        3 => 10,
+        _ => 12,
+    };
+    counts.cell(ERRORS, row, column);
+    if code == 3 && 6 + requests::size_of_range(after, message, start, id) == 255 {
+        counts.cell(ERRORS, 11, column);
+    }
+    if positive && answer.len() == 254 {
+        counts.cell(ERRORS, 13, column);
+    }
+    if !set && (positive || code == 2 || code == 3) && usize::from(start) + usize::from(number) > 65536 {
+        counts.cell(ERRORS, 14, column);
+    }
+    if set && positive {
+        set_carried_out(counts, message, start, after);
+    }
+    if sub == 6 && (row == 7 || row == 8) {
+        bad_entry(counts, message, id, row == 8, after);
+    }
+    if !positive {
+        return;
+    }
+    match sub {
+        3 if answer.len() == 251 => counts.hit("requests carried out", "49 descriptions answered"),
+        5 => {
+            counts.hit(
+                "requests carried out",
+                ["filter 0 answered", "filter 1 answered", "filter 2 answered"][usize::from(message[6])],
+            );
+            count_values(counts, ANSWERED, answer, after);
+        }
+        _ => {}
+    }
+    if !set && number_at(answer, 4) < number {
+        counts.hit("requests carried out", "an answer that skips absent IDs");
+    }
+}
+
+/// Counts the types of the values in an answer or indication.
+fn count_values(counts: &mut Counts, row: usize, message: &[u8], after: &Server) {
+    let mut at = 6;
+    while at < message.len() {
+        if let Some(typecode) = type_of(&after.datapoints, number_at(message, at)) {
+            counts.cell(TYPES, row, usize::from(typecode));
+        }
+        at += 4 + usize::from(message[at + 3]);
+    }
+}
+
+/// The entries of a set request that is made of whole ones: ID, command (0 for an item), value.
+fn entries(message: &[u8]) -> Vec<(u16, u8, &[u8])> {
+    let mut entries = Vec::new();
+    let head = if message[1] == 6 { 4 } else { 3 };
+    let mut at = 6;
+    while at < message.len() {
+        let length = usize::from(message[at + head - 1]);
+        let command = if head == 4 { message[at + 2] } else { 0 };
+        entries.push((number_at(message, at), command, &message[at + head..at + head + length]));
+        at += head + length;
+    }
+    entries
+}
+
+/// Which of the two rows 8 it was: those before the first bad entry are good, so the first of this ID with a command
+/// above 5, or with unused bits set, is the bad one.
+fn bad_command(message: &[u8], id: u16, after: &Server) -> bool {
+    let bad = first_bad_value(message, id, after);
+    bad.is_none_or(|(command, _)| command > 5)
+}
+
+fn first_bad_value<'a>(message: &'a [u8], id: u16, after: &Server) -> Option<(u8, &'a [u8])> {
+    let typecode = type_of(&after.datapoints, id)?;
+    let unused = |value: &[u8]| value.first().is_some_and(|byte| byte & !crate::tables::used_bits(typecode) != 0);
+    let bad = |(at, command, value): &(u16, u8, &[u8])| *at == id && (*command > 5 || unused(value));
+    entries(message).into_iter().find(bad).map(|(_, command, value)| (command, value))
+}
+
+/// Counts the bad entry of a datapoint set: unused bits, or its length.
+fn bad_entry(counts: &mut Counts, message: &[u8], id: u16, bits: bool, after: &Server) {
+    let Some(typecode) = type_of(&after.datapoints, id) else {
+        return;
+    };
+    let column = usize::from(typecode);
+    if bits {
+        counts.cell(TYPES, SET_BITS, column);
+        if let Some((command, _)) = first_bad_value(message, id, after) {
+            counts.cell(COMMANDS, 4, usize::from(command));
+        }
+        return;
+    }
+    let wrong = |command: u8, length: usize| {
+        (length != 0 && length != SIZES[column]) || (length == 0 && (command == 1 || command == 3))
+    };
+    let found = entries(message).into_iter().find(|(at, command, value)| *at == id && wrong(*command, value.len()));
+    if let Some((_, command, value)) = found {
+        if value.is_empty() {
+            counts.cell(COMMANDS, 3, usize::from(command));
+        } else {
+            counts.cell(TYPES, SET_LENGTH, column);
+            counts.cell(COMMANDS, 2, usize::from(command));
+        }
+    }
+}
+
+fn set_carried_out(counts: &mut Counts, message: &[u8], start: u16, after: &Server) {
+    let items = message[1] == 2;
+    let entries = entries(message);
+    if message.len() == 254 {
+        counts.hit("requests carried out", "set of 254 bytes answered");
+    }
+    if start != entries[0].0 {
+        let label = if items {
+            "set of items, start is not the first entry's"
+        } else {
+            "set of datapoints, start is not the first entry's"
+        };
+        counts.hit("requests carried out", label);
+    }
+    if entries.iter().enumerate().any(|(at, entry)| entries[..at].iter().any(|before| before.0 == entry.0)) {
+        counts.hit(
+            "requests carried out",
+            if items { "set of items, an ID twice" } else { "set of datapoints, an ID twice" },
+        );
+    }
+    if items {
+        return;
+    }
+    for (id, command, value) in entries {
+        counts.cell(COMMANDS, usize::from(value.is_empty()), usize::from(command));
+        if command == 1 || command == 3 {
+            if let Some(typecode) = type_of(&after.datapoints, id) {
+                counts.cell(TYPES, SET_TAKEN, usize::from(typecode));
+            }
+        }
+    }
+}
