@@ -1,0 +1,7 @@
+pub mod BenchLaws
+pub mod RunLaws
+pub mod WrittenLaws
+pub mod RecordLaws
+pub mod BurstLaws
+pub mod Types
+pub mod Prefix

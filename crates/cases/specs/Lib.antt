@@ -1,0 +1,6 @@
+pub mod Bench
+pub mod Step
+pub mod Run
+pub mod Records
+pub mod Same
+pub mod Trial
