@@ -6,9 +6,23 @@ use link::record::Link;
 use services::datapoint::Datapoint;
 use services::item::Item;
 
+fn same_bit(a: bool, b: bool) -> bool
+    ensures { λ r. ⌜ Decides r (a ≡ b) ⌝ }
+{
+    if a {
+        return b;
+    }
+    !b
+}
+
 fn same_datapoint(a: Datapoint, b: Datapoint) -> bool
     ensures { λ r. ⌜ Decides r (a ≡ b) ⌝ }
 {
+    let v = a.value;
+    let w = b.value;
+    if !check::same(&v, &w) {
+        return false;
+    }
     if a.id != b.id {
         return false;
     }
@@ -24,29 +38,24 @@ fn same_datapoint(a: Datapoint, b: Datapoint) -> bool
     if a.state != b.state {
         return false;
     }
-    if a.mark != b.mark {
-        return false;
-    }
-    let v = a.value;
-    let w = b.value;
-    check::same(&v, &w)
+    same_bit(a.mark, b.mark)
 }
 
 fn same_item(a: Item, b: Item) -> bool
     ensures { λ r. ⌜ Decides r (a ≡ b) ⌝ }
 {
+    let v = a.bytes;
+    let w = b.bytes;
+    if !check::same(&v, &w) {
+        return false;
+    }
     if a.id != b.id {
         return false;
     }
     if a.size != b.size {
         return false;
     }
-    if a.writable != b.writable {
-        return false;
-    }
-    let v = a.bytes;
-    let w = b.bytes;
-    check::same(&v, &w)
+    same_bit(a.writable, b.writable)
 }
 
 fn same_datapoints(a: [Datapoint; 50], b: [Datapoint; 50]) -> bool
@@ -79,18 +88,9 @@ fn same_items(a: [Item; 4], b: [Item; 4]) -> bool
 pub fn same_tables(a: Bench, b: Bench) -> bool
     ensures { λ r. ⌜ Decides r (SameTables a b) ⌝ }
 {
-    if a.datapointcount != b.datapointcount {
-        return false;
-    }
-    if a.itemcount != b.itemcount {
-        return false;
-    }
-    if a.parametercount != b.parametercount {
-        return false;
-    }
-    let d = a.datapoints;
-    let e = b.datapoints;
-    if !same_datapoints(d, e) {
+    let p = a.parameters;
+    let q = b.parameters;
+    if !check::same(&p, &q) {
         return false;
     }
     let i = a.items;
@@ -98,22 +98,31 @@ pub fn same_tables(a: Bench, b: Bench) -> bool
     if !same_items(i, j) {
         return false;
     }
-    let p = a.parameters;
-    let q = b.parameters;
-    check::same(&p, &q)
+    if a.parametercount != b.parametercount {
+        return false;
+    }
+    if a.itemcount != b.itemcount {
+        return false;
+    }
+    if a.datapointcount != b.datapointcount {
+        return false;
+    }
+    let d = a.datapoints;
+    let e = b.datapoints;
+    same_datapoints(d, e)
 }
 
 // Whether a link record has these bits, drops or not, and has this frame outstanding.
 pub fn is_link(link: Link, expected: bool, send: bool, dropping: bool, outstanding: &[u8]) -> bool
     ensures { λ r. ⌜ Decides r (LinkIs link expected send dropping (now (outstanding .entry))) ⌝ }
 {
-    if link.expected != expected {
+    if !same_bit(link.expected, expected) {
         return false;
     }
-    if link.send != send {
+    if !same_bit(link.send, send) {
         return false;
     }
-    if link.dropping != dropping {
+    if !same_bit(link.dropping, dropping) {
         return false;
     }
     let n = link.held as usize;

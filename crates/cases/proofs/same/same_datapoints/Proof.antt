@@ -1,58 +1,57 @@
+use mathlib.Core.Path.{_≡_}
+use lib.ListN.{length}
+use borrow.Author.Needs.{needs}
+use mathlib.Core.Path.{_≡_, sym, ap, _∙_}
+use Prim.Native.Nat.{_-_}
+use native.Mathlib.Omega.{arith}
+use Rattle.cases.proofs.SameLaws.{not-true, not-false, failed, shown, Alike, alike-begins, alike-goes, alike-ends}
 use Rattle.cases.proofs.same.same_datapoints.Statement.{statement}
 use Rattle.cases.proofs.same.same_datapoints.Tie as tie
-use Rattle.cases.proofs.same.same_datapoints.Reads as reads
-use Rattle.cases.proofs.same.same_datapoints.Lts as lts
-use Rattle.cases.proofs.same.same_datapoint.Reads as same-datapoint-reads
 
 abbrev Inv-loop : tie.InvT-loop
-Inv-loop a b i₀ i = ?
+Inv-loop a b i₀ i = Alike a b 50 i
 
 abbrev μ-loop : tie.MeasureT-loop
-μ-loop a b i₀ i = ?
+μ-loop a b i₀ i = 50 - i
 
--- src/same.rt:56:5
 loop-holds : tie.Need-loop-holds Inv-loop μ-loop
-loop-holds c = ?
+loop-holds c = alike-begins _ _ _
 
--- src/same.rt:57:28
 mul-same-datapoint : tie.Need-mul-same-datapoint Inv-loop μ-loop
-mul-same-datapoint c = ?
+mul-same-datapoint c = omega arith
 
--- src/same.rt:57:28
 array-copy-out-same-datapoint : tie.Need-array-copy-out-same-datapoint Inv-loop μ-loop
-array-copy-out-same-datapoint c = ?
+array-copy-out-same-datapoint c = omega arith
 
--- src/same.rt:57:34
 mul-same-datapoint-2 : tie.Need-mul-same-datapoint-2 Inv-loop μ-loop
-mul-same-datapoint-2 c = ?
+mul-same-datapoint-2 c = omega arith
 
--- src/same.rt:57:34
 array-copy-out-same-datapoint-2 : tie.Need-array-copy-out-same-datapoint-2 Inv-loop μ-loop
-array-copy-out-same-datapoint-2 c = ?
+array-copy-out-same-datapoint-2 c = omega arith
 
--- src/same.rt:57:13
 same-datapoint-requires : tie.Need-same-datapoint-requires Inv-loop μ-loop
-same-datapoint-requires c κs = ?
+same-datapoint-requires c κs = search needs
 
--- src/same.rt:58:13
 returns : tie.Need-returns Inv-loop μ-loop
-returns c = ?
+returns c = failed (c .before .same-datapoint .ensures) (not-true _ (c .if1 .taken)) (λ q. cc)
 
--- src/same.rt:60:13
 add-i : tie.Need-add-i Inv-loop μ-loop
-add-i c = ?
+add-i c = omega arith
 
--- src/same.rt:56:5
 loop-less : tie.Need-loop-less Inv-loop μ-loop
-loop-less c = ?
+loop-less c = omega arith
 
--- src/same.rt:56:5
 loop-again : tie.Need-loop-again Inv-loop μ-loop
-loop-again c = ?
+loop-again c =
+    let la : length (c .before .before .before .before .before .before .args .t1) ≡ 50 = search needs in
+    let lb : length (c .before .before .before .before .before .before .args .t2) ≡ 50 = search needs in
+    alike-goes _ _ _ _ _ la lb (c .before .before .before .before .loop-test .taken) (c .before .same-datapoint .ensures .0 (not-false _ (c .if1 .left))) (c .before .before .before .before .before .loop .inv)
 
--- src/same.rt:52:1
 returns-2 : tie.Need-returns-2 Inv-loop μ-loop
-returns-2 c = ?
+returns-2 c =
+    let la : length (c .before .before .args .t1) ≡ 50 = search needs in
+    let lb : length (c .before .before .args .t2) ≡ 50 = search needs in
+    shown (alike-ends _ _ _ _ la lb (omega arith) (c .before .loop .inv))
 
 pub same-datapoints-spec : {M : Type 1} → statement M
 same-datapoints-spec =

@@ -1,58 +1,56 @@
+use borrow.Author.Needs.{needs}
+use mathlib.Core.Path.{_≡_, sym, ap, _∙_}
+use Prim.Native.Nat.{_-_}
+use lib.ListN.{length}
+use native.Mathlib.Omega.{arith}
+use Rattle.cases.proofs.SameLaws.{not-true, not-false, failed, shown, Alike, alike-begins, alike-goes, alike-ends}
 use Rattle.cases.proofs.same.same_items.Statement.{statement}
 use Rattle.cases.proofs.same.same_items.Tie as tie
-use Rattle.cases.proofs.same.same_items.Reads as reads
-use Rattle.cases.proofs.same.same_items.Lts as lts
-use Rattle.cases.proofs.same.same_item.Reads as same-item-reads
 
 abbrev Inv-loop : tie.InvT-loop
-Inv-loop a b i₀ i = ?
+Inv-loop a b i₀ i = Alike a b 4 i
 
 abbrev μ-loop : tie.MeasureT-loop
-μ-loop a b i₀ i = ?
+μ-loop a b i₀ i = 4 - i
 
--- src/same.rt:69:5
 loop-holds : tie.Need-loop-holds Inv-loop μ-loop
-loop-holds c = ?
+loop-holds c = alike-begins _ _ _
 
--- src/same.rt:70:23
 mul-same-item : tie.Need-mul-same-item Inv-loop μ-loop
-mul-same-item c = ?
+mul-same-item c = omega arith
 
--- src/same.rt:70:23
 array-copy-out-same-item : tie.Need-array-copy-out-same-item Inv-loop μ-loop
-array-copy-out-same-item c = ?
+array-copy-out-same-item c = omega arith
 
--- src/same.rt:70:29
 mul-same-item-2 : tie.Need-mul-same-item-2 Inv-loop μ-loop
-mul-same-item-2 c = ?
+mul-same-item-2 c = omega arith
 
--- src/same.rt:70:29
 array-copy-out-same-item-2 : tie.Need-array-copy-out-same-item-2 Inv-loop μ-loop
-array-copy-out-same-item-2 c = ?
+array-copy-out-same-item-2 c = omega arith
 
--- src/same.rt:70:13
 same-item-requires : tie.Need-same-item-requires Inv-loop μ-loop
-same-item-requires c κs = ?
+same-item-requires c κs = search needs
 
--- src/same.rt:71:13
 returns : tie.Need-returns Inv-loop μ-loop
-returns c = ?
+returns c = failed (c .before .same-item .ensures) (not-true _ (c .if1 .taken)) (λ q. cc)
 
--- src/same.rt:73:13
 add-i : tie.Need-add-i Inv-loop μ-loop
-add-i c = ?
+add-i c = omega arith
 
--- src/same.rt:69:5
 loop-less : tie.Need-loop-less Inv-loop μ-loop
-loop-less c = ?
+loop-less c = omega arith
 
--- src/same.rt:69:5
 loop-again : tie.Need-loop-again Inv-loop μ-loop
-loop-again c = ?
+loop-again c =
+    let la : length (c .before .before .before .before .before .before .args .t1) ≡ 4 = search needs in
+    let lb : length (c .before .before .before .before .before .before .args .t2) ≡ 4 = search needs in
+    alike-goes _ _ _ _ _ la lb (c .before .before .before .before .loop-test .taken) (c .before .same-item .ensures .0 (not-false _ (c .if1 .left))) (c .before .before .before .before .before .loop .inv)
 
--- src/same.rt:65:1
 returns-2 : tie.Need-returns-2 Inv-loop μ-loop
-returns-2 c = ?
+returns-2 c =
+    let la : length (c .before .before .args .t1) ≡ 4 = search needs in
+    let lb : length (c .before .before .args .t2) ≡ 4 = search needs in
+    shown (alike-ends _ _ _ _ la lb (omega arith) (c .before .loop .inv))
 
 pub same-items-spec : {M : Type 1} → statement M
 same-items-spec =
