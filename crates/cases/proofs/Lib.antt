@@ -4,5 +4,6 @@ pub mod WrittenLaws
 pub mod RecordLaws
 pub mod BurstLaws
 pub mod SameLaws
+pub mod MeaningLaws
 pub mod Types
 pub mod Prefix

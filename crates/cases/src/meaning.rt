@@ -1,24 +1,11 @@
 // Frames and messages in words: document 000, section 3 and appendix B.
 ghost use mathlib.Core.Path.{_≡_};
-ghost use Prim.Native.Nat.{_+_, _≤_};
-ghost use lib.ListN.{length, getD};
+ghost use Prim.Native.Nat.{_+_};
+ghost use lib.ListN.{length};
 ghost use lib.Dec.{leb};
-ghost use Rattle.link.specs.Words.{ofTwoBytes};
+ghost use Rattle.cases.specs.Meaning.{numberAt};
 use crate::print;
 use link::frame::is_whole;
-
-// The number of two bytes at this place, big-endian; 0 where it runs past the end.
-fn number_at(s: &[u8], at: usize) -> u64
-    ensures { λ r. ⌜ at + 2 ≤ length (now (s .entry)) → r ≡ ofTwoBytes (getD (now (s .entry)) at 0) (getD (now (s .entry)) (at + 1) 0) ⌝ }
-{
-    if s.len() < 2 {
-        return 0;
-    }
-    if s.len() - 2 < at {
-        return 0;
-    }
-    s[at] as u64 * 256 + s[at + 1] as u64
-}
 
 // Whether so many bytes stand from this place on.
 fn has(s: &[u8], at: usize, count: usize) -> bool
@@ -28,6 +15,18 @@ fn has(s: &[u8], at: usize, count: usize) -> bool
         return false;
     }
     count <= s.len() - at
+}
+
+// The number of two bytes at this place, big-endian; 0 where it runs past the end.
+fn number_at(s: &[u8], at: usize) -> u64
+    ensures { λ r. ⌜ r ≡ numberAt (now (s .entry)) at ⌝ }
+{
+    if !has(s, at, 2) {
+        return 0;
+    }
+    let high = s[at] as u64;
+    let low = s[at + 1] as u64;
+    high * 256 + low
 }
 
 // ---- frames
@@ -105,7 +104,7 @@ fn message(m: &[u8]) {
         request(sub, m);
         return;
     }
-    answer(sub % 128, m);
+    answer(sub, m);
 }
 
 // A service by its sub-service code, that of the request.
@@ -160,11 +159,11 @@ fn answer(sub: u8, m: &[u8]) {
         return;
     }
     start_and_number(m);
-    if sub == 0x07 {
+    if sub == 0x87 {
         parameters(m);
         return;
     }
-    entries(sub + 128, m);
+    entries(sub, m);
 }
 
 fn outcome(m: &[u8]) {
@@ -244,29 +243,18 @@ fn command_entry(m: &[u8], at: usize) -> usize {
         return m.len();
     }
     let size = m[at + 3] as usize;
-    if !has(m, at + 4, size) {
+    let from = at + 4;
+    if !has(m, from, size) {
         return m.len();
     }
-    datapoint(m, at);
-    command(m[at + 2]);
-    if size == 0 {
-        print::text(b", no value");
-        return at + 4;
-    }
-    print::text(b", value ");
-    print::bytes(&m[at + 4..at + 4 + size]);
-    at + 4 + size
+    let end = from + size;
+    command_line(number_at(m, at), m[at + 2], &m[from..end]);
+    end
 }
 
-fn datapoint(m: &[u8], at: usize) {
-    print::below();
-    print::text(b"datapoint ");
-    print::number(number_at(m, at));
-    print::text(b": ");
-}
-
-fn command(c: u8) {
-    match c {
+fn command_line(id: u64, command: u8, value: &[u8]) {
+    datapoint(id);
+    match command {
         0 => print::text(b"no command"),
         1 => print::text(b"set new value"),
         2 => print::text(b"send value on bus"),
@@ -275,6 +263,19 @@ fn command(c: u8) {
         5 => print::text(b"clear transmission state"),
         _ => print::text(b"reserved command"),
     }
+    if value.len() == 0 {
+        print::text(b", no value");
+    } else {
+        print::text(b", value ");
+        print::bytes(value);
+    }
+}
+
+fn datapoint(id: u64) {
+    print::below();
+    print::text(b"datapoint ");
+    print::number(id);
+    print::text(b": ");
 }
 
 // ID, length, data.
@@ -283,15 +284,21 @@ fn item_entry(m: &[u8], at: usize) -> usize {
         return m.len();
     }
     let size = m[at + 2] as usize;
-    if !has(m, at + 3, size) {
+    let from = at + 3;
+    if !has(m, from, size) {
         return m.len();
     }
+    let end = from + size;
+    item_line(number_at(m, at), &m[from..end]);
+    end
+}
+
+fn item_line(id: u64, content: &[u8]) {
     print::below();
     print::text(b"item ");
-    print::number(number_at(m, at));
+    print::number(id);
     print::text(b" = ");
-    print::bytes(&m[at + 3..at + 3 + size]);
-    at + 3 + size
+    print::bytes(content);
 }
 
 // ID, type code, config flags, DPT.
@@ -299,14 +306,18 @@ fn description_entry(m: &[u8], at: usize) -> usize {
     if !has(m, at, 5) {
         return m.len();
     }
-    datapoint(m, at);
-    print::text(b"type ");
-    print::number8(m[at + 2]);
-    print::text(b", flags ");
-    print::byte(m[at + 3]);
-    print::text(b", DPT ");
-    print::number8(m[at + 4]);
+    description_line(number_at(m, at), m[at + 2], m[at + 3], m[at + 4]);
     at + 5
+}
+
+fn description_line(id: u64, typecode: u8, flags: u8, dpt: u8) {
+    datapoint(id);
+    print::text(b"type ");
+    print::number8(typecode);
+    print::text(b", flags ");
+    print::byte(flags);
+    print::text(b", DPT ");
+    print::number8(dpt);
 }
 
 // ID, state, length, value.
@@ -315,13 +326,19 @@ fn value_entry(m: &[u8], at: usize) -> usize {
         return m.len();
     }
     let size = m[at + 3] as usize;
-    if !has(m, at + 4, size) {
+    let from = at + 4;
+    if !has(m, from, size) {
         return m.len();
     }
-    datapoint(m, at);
+    let end = from + size;
+    value_line(number_at(m, at), m[at + 2], &m[from..end]);
+    end
+}
+
+fn value_line(id: u64, state: u8, value: &[u8]) {
+    datapoint(id);
     print::text(b"state ");
-    print::byte(m[at + 2]);
+    print::byte(state);
     print::text(b", value ");
-    print::bytes(&m[at + 4..at + 4 + size]);
-    at + 4 + size
+    print::bytes(value);
 }

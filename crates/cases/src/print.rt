@@ -1,4 +1,7 @@
 // Text on standard output. No contract can say what is written: these functions are proved safe and ending.
+ghost use mathlib.Core.Path.{_≡_};
+ghost use Prim.Native.Nat.{_<_};
+ghost use Rattle.cases.specs.Meaning.{digitOf};
 use libc::STDOUT_FILENO;
 
 pub fn text(s: &[u8]) {
@@ -19,7 +22,10 @@ pub fn number8(n: u8) {
 }
 
 // A hexadecimal digit, in upper case as the papers have them.
-fn digit(n: u8) -> u8 {
+fn digit(n: u8) -> u8
+    requires { ⌜ n < 16 ⌝ }
+    ensures { λ r. ⌜ r ≡ digitOf n ⌝ }
+{
     if n < 10 {
         return 48 + n;
     }

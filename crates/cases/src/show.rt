@@ -8,14 +8,19 @@ use services::item::Item;
 
 // ID and data.
 fn item(i: Item) {
-    print::text(b"item ");
-    print::number16(i.id);
-    print::text(b" = ");
+    let content = i.bytes;
     let n = i.size as usize;
-    let data = i.bytes;
-    if n <= 16 {
-        print::bytes(&data[..n]);
+    if 16 < n {
+        return;
     }
+    item_text(i.id, &content[..n]);
+}
+
+fn item_text(id: u16, content: &[u8]) {
+    print::text(b"item ");
+    print::number16(id);
+    print::text(b" = ");
+    print::bytes(content);
 }
 
 // The item at this place, in a line with this label.
@@ -56,6 +61,15 @@ fn status(s: u8) {
 
 // ID, type code, state, value, report mark.
 fn datapoint(d: Datapoint) {
+    let value = d.value;
+    let n = size_of(d.typecode);
+    if 14 < n {
+        return;
+    }
+    datapoint_text(d, &value[..n]);
+}
+
+fn datapoint_text(d: Datapoint, value: &[u8]) {
     print::text(b"datapoint ");
     print::number16(d.id);
     print::text(b": type ");
@@ -63,11 +77,7 @@ fn datapoint(d: Datapoint) {
     print::text(b", state ");
     state(d.state);
     print::text(b", value ");
-    let n = size_of(d.typecode);
-    let value = d.value;
-    if n <= 14 {
-        print::bytes(&value[..n]);
-    }
+    print::bytes(value);
     if d.mark {
         print::text(b", mark set");
     } else {
