@@ -5,5 +5,6 @@ pub mod RecordLaws
 pub mod BurstLaws
 pub mod SameLaws
 pub mod MeaningLaws
+pub mod TrialLaws
 pub mod Types
 pub mod Prefix

@@ -11,6 +11,11 @@ use Rattle.cases.specs.declared.trial.Trial.{Trial}
 use Rattle.cases.specs.Run.{sent, heard, allQuiet}
 use Rattle.cases.specs.Same.{Decides, LinkIs}
 
+-- the bench is b, and right where P holds
+pub record Shows (b : Bench) (P : Type 0) (r : Trial) : Type 0 where
+  pub bench : r .bench ≡ b
+  pub right : Decides (r .right) P
+
 -- the trial goes on with the bench b, and is right still exactly where P holds
 pub record Goes (t : Trial) (b : Bench) (P : Type 0) (r : Trial) : Type 0 where
   pub bench : r .bench ≡ b

@@ -43,8 +43,8 @@ fn put_frame(out: &mut [u8], at: usize, control: u8, message: &[u8])
     put_bytes(out, end, &tail);
 }
 
-// A data frame of the host.
-pub fn request(control: u8, message: &[u8]) -> Burst
+// A data frame.
+pub fn data_frame(control: u8, message: &[u8]) -> Burst
     requires { ⌜ length (now message) ≤ 254 ⌝ }
     ensures { λ r. ⌜ (take (r .size) (r .bytes) ≡ dataFrame control (now (message .entry))) × (r .size ≡ length (now (message .entry)) + 7) ⌝ }
 {
@@ -56,8 +56,8 @@ pub fn request(control: u8, message: &[u8]) -> Burst
     }
 }
 
-// What the server sends to a request: E5, and the answer framed right after it.
-pub fn answer(control: u8, message: &[u8]) -> Burst
+// An acknowledgement, and a data frame right after it.
+pub fn acknowledged_frame(control: u8, message: &[u8]) -> Burst
     requires { ⌜ length (now message) ≤ 254 ⌝ }
     ensures { λ r. ⌜ (take (r .size) (r .bytes) ≡ 0xE5 ∷ dataFrame control (now (message .entry))) × (r .size ≡ length (now (message .entry)) + 8) ⌝ }
 {

@@ -8,9 +8,10 @@ ghost use Rattle.link.specs.Frame.{dataFrame};
 ghost use Rattle.server.specs.declared.event.Event.{Event};
 ghost use Rattle.cases.specs.Run.{happened, quiet, heard};
 ghost use Rattle.cases.specs.Same.{Decides, SameTables, LinkIs};
-ghost use Rattle.cases.specs.Trial.{Goes, Sends, Draws, Answered, Damaged};
+ghost use Rattle.cases.specs.Trial.{Shows, Goes, Sends, Draws, Answered, Damaged};
 use crate::bench::Bench;
-use crate::frame;
+use crate::frame::acknowledged_frame;
+use crate::frame::data_frame;
 use crate::meaning;
 use crate::print;
 use crate::run::feed;
@@ -116,26 +117,43 @@ fn has_sent(bench: Bench, wanted: &[u8]) -> bool
     check::same(&out[..n], wanted)
 }
 
-// The host sends these bytes, one event each. The server is to send what is wanted, all of it at the last byte.
+// The bench after these bytes from the host, one event each, and whether they drew what is wanted, all of it at the last one.
+fn drawn(bench: Bench, bytes: &[u8], wanted: &[u8]) -> Trial
+    ensures { λ r. ⌜ Shows (heard (now (bytes .entry)) bench) (Draws (now (bytes .entry)) (now (wanted .entry)) bench) r ⌝ }
+{
+    let n = bytes.len();
+    if n == 0 {
+        return Trial {
+            bench: bench,
+            right: false,
+        };
+    }
+    let last = n - 1;
+    let fed = feed(bench, &bytes[..last]);
+    let b = happens(fed.bench, Event::HostByte(bytes[last]));
+    if fed.quiet {
+        return Trial {
+            bench: b,
+            right: has_sent(b, wanted),
+        };
+    }
+    Trial {
+        bench: b,
+        right: false,
+    }
+}
+
+// The host sends these bytes; the server is to send what is wanted.
 pub fn host(trial: Trial, bytes: &[u8], wanted: &[u8]) -> Trial
     ensures { λ r. ⌜ Goes trial (heard (now (bytes .entry)) (trial .bench)) (Draws (now (bytes .entry)) (now (wanted .entry)) (trial .bench)) r ⌝ }
 {
     frame_lines(b"   host   : ", bytes);
-    let n = bytes.len();
-    if n == 0 {
-        return after(trial, trial.bench, false);
+    let d = drawn(trial.bench, bytes, wanted);
+    sent_lines(d.bench);
+    if !d.right {
+        server_lines(b"   paper  : ", wanted);
     }
-    let last = n - 1;
-    let fed = feed(trial.bench, &bytes[..last]);
-    let bench = happens(fed.bench, Event::HostByte(bytes[last]));
-    sent_lines(bench);
-    if fed.quiet {
-        if has_sent(bench, wanted) {
-            return after(trial, bench, true);
-        }
-    }
-    server_lines(b"   paper  : ", wanted);
-    after(trial, bench, false)
+    after(trial, d.bench, d.right)
 }
 
 // A request under an odd count bit, and the answer that it is to have, under an odd one too. It is outstanding then, and even is expected.
@@ -143,39 +161,61 @@ pub fn ask(trial: Trial, message: &[u8], wanted: &[u8]) -> Trial
     requires { ⌜ (length (now message) ≤ 254) × (length (now wanted) ≤ 254) ⌝ }
     ensures { λ r. ⌜ Goes trial (heard (dataFrame 0x73 (now (message .entry))) (trial .bench)) (Answered (now (message .entry)) (now (wanted .entry)) (trial .bench)) r ⌝ }
 {
-    let request = frame::request(0x73, message);
-    let answer = frame::answer(0xF3, wanted);
+    let request = data_frame(0x73, message);
     let asked = request.bytes;
     let n = request.size;
+    let answer = acknowledged_frame(0xF3, wanted);
     let answered = answer.bytes;
-    let m = answer.size;
-    let t = host(trial, &asked[..n], &answered[..m]);
-    link(t, false, true, false, &answered[1..m])
+    let k = answer.size;
+    let t = host(trial, &asked[..n], &answered[..k]);
+    let held = data_frame(0xF3, wanted);
+    let outstanding = held.bytes;
+    let l = held.size;
+    link(t, false, true, false, &outstanding[..l])
 }
 
-// The host sends damaged bytes: at this place, counted from 0, the receiver is to find it and to drop all from there on. Nothing is to be sent.
+// The bench after these bytes from the host, and whether the receiver found damage at this place, counted from 0, and nothing was sent.
+fn found_damage(bench: Bench, bytes: &[u8], place: usize) -> Trial
+    requires { ⌜ place < length (now bytes) ⌝ }
+    ensures { λ r. ⌜ Shows (heard (now (bytes .entry)) bench) (Damaged (now (bytes .entry)) place bench) r ⌝ }
+{
+    let behind = place + 1;
+    let before = feed(bench, &bytes[..place]);
+    let found = feed(bench, &bytes[..behind]);
+    let all = feed(bench, bytes);
+    let b = all.bench;
+    if before.bench.link.dropping {
+        return Trial {
+            bench: b,
+            right: false,
+        };
+    }
+    if found.bench.link.dropping {
+        return Trial {
+            bench: b,
+            right: all.quiet,
+        };
+    }
+    Trial {
+        bench: b,
+        right: false,
+    }
+}
+
+// The host sends damaged bytes. The receiver is to find it at this place, and to drop all from there on; nothing is to be sent.
 pub fn damaged(trial: Trial, bytes: &[u8], place: usize) -> Trial
     requires { ⌜ place < length (now bytes) ⌝ }
     ensures { λ r. ⌜ Goes trial (heard (now (bytes .entry)) (trial .bench)) (Damaged (now (bytes .entry)) place (trial .bench)) r ⌝ }
 {
+    let b = bytes[place];
+    let d = found_damage(trial.bench, bytes, place);
     frame_lines(b"   host   : ", bytes);
-    let behind = place + 1;
-    let before = feed(trial.bench, &bytes[..place]);
-    let found = feed(trial.bench, &bytes[..behind]);
-    let all = feed(trial.bench, bytes);
-    if before.bench.link.dropping {
-        return after(trial, all.bench, false);
+    if d.right {
+        print::text(b"   server : nothing; damage, found at the byte ");
+        print::byte(b);
+        print::text(b"\n");
     }
-    if !found.bench.link.dropping {
-        return after(trial, all.bench, false);
-    }
-    if !all.quiet {
-        return after(trial, all.bench, false);
-    }
-    print::text(b"   server : nothing; damage, found at the byte ");
-    print::byte(bytes[place]);
-    print::text(b"\n");
-    after(trial, all.bench, true)
+    after(trial, d.bench, d.right)
 }
 
 // The line is silent for the standard's gap. Nothing is to be sent.

@@ -1,8 +1,8 @@
 use borrow.Author.Needs.{needs}
 use mathlib.Core.Path.{refl}
 use Rattle.cases.proofs.BurstLaws.{request-written}
-use Rattle.cases.proofs.frame.request.Statement.{statement}
-use Rattle.cases.proofs.frame.request.Tie as tie
+use Rattle.cases.proofs.frame.data_frame.Statement.{statement}
+use Rattle.cases.proofs.frame.data_frame.Tie as tie
 
 slice-aggregate-put-frame : tie.Need-slice-aggregate-put-frame
 slice-aggregate-put-frame c = search needs
@@ -16,5 +16,5 @@ add-t9 c = search needs
 returns : tie.Need-returns
 returns c = (request-written _ _ _ (c .before .before .before .before .pre) (c .before .put-frame .ensures), refl)
 
-pub request-spec : {M : Type 1} → statement M
-request-spec = tie.close (tie.spec slice-aggregate-put-frame put-frame-requires add-t9 returns)
+pub data-frame-spec : {M : Type 1} → statement M
+data-frame-spec = tie.close (tie.spec slice-aggregate-put-frame put-frame-requires add-t9 returns)

@@ -1,8 +1,8 @@
 use borrow.Author.Needs.{needs}
 use mathlib.Core.Path.{refl}
 use Rattle.cases.proofs.BurstLaws.{answer-written}
-use Rattle.cases.proofs.frame.answer.Statement.{statement}
-use Rattle.cases.proofs.frame.answer.Tie as tie
+use Rattle.cases.proofs.frame.acknowledged_frame.Statement.{statement}
+use Rattle.cases.proofs.frame.acknowledged_frame.Tie as tie
 
 array-write-bytes : tie.Need-array-write-bytes
 array-write-bytes c = search needs
@@ -19,7 +19,7 @@ add-t11 c = search needs
 returns : tie.Need-returns
 returns c = (answer-written _ _ _ (c .before .before .before .before .pre) (c .before .put-frame .ensures), refl)
 
-pub answer-spec : {M : Type 1} → statement M
-answer-spec =
+pub acknowledged-frame-spec : {M : Type 1} → statement M
+acknowledged-frame-spec =
     tie.close
     (tie.spec array-write-bytes slice-aggregate-put-frame put-frame-requires add-t11 returns)
