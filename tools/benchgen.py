@@ -1,7 +1,9 @@
 #!/usr/bin/env python3
 # Writes the hand walk (Proof.antt) of a `step` that lends the fields of its own local struct to ONE call, stores the result to a field, and returns the struct. Not trusted: the check proves what it writes.
 #     benchgen.py MIR CONFIG.json > Proof.antt          MIR: what `rt mir CRATE` prints. The `use` lines of the kit are found by kit.py
-# Covers: a field that is a struct lent as `&mut S`; an array of structs or of numbers lent as `&mut [T]`, its first part `&mut a[..n]` with n read from a field, an array lent as `&[T]`; plain arguments; fields that stay.
+# Covers: a field that is a struct lent as `&mut S`; an array of structs or of numbers lent as `&mut [T]` or `&[T]`, or its first part `&mut a[..n]`, `&a[..n]` with n read from a field; plain arguments; fields that stay.
+# CONFIG: module, libmodule: the modules of src/ that have the two functions. fields: in order; `count` is the field with the number that is in use, `fits` why that is no more than `len`. lend: how each field is lent.
+# defs: definitions over the parameters that the rest may name. last: what each field lent by `&mut` holds after the call. facts: why, from z, what the callee ensures. result: Data, value, field to store it in, and why it is that value. unfold: for the `spec`.
 import sys, re, json
 import kit
 if len(sys.argv)<3: sys.exit('usage: benchgen.py MIR CONFIG.json > Proof.antt')
@@ -25,7 +27,7 @@ def find(x, out):
         if x and x[0] == 'fn-def': out[x[1].strip('"')] = x[2]
         for y in x: find(y, out)
 mirf, cfgf = sys.argv[1:3]; c = json.load(open(cfgf)); fns = {}; find(parse('(' + open(mirf).read() + ')'), fns)
-crate, lib, fn, callee = c['crate'], c['lib'], c['fn'], c['callee']; F = fns[f'{crate}::{fn}']; m = len(lst(F[4])); body = F[5]
+crate, lib, fn, callee = c['crate'], c['lib'], c['fn'], c['callee']; mods, libs = ([c[k]] if c.get(k) else [] for k in ('module', 'libmodule')); F = fns['::'.join([crate] + mods + [fn])]; m = len(lst(F[4])); body = F[5]
 stm = []
 while body[0] == 'seq': stm.append(body[1]); body = body[2]
 fields = c['fields']; byn = {f['n']: f for f in fields}; params = c['params']
@@ -46,7 +48,7 @@ def pos(i, F0):
     p = base(i); return p + F0 - (1 if gone and p > base(J) else 0)
 val = {}; call = None; k = 0
 names = {i+1: p for i, p in enumerate(params)}
-room = lambda f: f'room-{f["n"]}' + (f' (s .{f["count"]}) {c["requires"][0]}' if 'count' in f else '')
+room = lambda f: f'room-{f["n"]}' + (f' (s .{f["count"]}) ({f["fits"]})' if 'count' in f else '')
 while k < len(stm):
     s = stm[k]; k += 1
     if s[0] == 'call': call = s; break
@@ -66,9 +68,10 @@ args = []
 for x in lst(call[2]):
     i = int(x[1][1]); args.append(('data', names[i], i) if i in names else ('ref', val[i], i))
 refs = [a for a in args if a[0] == 'ref']; lent = {a[1]['n']: j for j, a in enumerate(refs)}
-mode = lambda f: c['lend'][f['n']]           # mut | slice | prefix | shr
-now = lambda f: f'take (s .{f["count"]}) (s .{f["n"]})' if mode(f) == 'prefix' else f's .{f["n"]}'
-cnt = lambda f: f'(s .{f["count"]})' if mode(f) == 'prefix' else str(f.get('len'))
+mode = lambda f: c['lend'][f['n']]           # mut | slice | prefix | shr | shrprefix
+first = lambda f: mode(f) in ('prefix', 'shrprefix')
+now = lambda f: f'take (s .{f["count"]}) (s .{f["n"]})' if first(f) else f's .{f["n"]}'
+cnt = lambda f: f'(s .{f["count"]})' if first(f) else str(f.get('len'))
 O.append(f'-- the local is taken apart, and its fields are lent'); 
 mv([base(J)]); O.append(f'local-part ! benchD refl s {BL} s-ok'); gone = True
 AG = f'(B.the-type .name) members {c["struct"]} (B.the-type .to) (B.the-type .to-one) 𝓤 H A'
@@ -84,7 +87,8 @@ for j, f in enumerate(fields[:last+1]):
     elif f['k'] == 'array': t += f'rewrite ! 0 {listR(f)} (map-id (s .{n})) refl $ '
     if md == 'mut': t += f'lends-part ! tt ({f["D"]} .row) (s .{n}) {BL} {f["at"]} (λ ν{q} δ{q}. '
     elif md == 'slice': t += f'lends-array ! tt {f["D"]} tt {f["len"]} (s .{n}) {BL} {f["at"]} {room(f)} (λ ν{q} δ{q} long{q}. '
-    elif md == 'prefix': t += f'lends-prefix ! tt {f["D"]} tt {f["len"]} (s .{f["count"]}) (s .{n}) {BL} {f["at"]} {c["requires"][0]} ({room(f)}) (λ ν{q} δ{q} long{q} lu{q}. '
+    elif md == 'prefix': t += f'lends-prefix ! tt {f["D"]} tt {f["len"]} (s .{f["count"]}) (s .{n}) {BL} {f["at"]} ({f["fits"]}) ({room(f)}) (λ ν{q} δ{q} long{q} lu{q}. '
+    elif md == 'shrprefix': t += f'shares-prefix ! tt {f["D"]} tt fullShare {f["len"]} (s .{f["count"]}) (s .{f["n"]}) {BL} {f["at"]} ({f["fits"]}) ({room(f)}) (λ ν{q} δ{q} long{q}. '
     elif md == 'shr': t += f'shares-array ! tt {f["D"]} tt fullShare {f["len"]} (s .{n}) {BL} {f["at"]} {room(f)} (λ ν{q} δ{q} long{q}. '
     close += 1; ctx = [f't{q}', f'r{q}', f'k{q}'] + ctx[1:]
     if j < last: t += 'move ! (3 ∷ [])'; ctx = [ctx[3]] + ctx[:3] + ctx[4:]
@@ -101,14 +105,14 @@ def mval(a):
     if a[0] == 'data': return f'{a[1][2]} .val {a[1][0]} ∷ []'
     f = a[1]; return f'vptr {BL} {f["at"]} ∷ []' if mode(f) == 'mut' else f'sliceVal ({BL}, {f["at"]}) {cnt(f)} ∷ []'
 ws = lambda i: 'ws' + ' .1'*i + ' .0'
-muts = [(i, a[1]) for i, a in enumerate(args) if a[0] == 'ref' and mode(a[1]) != 'shr']
+muts = [(i, a[1]) for i, a in enumerate(args) if a[0] == 'ref' and mode(a[1]) not in ('shr', 'shrprefix')]
 ends = lambda f: c['last'][f['n']]
 pair = lambda xs, o=', ': xs[0] if len(xs) == 1 else '(' + f'{o}('.join(xs[:-1]) + o + xs[-1] + ')'*(len(xs)-1)
-φ = pair([f'({ws(i)} ≡ {ends(f)})' for i, f in muts], ' × '); Q, r0, rf = c['result']
+φ = pair([f'({ws(i)} ≡ {ends(f)})' for i, f in muts], ' × '); Q, r0, rf, why = c['result']
 efact = {f['n']: 'e' + ' .1'*j + ('' if j == len(muts)-1 else ' .0') for j, (i, f) in enumerate(muts)}
 F0 = 1 + len(rest)
 O.append(f'calls-any ! (fmOf 𝓤 H (W .laws) 𝓣) g.ended (g.clauses 𝓤 H A mem run) known ((({κs[1:-1]}), {shs}, tt, {den}, {tup([mval(a) for a in args])}), tt) (id⊢ 𝓤 _) {Q} ({r0}) (λ ws. {φ})\n'
-  f'      (λ v r ws is. fact-use 𝓤 _ (id⊢ 𝓤 _) (λ z. factI 𝓤 _ _ ({pair([f"z .{j}" for j in range(len(muts))])}, pinned {Q} r ({r0}) v is (z .{len(muts)}))))\n'
+  f'      (λ v r ws is. fact-use 𝓤 _ (id⊢ 𝓤 _) (λ z. factI 𝓤 _ _ ({pair([c["facts"][f["n"]] for i, f in muts])}, pinned {Q} r ({r0}) v is ({why}))))\n'
   '      (' + ' (and-then ! '.join(['and-then ! ' + ld(args[0][2], F0)] + [ld(a[2], F0) for a in args[1:]]) + ' (no-more !)' + ')'*len(args) + ' (λ ws e is. @'); close += 1
 ctx = [f't{q}' for q in range(R)] + [f'L{i}' for i in range(len(args))] + rest
 argof = {a[1]['n']: i for i, a in enumerate(args) if a[0] == 'ref'}
@@ -123,12 +127,13 @@ for f in reversed(fields[:last+1]):
     n = f['n']
     if n in lent:
         q = lent[n]; i = argof[n]; md = mode(f); B = f'{BL} {f["at"]}'
-        take([f't{q}', f'k{q}'] if md == 'shr' else [f't{q}', f'L{i}', f'k{q}'])
+        take([f't{q}', f'k{q}'] if md in ('shr', 'shrprefix') else [f't{q}', f'L{i}', f'k{q}'])
         if md == 'mut': O.append(f'part-back ! tt ({f["D"]} .row) (s₁ .{n}) {B}')
         elif md == 'shr': O.append(f'array-unshared ! tt {f["D"]} fullShare {f["len"]} (s .{n}) {B} long{q}')
+        elif md == 'shrprefix': O.append(f'prefix-unshared ! tt {f["D"]} fullShare {f["len"]} (s .{f["count"]}) (s .{n}) {B} long{q}')
         elif md == 'slice': O.append(f'array-back ! tt {f["D"]} {f["len"]} (s .{n}) {B} long{q} ({ws(i)}) (s₁ .{n}) ({efact[n]}) (@'); close += 1
-        elif md == 'prefix': O.append(f'prefix-back ! tt {f["D"]} {f["len"]} (s .{f["count"]}) (s .{n}) {B} {c["requires"][0]} long{q} lu{q} ({ws(i)}) ({ends(f)}) ({efact[n]}) (@'); close += 1
-        ctx = ['f:'+n] + ctx[2 if md == 'shr' else 3:]
+        elif md == 'prefix': O.append(f'prefix-back ! tt {f["D"]} {f["len"]} (s .{f["count"]}) (s .{n}) {B} ({f["fits"]}) long{q} lu{q} ({ws(i)}) ({ends(f)}) ({efact[n]}) (@'); close += 1
+        ctx = ['f:'+n] + ctx[2 if md in ('shr', 'shrprefix') else 3:]
         if f['k'] == 'struct': O.append(f'as-tuple ! {f["T"]}.the-type fullShare (s₁ .{n}) {B}')
         elif f['k'] == 'structs': O.append(f'as-tuples ! {f["T"]}.the-type {f["len"]} fullShare (s₁ .{n}) {B}')
         elif f['k'] == 'array': O.append(f'rewrite ! 0 {listR(f)} (sym (map-id (s₁ .{n}))) refl')
@@ -143,7 +148,7 @@ O.append(f'assigns ! (of-opd ! {ld(d)}) (from ! (fld ! refl (stop !))) (store-in
 O.append(f'assigns ! (of-opd ! {ld(J)}) (from ! (stop !)) (init ! {base(0)} refl (typed 𝓤 H A benchD W s₂ (stored is₁ is) .0))')
 O.append(f'returns ! (look ! {base(0)} refl) $ frees-all ! (' + 'cell ∷ '*m + '[]) _')
 P = len(params); a0 = tup([p[0] for p in params]); u = tup(['tt']*P)
-O.append(f'suffices ! _ (ends-in 0 𝓤 H A W ps benchD (f.clauses 𝓤 H A mem run) tt tt x tt s₂ {u} {u} (stored is₁ is) (factI 𝓤 _ (emp 𝓤) stepped))')
+O.append(f'suffices ! _ (ends-in 0 𝓤 H A W ps benchD (f.clauses 𝓤 H A mem run) tt tt x tt s₂ {u} {u} (stored is₁ is) (factI 𝓤 _ (emp 𝓤) as-stated))')
 O.append('nothing ! $ '*(P+2) + 'keep ! (' + ' ∷ '.join(map(str, range(P+2))) + ' ∷ []) $ group ! 1 $ frame ! $ done !' + ')'*(close+1))
 text = ''
 for z in O: text += '      ' + z + ('\n' if z.startswith('--') or z.endswith('@') else ' $\n')
@@ -154,17 +159,17 @@ def rec(sent):
     for i, f in muts: v[f['n']] = ends(f) + (f' ++ dropL (s .{f["count"]}) (s .{f["n"]})' if mode(f) == 'prefix' else '')
     v[rf] = sent; return 'record { ' + '; '.join(f'{n} = {e}' for n, e in v.items()) + ' }'
 ow = lambda j: 'o' + ' .1'*j + ' .0'
-S = c['struct']; key = fn.replace('_', '-'); gk = callee.replace('_', '-'); req = c.get('requires')
-out = c['use'] + [f'use Rattle.{lib}.proofs.{callee} as g', f'use Rattle.{lib}.proofs.{callee}.Symbol as g-def', f'use Rattle.{lib}.proofs.{callee}.Symbol.{{name as #{lib}·{gk}}}', f'use Rattle.{lib}.proofs.{callee}.Met as g-thm',
-  f'use Rattle.{crate}.proofs.{fn}.Key.{{name as #{crate}·{key}}}', f'use Rattle.{crate}.proofs.{fn} as f', f'use Rattle.{crate}.proofs.{fn}.Statement as stated', f'use Rattle.{crate}.proofs.{fn}.Code as code', '',
+S = c['struct']; key = fn.replace('_', '-'); gk = '·'.join(libs + [callee.replace('_', '-')]); fk = '·'.join(mods + [key]); gp, fp = '.'.join(libs + [callee]), '.'.join(mods + [fn]); req = c.get('requires')
+out = c['use'] + [f'use Rattle.{lib}.proofs.{gp} as g', f'use Rattle.{lib}.proofs.{gp}.Symbol as g-def', f'use Rattle.{lib}.proofs.{gp}.Symbol.{{name as #{lib}·{gk}}}', f'use Rattle.{lib}.proofs.{gp}.Met as g-thm',
+  f'use Rattle.{crate}.proofs.{fp}.Key.{{name as #{crate}·{fk}}}', f'use Rattle.{crate}.proofs.{fp} as f', f'use Rattle.{crate}.proofs.{fp}.Statement as stated', f'use Rattle.{crate}.proofs.{fp}.Code as code', '',
   'abbrev ps : List (Param 0)', 'ps = ' + ' ∷ '.join(f'dataP 0 {p[2]}' for p in params) + ' ∷ []', '',
   'abbrev C-g : {M : Type 1} (𝓤 : URA M) (H : Heap 𝓤) (A : Atoms 𝓤) (mem : Memory → SProp 𝓤) (run : Routine → Fun 𝓤) → Contract 𝓤', 'C-g 𝓤 H A mem run = tripleOf 𝓤 H A g.signature (g.spec 𝓤 H A mem run)', '']
 for f in fields:
-    if f['n'] in lent and mode(f) == 'prefix': out += [f'room-{f["n"]} : (m : ℕ) → m ≤ {f["len"]} → Room ({f["D"]} .row) m', f'room-{f["n"]} m le = (omega (arith, le), omega (arith, le))', '',
+    if f['n'] in lent and first(f): out += [f'room-{f["n"]} : (m : ℕ) → m ≤ {f["len"]} → Room ({f["D"]} .row) m', f'room-{f["n"]} m le = (omega (arith, le), omega (arith, le))', '',
         f'{f["count"]}-ok : (s : {S}) → Good benchD s → Good {byn[f["count"]]["D"]} (s .{f["count"]})', f'{f["count"]}-ok s is = let o = LL.owed B.the-type B′.the-laws s (benchD .val s ∷ []) is in {ow([g["n"] for g in fields].index(f["count"]))}', '']
     elif f['n'] in lent and 'len' in f: out += [f'room-{f["n"]} : Room ({f["D"]} .row) {f["len"]}', f'room-{f["n"]} = (omega arith, omega arith)', '']
-out += ['module _ ' + ' '.join(f'({p[0]} : {p[1]})' for p in params) + ' where', '  -- after the call, and after its result is stored', f'  abbrev s₁ : {S}', '  s₁ = ' + rec(f's .{rf}'), '', f'  abbrev s₂ : {S}', '  s₂ = ' + rec(r0), '',
-  f'  stepped : s₂ ≡ {c["spec"]}', f'  unfolding {c["spec"].split()[0]}', '  stepped = refl', '', f'  stored : Good benchD s₁ → Good {Q} ({r0}) → Good benchD s₂',
+out += c.get('defs', []) + ['module _ ' + ' '.join(f'({p[0]} : {p[1]})' for p in params) + ' where', '  -- after the call, and after its result is stored', f'  abbrev s₁ : {S}', '  s₁ = ' + rec(f's .{rf}'), '', f'  abbrev s₂ : {S}', '  s₂ = ' + rec(r0), '',
+  f'  as-stated : s₂ ≡ {c["spec"]}', f'  unfolding {c.get("unfold", c["spec"].split()[0])}', '  as-stated = refl', '', f'  stored : Good benchD s₁ → Good {Q} ({r0}) → Good benchD s₂',
   '  stored is g = let o = LL.owed B.the-type B′.the-laws s₁ (benchD .val s₁ ∷ []) is in LL.owes B.the-type B′.the-laws s₂ ' + tup(['g' if j == rk else ow(j) for j in range(len(fields))]), '',
   '  module _ {M : Type 1} (𝓤 : URA M) (H : Heap 𝓤) (A : Atoms 𝓤) (W : Given 𝓤 H A) (mem : Memory → SProp 𝓤) (run : Routine → Fun 𝓤) (𝓣 : Tables 𝓤 H)',
   f'      (known : Triple 𝓤 (𝓣 .C #{lib}·{gk}) (C-g 𝓤 H A mem run)) ' + ' '.join(f'({p[0]}-ok : Good {p[2]} {p[0]})' for p in params) + (f' ({req[0]} : {req[1]})' if req else '') + ' where',
@@ -173,7 +178,7 @@ out += ['module _ ' + ' '.join(f'({p[0]} : {p[1]})' for p in params) + ' where',
   '        starts 𝓤 H A W 0 ps tt tt x ∵ enter ! (𝓣 .C) (𝓣 .Λ) code.function _ _ $ allocs-all ! (code.function .locals) (λ l. params1 ! $', '        ' + ' $ '.join(f'pass1 ! (init ! {base(i+1)} refl (typed 𝓤 H A {p[2]} W {p[0]} {p[0]}-ok .0))' for i, p in enumerate(params)) + ' $ pass0 ! $',
   '\n'.join('  ' + z for z in text.split('\n')), '',
   f'pub {key}-spec : {{M : Type 1}} → stated.statement M', 'unfolding code.routine tablesOf', f'{key}-spec 𝓤 H 𝓜 𝓖 𝓡 =', '    let W : Given 𝓤 H (𝓖 .A) = givenOf 𝓤 H 𝓜 𝓖 in', '    let 𝓣 : Tables 𝓤 H = tablesOf 𝓤 H 𝓜 (tables 𝓤 H 𝓜 𝓡 code.env) in',
-  '    entered 𝓤 H (tripleOf 𝓤 H (𝓖 .A) f.signature (f.spec 𝓤 H (𝓖 .A) (𝓜 .mem) (𝓡 .run)))', f'    (tables 𝓤 H 𝓜 𝓡 code.env .C) (tables 𝓤 H 𝓜 𝓡 code.env .Λ) #{crate}·{key} code.function (code.unfolded 𝓤 H 𝓜 𝓡)',
+  '    entered 𝓤 H (tripleOf 𝓤 H (𝓖 .A) f.signature (f.spec 𝓤 H (𝓖 .A) (𝓜 .mem) (𝓡 .run)))', f'    (tables 𝓤 H 𝓜 𝓡 code.env .C) (tables 𝓤 H 𝓜 𝓡 code.env .Λ) #{crate}·{fk} code.function (code.unfolded 𝓤 H 𝓜 𝓡)',
   '    (meets-by 0 𝓤 H (𝓖 .A) W ps benchD (f.clauses 𝓤 H (𝓖 .A) (𝓜 .mem) (𝓡 .run)) 𝓣 code.function (λ κs qs a _ are. ' + (f'needs 𝓤 _ _ (λ {req[0]}. ' if req else 'via 𝓤 _ (fst∗ 𝓤 _ (emp 𝓤)) (') + 'walk ' + ' '.join('(a' + ' .1'*i + ' .0)' for i in range(P)) + ' 𝓤 H (𝓖 .A) W (𝓜 .mem) (𝓡 .run) 𝓣',
   f'    (cited 𝓤 H (C-g 𝓤 H (𝓖 .A) (𝓜 .mem) (𝓡 .run)) 𝓜 𝓡 code.env #{lib}·{gk} g-def.routine code.calls-{lib}·{gk} (g-thm.met 𝓤 H 𝓜 𝓖 𝓡))', '    ' + ' '.join('(are' + ' .1'*i + ' .0)' for i in range(P)) + (f' {req[0]}' if req else '') + ')))', '']
-print(f'-- `{crate}::{fn}` meets its contract: a walk of its MIR, written by tools/benchgen.py. The fields of a local struct are lent to one call.\n-- Assumes nothing.'); sys.stdout.write(kit.fit('\n'.join(out) + '\n').replace('benchD', c.get('data', 'benchD')))  # data: the name of the struct's Data
+print(f'-- `{"::".join([crate] + mods + [fn])}` meets its contract: a walk of its MIR, written by tools/benchgen.py. The fields of a local struct are lent to one call.\n-- Assumes nothing.'); sys.stdout.write(kit.fit('\n'.join(out) + '\n').replace('benchD', c.get('data', 'benchD')))  # data: the name of the struct's Data

@@ -1,0 +1,10 @@
+pub mod BenchLaws
+pub mod RunLaws
+pub mod WrittenLaws
+pub mod RecordLaws
+pub mod BurstLaws
+pub mod SameLaws
+pub mod MeaningLaws
+pub mod TrialLaws
+pub mod Types
+pub mod Prefix

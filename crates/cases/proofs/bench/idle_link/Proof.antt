@@ -1,0 +1,12 @@
+use borrow.Author.Needs.{needs}
+use Rattle.link.specs.Record.{linkOf}
+use Rattle.cases.specs.Bench.{idleLink}
+use Rattle.cases.proofs.bench.idle_link.Statement.{statement}
+use Rattle.cases.proofs.bench.idle_link.Tie as tie
+
+returns : tie.Need-returns
+unfolding idleLink linkOf
+returns c = search needs
+
+pub idle-link-spec : {M : Type 1} → statement M
+idle-link-spec = tie.close (tie.spec returns)

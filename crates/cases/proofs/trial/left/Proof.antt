@@ -1,0 +1,25 @@
+use borrow.Author.Needs.{needs}
+use mathlib.Core.Path.{refl}
+use Rattle.cases.proofs.TrialLaws.{goes}
+use Rattle.cases.proofs.trial.left.Statement.{statement}
+use Rattle.cases.proofs.trial.left.Tie as tie
+
+slice-aggregate-text : tie.Need-slice-aggregate-text
+slice-aggregate-text c = search needs
+
+text-requires : tie.Need-text-requires
+text-requires c κs = search needs
+
+same-tables-requires : tie.Need-same-tables-requires
+same-tables-requires c κs = search needs
+
+after-requires : tie.Need-after-requires
+after-requires c κs = search needs
+
+returns : tie.Need-returns
+returns c = goes _ _ _ _ refl (c .before .same-tables .ensures) (c .after .ensures)
+
+pub left-spec : {M : Type 1} → statement M
+left-spec =
+    tie.close
+    (tie.spec slice-aggregate-text text-requires same-tables-requires after-requires returns)
