@@ -31,7 +31,8 @@ fn waits(d: Datapoint, end: usize, most: usize) -> bool
 }
 
 // The entries of the marked datapoints, into the buffer at `at`, until the next one does not fit; each record that is carried is left without its mark and
-// bit 3. One pass: what does not fit ends it, and nothing has to be taken back.
+// bit 3. One pass: what does not fit ends it, and nothing has to be taken back. A record is stored before its entry is built, so that only what is changed is
+// stored.
 pub fn tell_marked(table: &mut [Datapoint], out: &mut [u8], at: usize) -> Told
     requires { ⌜ (tableOk 1000 datapointId datapointOk (now table) ≡ true) × (at + 248 ≤ length (now out)) ⌝ }
     ensures { λ r. ⌜ (now (table .exit) ≡ afterReport (choices roomForEntries (now (table .entry))))
@@ -52,8 +53,8 @@ pub fn tell_marked(table: &mut [Datapoint], out: &mut [u8], at: usize) -> Told
                     end: end,
                 };
             }
-            end = put_value(out, end, d);
             table[i] = reported(d);
+            end = put_value(out, end, d);
             count += 1;
         }
         i += 1;

@@ -173,23 +173,23 @@ module _ {M : Type 1} (𝓤 : URA M) (H : Heap 𝓤) (A : Atoms 𝓤) (W : Given
         returns-within ! Done refl (look ! (loc 0) refl) $ behind ! 4 $ frees-all ! (room ∷ room ∷ room ∷ cell ∷ cell ∷ cell ∷ cell ∷ cell ∷ cell ∷ cell ∷ cell ∷ cell ∷ cell ∷ cell ∷ cell ∷ cell ∷ cell ∷ cell ∷ cell ∷ []) _ $
         by ! (exits end count zs bs count-fits end-fits (telling .long) (telling .bytes .long) (telling-waits ys out at i end count zs bs telling (lt-zs small) marked waiting)))
         (λ fits.
-        lets ! (loc 16) (addr ! (from ! (fld ! refl (hop ! (look-in ! (loc 2) (sub ! 0 refl (whole !))) (stop !))))) refl (tt, tt) $
-        lets ! (loc 17) (agg ! (and-then ! (val ! (loc 16) refl) (and-then ! (load ! (from ! (fld ! refl (stop !))) (look-in ! (loc 2) (sub ! 1 refl (whole !)))) (no-more !)))) refl (tt, (tt, (record { fits = gm .0 }, tt))) $
-        move ! (1 ∷ 0 ∷ []) $
-        calls-mutR ! (fmOf 𝓤 H (W .laws) 𝓣) byteD (placeD ∷ datapointD ∷ []) placeD (put-value.clauses 𝓤 H A mem run) (known .put-value) m bs (sym (telling .bytes .long)) (subst (Room (byteD .row)) (sym (telling .bytes .long)) gm) (λ _. (end, (d, tt))) (λ _ _. tt) (λ _. ((refl, end-fits), (d-ok, tt)))
-        (λ _ _. factI 𝓤 _ (emp 𝓤) (code-ok small, telling-room ys out at i end count zs bs telling (lt-zs small) marked fits)) (put bs end es) (end + length es) (λ _ _ _ _. id⊢ 𝓤 _)
-        (λ _ _ _. and-then ! (val ! (1 + loc 17) refl) (and-then ! (val ! (1 + loc 6) refl) (and-then ! (val ! (1 + loc 8) refl) (no-more !)))) (λ _ end-ok.
-        land ! (from ! (stop !)) (store ! (loc 6) refl (tt, record { fits = end-ok .1 })) $
-        move ! (1 ∷ 0 ∷ []) $
         calls-plain ! (fmOf 𝓤 H (W .laws) 𝓣) (datapointD ∷ []) datapointD (reported.clauses 𝓤 H A mem run) (known .reported) (d, tt) tt (d-ok, tt) (id⊢ 𝓤 _) d′ (λ _ _. id⊢ 𝓤 _)
         (λ _. and-then ! (val ! (1 + loc 8) refl) (no-more !)) (λ left-ok.
         land ! (from ! (stop !)) (store ! (loc 14) refl (typed 𝓤 H A datapointD W d′ left-ok .0)) $
         sets ! (loc 12) (bin ! (val ! (loc 5) refl) (lit ! tt) (record { fits = datapoint-offset-fits n i (gn .1) (lt small) })) refl (tt, record { fits = datapoint-offset-fits n i (gn .1) (lt small) }) $
-        lets ! (loc 18) (bin ! (load ! (from ! (fld ! refl (stop !))) (look-in ! (loc 1) (sub ! 0 refl (whole !)))) (val ! (loc 12) refl) tt) refl (tt, tt) $
-        rewrite ! (loc 18) (λ (j : ℕ). ‵ (fat fullShare tyPtr (l .1 .1 .1 .1 .1 .1 .1 .1 .1 .1 .1 .1 .1 .1 .1 .1 .1 .1 .0) 0 (vptr b j))) (sym (offset-is 22 o i)) refl $
+        lets ! (loc 16) (bin ! (load ! (from ! (fld ! refl (stop !))) (look-in ! (loc 1) (sub ! 0 refl (whole !)))) (val ! (loc 12) refl) tt) refl (tt, tt) $
+        rewrite ! (loc 16) (λ (j : ℕ). ‵ (fat fullShare tyPtr (l .1 .1 .1 .1 .1 .1 .1 .1 .1 .1 .1 .1 .1 .1 .1 .1 .0) 0 (vptr b j))) (sym (offset-is 22 o i)) refl $
         takes-at ! datapointD fullShare zs i zeroDatapoint b o (lt-zs small) (λ _.
-        assigns ! (of-opd ! (val ! (1 + loc 14) refl)) (from ! (hop ! (look ! (1 + loc 18) refl) (stop !))) (store-raw ! 0 refl (typed 𝓤 H A datapointD W d′ left-ok .0)) $
+        assigns ! (of-opd ! (val ! (1 + loc 14) refl)) (from ! (hop ! (look ! (1 + loc 16) refl) (stop !))) (store-raw ! 0 refl (typed 𝓤 H A datapointD W d′ left-ok .0)) $
         puts-at ! datapointD fullShare zs i d′ b o (lt-zs small) left-ok $
+        lets ! (loc 17) (addr ! (from ! (fld ! refl (hop ! (look-in ! (loc 2) (sub ! 0 refl (whole !))) (stop !))))) refl (tt, tt) $
+        lets ! (loc 18) (agg ! (and-then ! (val ! (loc 17) refl) (and-then ! (load ! (from ! (fld ! refl (stop !))) (look-in ! (loc 2) (sub ! 1 refl (whole !)))) (no-more !)))) refl (tt, (tt, (record { fits = gm .0 }, tt))) $
+        move ! (1 ∷ 0 ∷ []) $
+        calls-mutR ! (fmOf 𝓤 H (W .laws) 𝓣) byteD (placeD ∷ datapointD ∷ []) placeD (put-value.clauses 𝓤 H A mem run) (known .put-value) m bs (sym (telling .bytes .long)) (subst (Room (byteD .row)) (sym (telling .bytes .long)) gm) (λ _. (end, (d, tt))) (λ _ _. tt) (λ _. ((refl, end-fits), (d-ok, tt)))
+        (λ _ _. factI 𝓤 _ (emp 𝓤) (code-ok small, telling-room ys out at i end count zs bs telling (lt-zs small) marked fits)) (put bs end es) (end + length es) (λ _ _ _ _. id⊢ 𝓤 _)
+        (λ _ _ _. and-then ! (val ! (1 + loc 18) refl) (and-then ! (val ! (1 + loc 6) refl) (and-then ! (val ! (1 + loc 8) refl) (no-more !)))) (λ _ end-ok.
+        land ! (from ! (stop !)) (store ! (loc 6) refl (tt, record { fits = end-ok .1 })) $
+        move ! (1 ∷ 0 ∷ []) $
         sets ! (loc 7) (bin ! (val ! (loc 7) refl) (lit ! tt) (record { fits = count-next })) refl (tt, record { fits = count-next }) $
         assigns-last ! (bin ! (val ! (loc 5) refl) (lit ! tt) (record { fits = fits-next i n (gn .0) (lt small) })) (from ! (stop !)) (store ! (loc 5) refl (tt, record { fits = fits-next i n (gn .0) (lt small) })) $
         forget ! (loc 8) refl $ forget ! (loc 9) refl $ forget ! (loc 10) refl $ forget ! (loc 11) refl $ forget ! (loc 12) refl $ forget ! (loc 13) refl $ forget ! (loc 14) refl $ forget ! (loc 15) refl $ forget ! (loc 16) refl $ forget ! (loc 17) refl $ forget ! (loc 18) refl $
