@@ -7,4 +7,3 @@ pub mod SameLaws
 pub mod MeaningLaws
 pub mod TrialLaws
 pub mod Types
-pub mod Prefix

@@ -1,4 +1,4 @@
-// Frames as the host's side builds them, from the paper (01, "FT1.2 on the server side") and with nothing of the server's code.
+// Frames as the host's side builds them, from the paper (01, "FT1.2 on the server side") and with nothing of the code that frames the server's answers.
 ghost use mathlib.Core.Path.{_≡_};
 ghost use mathlib.Core.List.{_∷_};
 ghost use Prim.Native.Nat.{_+_, _≤_};

@@ -7,3 +7,4 @@ pub mod Calls
 pub mod Parts
 pub mod Locals
 pub mod Loops
+pub mod Repeated

@@ -5,7 +5,7 @@ use Rattle.walks.proofs.Walk.{allocs-all, frees-all, Param, dataP, ends-in, Wal
 use Rattle.walks.proofs.Fields.{lends-part, part-back, as-record, as-tuple, as-records, as-tuples, Again, parts-out, parts-in}
 use Rattle.walks.proofs.Slices.{lends-array, array-back}
 use Rattle.walks.proofs.Calls.{calls-any}
-use Rattle.walks.proofs.Parts.{lends-prefix, prefix-back}
+use Rattle.walks.proofs.Parts.{lends-prefix, prefix-back, shares-prefix, prefix-unshared}
 use Rattle.walks.proofs.Locals.{local-part, part-local}
 use mathlib.Core.Path.{_≡_, refl, sym, ap, subst, _∙_}
 use Prim.Native.Nat.{ℕ, _+_, _*_, _<_, _≤_, _^_}
@@ -55,7 +55,6 @@ use Rattle.cases.specs.declared.bench.Bench.{Bench}
 use Rattle.cases.specs.Bench.{Within}
 use Rattle.cases.specs.Step.{stepped, called, tablesIn}
 use Rattle.cases.proofs.Types.{benchD, members, lawfuls}
-use Rattle.cases.proofs.Prefix.{shares-prefix, prefix-unshared}
 use Rattle.cases.proofs.bench.Bench as B
 use Rattle.cases.proofs.bench.Bench.Laws as B′
 use Rattle.server.proofs.call.call as g
