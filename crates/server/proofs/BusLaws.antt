@@ -2,7 +2,7 @@
 use Prim.Native.Nat.{ℕ, _≤_, _<_}
 use mathlib.Core.Bool.{Bool, true, false, not, _&&_}
 use mathlib.Core.List.{List, [], _∷_, map}
-use mathlib.Core.Path.{_≡_, refl, sym, _∙_, ap}
+use mathlib.Core.Path.{_≡_, refl, sym, _∙_, ap, subst}
 use native.Mathlib.Omega.{arith}
 use lib.Dec.{T, eqb, eqb→eq}
 use lib.ListN.{length, getD, set}
@@ -43,6 +43,16 @@ taken-fits n v d t =
     let same : length v ≡ sizeOf (d .typecode) = eqb→eq (length v) (sizeOf (d .typecode)) (left (eqb (length v) (sizeOf (d .typecode))) (unusedBitsOk (d .typecode) v) t) in
     let fits : sizeOf (d .typecode) ≤ 14 = size-fits (d .typecode) in
     omega arith
+
+-- a value of one byte is its first byte
+one-byte : (v : List ℕ) → T (eqb (length v) 1) → v ≡ getD v 0 0 ∷ []
+one-byte [] t = absurd t
+one-byte (b ∷ []) t = refl
+one-byte (b ∷ c ∷ v) t = absurd (omega (arith, eqb→eq (length (b ∷ c ∷ v)) 1 t))
+
+-- it has a first byte
+pub has-byte : (v : List ℕ) → T (eqb (length v) 1) → 0 < length v
+has-byte v t = omega (arith, eqb→eq (length v) 1 t)
 
 -- the status has two bits
 pub status-fits : (o : Outcome) → statusOf o ≤ 3
@@ -103,6 +113,14 @@ module _ (e : Event) (id : ℕ) (v : List ℕ) (ds : List Datapoint) (ok : table
   -- the record at the place takes the event, where it is the one of the ID and takes it
   pub takes-there : takesAt e id v there ≡ true → T (takes e v there)
   takes-there h = right (eqb (there .id) id) (takes e v there) (true-T h)
+
+  -- a value of one byte, by that byte
+  module _ (one : T (eqb (length v) 1)) where
+    pub takes-byte : takesAt e id v there ≡ true → T (takes e (getD v 0 0 ∷ []) there)
+    takes-byte h = subst (λ (s : List ℕ). T (takes e s there)) (one-byte v one) (takes-there h)
+
+    pub accepted-byte : spot < length ds → takesAt e id v there ≡ true → BusEventTaken e id v ds (Accepted 0) (set ds spot (taken e (getD v 0 0 ∷ []) there))
+    accepted-byte l h = subst (λ (s : List ℕ). BusEventTaken e id v ds (Accepted 0) (set ds spot (taken e s there))) (one-byte v one) (accepted-here l h)
 
 -- ---- the call's definitions, by what a bus event does at one record
 module _ (id : ℕ) (v : List ℕ) (t : Tables) where

@@ -4,7 +4,7 @@ use mathlib.Core.Path.{_≡_, refl, sym, _∙_, ap}
 use mathlib.Core.Bool.{Bool, true, false}
 use mathlib.Core.List.{List, [], _∷_, _++_}
 use native.Mathlib.Omega.{arith}
-use lib.ListN.{length, take, drop}
+use lib.ListN.{length, take, drop, length-take}
 use lib.Dec.{T, ltb, eqb, leb→le}
 use borrow.Author.Tests.{le-ltb, ltb-false, eqb-true, eqb-false}
 use Rattle.link.specs.declared.record.Link.{Link}
@@ -184,12 +184,6 @@ module _ (b : ℕ) (k : Link) (out : List ℕ) (ds : List Datapoint) (is : List 
     pub acknowledged-room : 262 ≤ length acknowledgedOut
     acknowledged-room = omega (arith, w, acknowledged-length)
 
-    -- what carrying out asks
-    pub carry-needs : T (wellFormed (tablesOf ds is ps)) → (tableOk 1000 datapointId datapointOk ds ≡ true) × (tableOk 64 itemId itemOk is ≡ true) × (length ps ≤ 255) × (6 + 254 ≤ length acknowledgedOut)
-    carry-needs t =
-        let p = KeepLaws.parts (tablesOf ds is ps) t in
-        (T-true (tableOk 1000 datapointId datapointOk ds) (p .datapoints), T-true (tableOk 64 itemId itemOk is) (p .items), leb→le (length ps) 255 (p .parameters), omega (arith, acknowledged-room))
-
     says-short : length (carries .says) ≤ 254
     says-short = AnswerLaws.sized-short (carries .says) (AnswerLaws.answer-sized (tablesOf ds is ps) asks)
 
@@ -211,6 +205,17 @@ module _ (b : ℕ) (k : Link) (out : List ℕ) (ds : List Datapoint) (is : List 
 
       pub request-bounds : (5 ≤ endAt) × (endAt ≤ 260)
       request-bounds = (omega (arith, q .end, at .one), omega (arith, q .end, at .within))
+
+      -- L, at most 255, counts the control byte and the message
+      asks-short : length asks ≤ 254
+      asks-short = omega (arith, length-take (endAt - 5) (drop 5 (afterHostByte b k .receiver)), q .end, at .small)
+
+      -- what carrying out asks
+      pub carry-needs : T (wellFormed (tablesOf ds is ps))
+          → (tableOk 1000 datapointId datapointOk ds ≡ true) × (tableOk 64 itemId itemOk is ≡ true) × (length ps ≤ 255) × (6 + 254 ≤ length acknowledgedOut) × (length asks ≤ 254)
+      carry-needs t =
+          let p = KeepLaws.parts (tablesOf ds is ps) t in
+          (T-true (tableOk 1000 datapointId datapointOk ds) (p .datapoints), T-true (tableOk 64 itemId itemOk is) (p .items), leb→le (length ps) 255 (p .parameters), omega (arith, acknowledged-room), asks-short)
 
       -- the message is the one that the link hands up
       handed : onHostByte b (lineOf k) .up ≡ message asks

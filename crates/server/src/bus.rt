@@ -1,6 +1,7 @@
 // Bus events: a value, or the outcome of a transmission, for the datapoint of an ID.
 ghost use mathlib.Core.Path.{_≡_};
 ghost use mathlib.Core.Bool.{true, _&&_};
+ghost use mathlib.Core.List.{[], _∷_};
 ghost use lib.Dec.{T, eqb};
 ghost use Rattle.services.specs.Datapoint.{datapointId, datapointOk};
 ghost use Rattle.services.specs.Table.{tableOk};
@@ -9,6 +10,7 @@ use crate::event::Event;
 use crate::event::status_of;
 use crate::reply::Reply;
 use services::datapoint::Datapoint;
+use services::datapoint::bus_byte;
 use services::datapoint::bus_value;
 use services::datapoint::is_value;
 use services::datapoint::outcome_of;
@@ -48,6 +50,21 @@ fn after_event(event: Event, value: &[u8], d: Datapoint) -> Datapoint
     }
 }
 
+// The same for a value of one byte.
+fn after_byte(event: Event, b: u8, d: Datapoint) -> Datapoint
+    requires { ⌜ T (takes event (b ∷ []) d) ⌝ }
+    ensures { λ r. ⌜ r ≡ taken event (b ∷ []) d ⌝ }
+{
+    match event {
+        Event::HostByte(_) => d,
+        Event::IdleMark => d,
+        Event::AckWaitOver => d,
+        Event::Poll => d,
+        Event::BusValue(_) => bus_byte(d, b),
+        Event::TransmissionOutcome(_, outcome) => outcome_of(d, status_of(outcome)),
+    }
+}
+
 // A bus event about the datapoint of this ID: one look-up, and one record stored; or refusal 4.
 pub fn on_bus_event(event: Event, id: u16, value: &[u8], datapoints: &mut [Datapoint]) -> Reply
     requires { ⌜ tableOk 1000 datapointId datapointOk (now datapoints) ≡ true ⌝ }
@@ -60,6 +77,11 @@ pub fn on_bus_event(event: Event, id: u16, value: &[u8], datapoints: &mut [Datap
     let d = datapoint_at(datapoints, place);
     if !takes_event(event, id, value, d) {
         return Reply::Refused(4);
+    }
+    if value.len() == 1 {
+        let changed = after_byte(event, value[0], d);
+        put_datapoint_at(datapoints, place, changed);
+        return Reply::Accepted(0);
     }
     let after = after_event(event, value, d);
     put_datapoint_at(datapoints, place, after);

@@ -1,11 +1,11 @@
 -- A get, exit by exit: what its callees say of table, buffer and result is what the get has to answer and leave.
-use Prim.Native.Nat.{ℕ, suc, _+_, _≤_}
+use Prim.Native.Nat.{ℕ, _+_, _≤_}
 use mathlib.Core.Path.{_≡_, refl, sym, _∙_, ap, subst}
 use mathlib.Core.Bool.{Bool, true, false, not}
 use mathlib.Core.List.{List, [], _∷_, _++_, map}
 use native.Mathlib.Omega.{arith}
 use lib.ListN.{length, take, drop, length-append}
-use lib.Dec.{T, leb, eqb, ltb, leb→le}
+use lib.Dec.{T, leb, eqb, leb→le}
 use borrow.Author.Tests.{eqb-true, eqb-false}
 use Rattle.link.specs.Words.{put, twoBytes, every}
 use Rattle.link.proofs.ByteLaws.{put-put}
@@ -40,15 +40,6 @@ is-zero n t = go (eqb n 0) refl t
     go : (b : Bool) → eqb n 0 ≡ b → T (not (not b)) → n ≡ 0
     go true f s = eqb-true n 0 f
     go false f s = absurd s
-
-pub place-inside : {A : Type 0} (idOf : A → ℕ) (n : ℕ) (xs : List A) → place idOf n xs ≤ length xs
-unfolding place
-place-inside idOf n [] = omega arith
-place-inside idOf n (x ∷ xs) = go (ltb (idOf x) n) refl (place-inside idOf n xs)
-  where
-    go : (b : Bool) → ltb (idOf x) n ≡ b → place idOf n xs ≤ length xs → place idOf n (x ∷ xs) ≤ suc (length xs)
-    go true e h = simp e (omega (arith, h))
-    go false e h = simp e (omega (arith, h))
 
 -- a table as it has to be: not too long, and its IDs rise
 module _ {A : Type 0} (most : ℕ) (idOf : A → ℕ) (ok : A → Bool) (xs : List A) (e : tableOk most idOf ok xs ≡ true) where
@@ -85,13 +76,16 @@ module _ (m : List ℕ) (out : List ℕ) (at : ℕ) (s : Served) where
       (put-put out at (at + 6) (headOf m n) bytes (omega arith) (omega (arith, room, small)) ∙ ap (put out at) (sym f), omega (arith, length-append (headOf m n) bytes, ap length f))
 
 -- what was measured is what is built, where all entries fit
-built-small : (es : List AnswerEntry) (g : Gathered) (bytes : List ℕ) → Passed es g bytes → g .size ≤ 248 → (start : ℕ) → gatheredVerdict start g .code ≡ 0 → length bytes ≤ 248
+built-size : (es : List AnswerEntry) (g : Gathered) (bytes : List ℕ) → Passed es g bytes → (start : ℕ) → gatheredVerdict start g .code ≡ 0 → g .size ≡ length bytes
 unfolding gatheredVerdict
-built-small es g bytes p small start z = go (eqb (g .over) 0) refl
+built-size es g bytes p start z = go (eqb (g .over) 0) refl
   where
-    go : (b : Bool) → eqb (g .over) 0 ≡ b → length bytes ≤ 248
-    go true e = omega (arith, small, p .size (eqb-true (g .over) 0 e), ap length (p .built))
+    go : (b : Bool) → eqb (g .over) 0 ≡ b → g .size ≡ length bytes
+    go true e = omega (arith, p .size (eqb-true (g .over) 0 e), ap length (p .built))
     go false e = absurd (omega (arith, simp e at z))
+
+built-small : (es : List AnswerEntry) (g : Gathered) (bytes : List ℕ) → Passed es g bytes → g .size ≤ 248 → (start : ℕ) → gatheredVerdict start g .code ≡ 0 → length bytes ≤ 248
+built-small es g bytes p small start z = omega (arith, small, built-size es g bytes p start z)
 
 -- ---- the two gets of datapoints
 module _ (values : Bool) (m : List ℕ) (ds : List Datapoint) (ok : tableOk 1000 datapointId datapointOk ds ≡ true) (out : List ℕ) (at : ℕ) where
@@ -146,6 +140,9 @@ module _ (values : Bool) (m : List ℕ) (ds : List Datapoint) (ok : tableOk 1000
     module _ (y : T (not (not (eqb (u .code) 0)))) where
       pub datapoints-fit : length bytes ≤ 248
       datapoints-fit = built-small es g bytes passed (datapoints-small w (drop from ds) .1) (w .start) (is-zero (u .code) y)
+
+      pub datapoints-sized : g .size ≡ length bytes
+      datapoints-sized = built-size es g bytes passed (w .start) (is-zero (u .code) y)
 
       pub datapoints-fine : at + 254 ≤ length out
           → Answers (take from ds ++ datapointsLeft w (drop from ds)) (put (put out at (headOf m (g .count))) (at + 6) bytes) (at + 6 + length bytes)

@@ -1,4 +1,4 @@
--- A law for each answer of a command, a filter and the code of a set entry; values kept in a record's memory.
+-- A law for each answer of the code of a set entry; values kept in a record's memory.
 use Prim.Native.Nat.{ℕ, zero, suc, _+_, _-_, _/_, _%_, _≤_, _<_}
 use mathlib.Core.Path.{_≡_, refl, _∙_, ap}
 use mathlib.Core.Bool.{true, false}
@@ -11,7 +11,7 @@ use Rattle.link.specs.Words.{pad, put, isEmpty}
 use Rattle.link.proofs.ByteLaws.{put-sets, put-put}
 use Rattle.services.specs.declared.datapoint.Datapoint.{Datapoint}
 use Rattle.services.specs.declared.item.Item.{Item}
-use Rattle.services.specs.Datapoint.{sizeOf, valueOf, unusedBitsOk, withValid, withRequest, withStatus, withState, withValue, commanded}
+use Rattle.services.specs.Datapoint.{sizeOf, valueOf, unusedBitsOk}
 use Rattle.services.specs.Get.{valueEntry}
 use Rattle.services.specs.Set.{itemCode, datapointCode}
 
@@ -24,32 +24,6 @@ drop-zeros (suc k) (suc n) = drop-zeros k n ∙ ap {B = List ℕ} (λ (i : ℕ).
 pub put-zeros : (n : ℕ) (v : List ℕ) → put (replicate n 0) 0 v ≡ pad n v
 unfolding put
 put-zeros n v = ap (λ (k : ℕ). v ++ drop k (replicate n 0)) {x = 0 + length v} {y = length v} (omega arith) ∙ ap (λ (r : List ℕ). v ++ r) (drop-zeros (length v) n)
-
--- ---- commands
-module _ (c : ℕ) (v : List ℕ) (d : Datapoint) where
-  pub command-1 : c ≡ 1 → commanded c v d ≡ withValue v (withValid (d .state)) d
-  unfolding commanded
-  command-1 e = simp (eq-eqb c 1 e)
-
-  pub command-2 : c ≡ 2 → commanded c v d ≡ withState (withStatus 3 (d .state)) d
-  unfolding commanded
-  command-2 e = rw e
-
-  pub command-3 : c ≡ 3 → commanded c v d ≡ withValue v (withStatus 3 (withValid (d .state))) d
-  unfolding commanded
-  command-3 e = rw e
-
-  pub command-4 : c ≡ 4 → commanded c v d ≡ withState (withRequest (d .state)) d
-  unfolding commanded
-  command-4 e = rw e
-
-  pub command-5 : c ≡ 5 → commanded c v d ≡ withState (withStatus 0 (d .state)) d
-  unfolding commanded
-  command-5 e = rw e
-
-  pub no-command : (c ≡ 1 → ⊥) → (c ≡ 2 → ⊥) → (c ≡ 3 → ⊥) → (c ≡ 4 → ⊥) → (c ≡ 5 → ⊥) → commanded c v d ≡ d
-  unfolding commanded
-  no-command n1 n2 n3 n4 n5 = simp (ne-eqb c 1 n1, ne-eqb c 2 n2, ne-eqb c 3 n3, ne-eqb c 4 n4, ne-eqb c 5 n5)
 
 -- ---- codes
 is-empty : (v : List ℕ) → length v ≡ 0 → isEmpty v ≡ true

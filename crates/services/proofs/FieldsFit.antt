@@ -5,7 +5,7 @@ use Rattle.walks.proofs.Data.{Good}
 use Rattle.services.specs.declared.gather.Wanted.{Wanted}
 use Rattle.services.specs.declared.gather.Gathered.{Gathered}
 use Rattle.services.specs.declared.message.Verdict.{Verdict}
-use Rattle.services.proofs.Types.{wantedD, gatheredD, verdictD, byteD, idD}
+use Rattle.services.proofs.Types.{wantedD, gatheredD, verdictD, byteD, idD, placeD}
 use Rattle.services.proofs.message.Verdict as Judged
 use Rattle.services.proofs.message.Verdict.Laws as Judged′
 use Rattle.services.proofs.gather.Wanted as Asked
@@ -24,3 +24,6 @@ start-fits w g = (refl, LL.owed Asked.the-type Asked′.the-laws w _ g .0 .1)
 
 pub count-fits : (s : Gathered) → Good gatheredD s → Good idD (s .count)
 count-fits s g = (refl, LL.owed Sum.the-type Sum′.the-laws s _ g .0 .1)
+
+pub size-fits : (s : Gathered) → Good gatheredD s → Good placeD (s .size)
+size-fits s g = (refl, LL.owed Sum.the-type Sum′.the-laws s _ g .1 .0 .1)

@@ -483,20 +483,20 @@ module _ {A : Type 0} (idOf : A → ℕ) (wanted : A → Bool) (entry : A → An
 -- ---- the gets of datapoints and items
 -- what a get asks for
 abbrev pub wantedBy : List ℕ → ℕ → Bool → Wanted
-wantedBy m filter values = record { start = startOf m; end = startOf m + numberOf m; filter = filter; values = values; marked = false }
+wantedBy m filter values = record { start = startOf m; end = startOf m + numberOf m; filter = filter; values = values }
 
 module _ (w : Wanted) where
   pub wanted-from : (d : Datapoint) → T (isWanted w d) → w .start ≤ d .id
   unfolding isWanted isWithin
   wanted-from d t =
       leb→le (w .start) (d .id)
-      (WordLaws.left (leb (w .start) (d .id)) (ltb (d .id) (w .end)) (WordLaws.parts3 (isWithin w (d .id)) (passes (w .filter) d) (not (w .marked) || d .mark) t .0))
+      (WordLaws.left (leb (w .start) (d .id)) (ltb (d .id) (w .end)) (WordLaws.left (isWithin w (d .id)) (passes (w .filter) d) t))
 
   pub wanted-below : (d : Datapoint) → T (isWanted w d) → d .id < w .end
   unfolding isWanted isWithin
   wanted-below d t =
       ltb→lt (d .id) (w .end)
-      (WordLaws.right (leb (w .start) (d .id)) (ltb (d .id) (w .end)) (WordLaws.parts3 (isWithin w (d .id)) (passes (w .filter) d) (not (w .marked) || d .mark) t .0))
+      (WordLaws.right (leb (w .start) (d .id)) (ltb (d .id) (w .end)) (WordLaws.left (isWithin w (d .id)) (passes (w .filter) d) t))
 
   pub entry-id : (d : Datapoint) → entryOf w d .id ≡ d .id
   unfolding entryOf valueEntry descriptionEntry
@@ -571,11 +571,11 @@ and-true false = refl
 
 pub wanted-asked : (m : List ℕ) (d : Datapoint) → isWanted (wantedBy m (filterOf m) true) d ≡ asked m d
 unfolding isWanted isWithin asked inRequest
-wanted-asked m d = and-true (asked m d)
+wanted-asked m d = refl
 
 pub wanted-in-request : (m : List ℕ) (values : Bool) (d : Datapoint) → isWanted (wantedBy m 0 values) d ≡ inRequest m (d .id)
 unfolding isWanted isWithin inRequest passes
-wanted-in-request m values d = and-true (inRequest m (d .id) && true) ∙ and-true (inRequest m (d .id))
+wanted-in-request m values d = and-true (inRequest m (d .id))
 
 module _ (m : List ℕ) (k : ℕ) where
   -- GetDatapointValue

@@ -8,10 +8,13 @@ pub mod EntryLaws
 pub mod MaskLaws
 pub mod SetLaws
 pub mod EntriesLaws
+pub mod FoundLaws
 pub mod MeasureLaws
+pub mod WideLaws
 pub mod Types
 pub mod Pairs
 pub mod LeftLaws
+pub mod FoundNextLaws
 pub mod RisenLaws
 pub mod PlaceLaws
 pub mod GetLaws
@@ -20,9 +23,11 @@ pub mod GatherLaws
 pub mod PassLaws
 pub mod AnsweredLaws
 pub mod SettingLaws
+pub mod FilledLaws
 pub mod FieldsFit
 pub mod AnswerJoins
 pub mod IndicationLaws
 pub mod SetJoins
 pub mod ServiceLaws
 pub mod CarryJoins
+pub mod ApplyLaws

@@ -1,14 +1,15 @@
 -- A law for each answer of the functions that gather: what is wanted, how long an entry is, what is left of a record.
 use Prim.Native.Nat.{ℕ, _+_, _≤_, _<_}
-use mathlib.Core.Bool.{Bool, true, false}
+use mathlib.Core.Bool.{Bool, true, false, not}
 use mathlib.Core.List.{List}
 use mathlib.Core.Path.{_≡_, refl}
 use native.Mathlib.Omega.{arith}
 use lib.ListN.{length}
 use lib.Seq.{length-take-le}
-use borrow.Author.Tests.{lt-ltb, le-ltb, eq-eqb, ne-eqb}
-use Rattle.services.specs.Datapoint.{sizeOf, valueOf, withMark, handedOut}
-use Rattle.services.specs.Gather.{filterAsked, sizeAsked, requestFinding, isWithin, isWanted, entryOf, leftOf, ended, withEntry, measured}
+use lib.Dec.{T, nleb→lt}
+use borrow.Author.Tests.{lt-ltb, le-ltb, le-leb, leb-false, eq-eqb, ne-eqb}
+use Rattle.services.specs.Datapoint.{sizeOf, valueOf, handedOut}
+use Rattle.services.specs.Gather.{filterAsked, sizeAsked, requestFinding, isBehind, isWithin, isWanted, entryOf, leftOf, ended, withEntry, measured}
 use Rattle.services.specs.Get.{AnswerEntry, itemEntry, descriptionEntry, valueEntry, passes}
 use Rattle.services.specs.Item.{bytesOf}
 use Rattle.services.specs.Message.{startOf, numberOf, bad, fine}
@@ -19,22 +20,23 @@ use Rattle.services.specs.declared.item.Item.{Item}
 use Rattle.services.proofs.DatapointLaws.{size-fits}
 
 -- ---- which records
+module _ (w : Wanted) (id : ℕ) where
+  pub not-behind : isBehind w id ≡ false → id < w .end
+  unfolding isBehind
+  not-behind e = leb-false (w .end) id e
+
+  pub ahead-below : T (not (isBehind w id)) → id < w .end
+  unfolding isBehind
+  ahead-below t = nleb→lt (w .end) id t
+
+  pub in-range : w .start ≤ id → id < w .end → isWithin w id ≡ true
+  unfolding isWithin
+  in-range l u = simp (le-leb (w .start) id l, lt-ltb id (w .end) u)
+
 module _ (w : Wanted) (d : Datapoint) where
-  pub wanted-mark : isWithin w (d .id) ≡ true → passes (w .filter) d ≡ true → w .marked ≡ true → isWanted w d ≡ d .mark
+  pub wanted-in-range : w .start ≤ d .id → d .id < w .end → isWanted w d ≡ passes (w .filter) d
   unfolding isWanted
-  wanted-mark e f m = simp (e, f, m)
-
-  pub wanted-all : isWithin w (d .id) ≡ true → passes (w .filter) d ≡ true → w .marked ≡ false → isWanted w d ≡ true
-  unfolding isWanted
-  wanted-all e f m = simp (e, f, m)
-
-  pub wanted-no-filter : isWithin w (d .id) ≡ true → passes (w .filter) d ≡ false → isWanted w d ≡ false
-  unfolding isWanted
-  wanted-no-filter e f = simp (e, f)
-
-  pub wanted-no-range : isWithin w (d .id) ≡ false → isWanted w d ≡ false
-  unfolding isWanted
-  wanted-no-range e = simp e
+  wanted-in-range l u = simp (in-range w (d .id) l u)
 
   -- ---- an entry
   pub value-length : w .values ≡ true → length (d .value) ≡ 14 → d .typecode ≤ 14 → length (entryOf w d .bytes) ≡ 4 + sizeOf (d .typecode)
@@ -69,13 +71,9 @@ module _ (w : Wanted) (d : Datapoint) where
       go false e = omega (arith, description-length e)
 
   -- ---- what is left
-  pub left-reported : w .values ≡ true → w .marked ≡ true → leftOf w d ≡ withMark false (handedOut d)
+  pub left-handed-out : w .values ≡ true → leftOf w d ≡ handedOut d
   unfolding leftOf
-  left-reported v m = simp (v, m)
-
-  pub left-handed-out : w .values ≡ true → w .marked ≡ false → leftOf w d ≡ handedOut d
-  unfolding leftOf
-  left-handed-out v m = simp (v, m)
+  left-handed-out v = simp v
 
   pub left-alone : w .values ≡ false → leftOf w d ≡ d
   unfolding leftOf

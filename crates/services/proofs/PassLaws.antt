@@ -13,8 +13,8 @@ use Rattle.link.specs.Words.{if_then_else_, every, put}
 use Rattle.link.proofs.WordLaws.{left as left-part, right as right-part, parts3, padded-decided, every-suffix}
 use Rattle.link.proofs.ByteLaws.{length-put, put-put}
 use Rattle.link.proofs.EventLaws.{put-none}
-use Rattle.services.specs.Datapoint.{datapointOk}
-use Rattle.services.specs.Gather.{entryOf, withEntry, ended, measured, walked, built, left}
+use Rattle.services.specs.Datapoint.{sizeOf, datapointOk}
+use Rattle.services.specs.Gather.{entryOf, wideOf, withEntry, ended, measured, walked, built, left}
 use Rattle.services.specs.Get.{AnswerEntry, roomForEntries, itemEntry, descriptionEntry, valueEntry}
 use Rattle.services.specs.Item.{itemOk}
 use Rattle.services.specs.Table.{rising, tableOk}
@@ -22,6 +22,7 @@ use Rattle.services.specs.declared.datapoint.Datapoint.{Datapoint}
 use Rattle.services.specs.declared.gather.Gathered.{Gathered}
 use Rattle.services.specs.declared.gather.Wanted.{Wanted}
 use Rattle.services.specs.declared.item.Item.{Item}
+use Rattle.services.proofs.WideLaws.{put-over, wide-size}
 use Rattle.services.proofs.DatapointLaws.{parts}
 use Rattle.walks.proofs.Loops.{drop-step}
 
@@ -75,6 +76,9 @@ module _ {A : Type 0} (ok : A → Bool) where
 
 pub code-fits : (d : Datapoint) → T (datapointOk d) → d .typecode ≤ 14
 code-fits d t = leb→le (d .typecode) 14 (parts d t .typecode)
+
+pub wide-short : (w : Wanted) (d : Datapoint) → T (datapointOk d) → length (wideOf w d) ≤ 18
+wide-short w d t = wide-size w d (padded-decided 14 (sizeOf (d .typecode)) (d .value) .0 (parts d t .unused) .memory)
 
 pub bytes-fit : (i : Item) → T (itemOk i) → (i .size ≤ 16) × (length (i .bytes) ≡ 16)
 unfolding itemOk
@@ -202,4 +206,15 @@ module _ (out : List ℕ) (at : ℕ) (all : List ℕ) where
             fits = omega (arith, p .fits, length-append vs rest, length-put bs end vs (entry-fits p));
             ends = omega (arith, p .ends, length-append vs rest);
             same = put-put bs end (end + length vs) vs rest refl (omega (arith, p .fits, length-append vs rest)) ∙ p .same;
+          }
+
+      -- the same with some bytes behind the entry, no more than are still to come
+      pub putting-over : (over : List ℕ) → length over ≤ length rest → Putting out at all bs end (vs ++ rest) → Putting out at all (put bs end (vs ++ over)) (end + length vs) rest
+      putting-over over h p =
+          let room : end + length (vs ++ over) ≤ length bs = omega (arith, p .fits, length-append vs rest, length-append vs over, h) in
+          record {
+            long = length-put bs end (vs ++ over) room ∙ p .long;
+            fits = omega (arith, p .fits, length-append vs rest, length-put bs end (vs ++ over) room);
+            ends = omega (arith, p .ends, length-append vs rest);
+            same = put-over bs end vs over rest h (omega (arith, p .fits, length-append vs rest)) ∙ p .same;
           }

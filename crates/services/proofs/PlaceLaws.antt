@@ -5,11 +5,11 @@ use native.Mathlib.Omega.{arith}
 use native.Mathlib.Nat.{not-suc-le-zero, le-of-suc-le-suc}
 use mathlib.Core.Bool.{Bool, true, false, not, _&&_}
 use mathlib.Core.List.{List, [], _∷_, map}
-use lib.ListN.{length, getD, set}
-use lib.Dec.{T, leb, ltb, eqb, ltb→lt, lt→ltb, leb→le}
+use lib.ListN.{length, getD, set, drop}
+use lib.Dec.{T, leb, ltb, eqb, ltb→lt, lt→ltb, leb→le, le→leb}
 use borrow.Author.Tests.{lt-ltb, le-ltb, ltb-true, ltb-false, ne-eqb}
 use Rattle.link.specs.Words.{if_then_else_, isEmpty, every}
-use Rattle.link.proofs.WordLaws.{left, right, parts3, same-test}
+use Rattle.link.proofs.WordLaws.{left, right, both, parts3, true-T, same-test}
 use Rattle.services.specs.Table.{rising, tableOk, found, changed, place}
 
 ltb-suc : (a b : ℕ) → ltb (suc a) (suc b) ≡ ltb a b
@@ -91,6 +91,52 @@ module _ {A : Type 0} (idOf : A → ℕ) (blank : A) where
   place-none n last (x ∷ xs) t l =
       ap (λ (y : Bool). if y then suc (place idOf n xs) else place idOf n xs) (le-ltb (idOf x) n (omega (arith, first-above last x xs t, l)))
       ∙ place-none n (idOf x) xs (rest-rises last x xs t) (omega (arith, first-above last x xs t, l))
+
+  -- no more records than there are
+  pub place-inside : (n : ℕ) (xs : List A) → place idOf n xs ≤ length xs
+  unfolding place
+  place-inside n [] = omega arith
+  place-inside n (x ∷ xs) = go (ltb (idOf x) n) (place-inside n xs)
+    where
+      go : (y : Bool) → place idOf n xs ≤ length xs → (if y then suc (place idOf n xs) else place idOf n xs) ≤ suc (length xs)
+      go true h = omega (arith, h)
+      go false h = omega (arith, h)
+
+  -- ---- the records from the place of n on: each has an ID of n or more and passes its test
+  module _ (n : ℕ) (ok : A → Bool) where
+    abbrev pub okFrom : A → Bool
+    okFrom x = leb n (idOf x) && ok x
+
+    pub from-id : (x : A) → T (okFrom x) → n ≤ idOf x
+    from-id x t = leb→le n (idOf x) (left (leb n (idOf x)) (ok x) t)
+
+    pub from-ok : (x : A) → T (okFrom x) → T (ok x)
+    from-ok x t = right (leb n (idOf x)) (ok x) t
+
+    all-from : (last : ℕ) (xs : List A) → T (rising last (map idOf xs)) → n ≤ last → T (every ok xs) → T (every okFrom xs)
+    all-from last [] t l u = tt
+    all-from last (x ∷ xs) t l u =
+        let m : n ≤ idOf x = omega (arith, first-above last x xs t, l) in
+        both (okFrom x) (every okFrom xs) (both (leb n (idOf x)) (ok x) (le→leb n (idOf x) m) (left (ok x) (every ok xs) u))
+        (all-from (idOf x) xs (rest-rises last x xs t) m (right (ok x) (every ok xs) u))
+
+    from-place : (last : ℕ) (xs : List A) → T (rising last (map idOf xs)) → T (every ok xs) → T (every okFrom (drop (place idOf n xs) xs))
+    unfolding place
+    from-place last [] t u = tt
+    from-place last (x ∷ xs) t u = go (ltb (idOf x) n) refl (from-place (idOf x) xs (rest-rises last x xs t) (right (ok x) (every ok xs) u))
+      where
+        go : (y : Bool) → ltb (idOf x) n ≡ y → T (every okFrom (drop (place idOf n xs) xs)) → T (every okFrom (drop (if y then suc (place idOf n xs) else place idOf n xs) (x ∷ xs)))
+        go true e r = r
+        go false e r =
+            let l : n ≤ idOf x = ltb-false (idOf x) n e in
+            subst (λ (k : ℕ). T (every okFrom (drop k (x ∷ xs)))) (sym (place-none n (idOf x) xs (rest-rises last x xs t) l))
+            (both (okFrom x) (every okFrom xs) (both (leb n (idOf x)) (ok x) (le→leb n (idOf x) l) (left (ok x) (every ok xs) u)) (all-from (idOf x) xs (rest-rises last x xs t) l (right (ok x) (every ok xs) u)))
+
+    pub at-place : (most : ℕ) (xs : List A) (at : ℕ) → tableOk most idOf ok xs ≡ true → at ≡ place idOf n xs → (at ≤ length xs) × T (every okFrom (drop at xs))
+    unfolding tableOk
+    at-place most xs at t e =
+        let p = parts3 (leb (length xs) most) (rising 0 (map idOf xs)) (every ok xs) (true-T t) in
+        (subst (λ (k : ℕ). k ≤ length xs) (sym e) (place-inside n xs), subst (λ (k : ℕ). T (every okFrom (drop k xs))) (sym e) (from-place 0 xs (p .1) (p .2)))
 
   found-none : (n last : ℕ) (xs : List A) → T (rising last (map idOf xs)) → n ≤ last → found idOf n xs ≡ []
   unfolding found

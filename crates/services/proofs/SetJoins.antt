@@ -1,7 +1,7 @@
 -- A set, exit by exit: what its callees say of table, buffer and result is what the set has to answer and leave.
 use Prim.Native.Nat.{ℕ, _+_}
 use mathlib.Core.Path.{_≡_, refl, sym, ap}
-use mathlib.Core.Bool.{true, not}
+use mathlib.Core.Bool.{Bool, true, not}
 use mathlib.Core.List.{List}
 use lib.ListN.{length, drop}
 use lib.Dec.{T, eqb}
@@ -12,12 +12,13 @@ use Rattle.services.specs.declared.message.Verdict.{Verdict}
 use Rattle.services.specs.Datapoint.{datapointId, datapointOk}
 use Rattle.services.specs.Item.{itemId, itemOk}
 use Rattle.services.specs.Table.{Tables, datapointsOnly, itemsOnly, tableOk, found}
-use Rattle.services.specs.Message.{startOf, numberOf, coded, verdictOf, Served}
+use Rattle.services.specs.Message.{startOf, numberOf, coded, Finding, verdictOf, Served}
 use Rattle.services.specs.Set.{SetEntry, fills, setEntries, firstBad, applied, allShort, firstDatapointEntry, firstItemEntry, judgedDatapoint, judgedItem, setDatapoint, setItem, setDatapointValue, setServerItem, filledFinding}
+use Rattle.walks.proofs.Branches.{no-T, yes-T, is-T}
 use Rattle.services.proofs.AnswerJoins.{not-zero, is-zero}
 use Rattle.services.proofs.GetLaws.{coded-says}
 use Rattle.services.proofs.LeftLaws.{fine-code, datapoints-short, items-short}
-use Rattle.services.proofs.SettingLaws.{earlier-filled, set-refused, set-bad, set-done}
+use Rattle.services.proofs.SettingLaws.{not-filled, no-entry, well-filled, earlier-filled, set-refused, set-refused-by, set-bad, set-done}
 
 -- ---- the set of datapoints
 module _ (m : List ℕ) (ds : List Datapoint) (ok : tableOk 1000 datapointId datapointOk ds ≡ true) (out : List ℕ) (at : ℕ) where
@@ -30,8 +31,8 @@ module _ (m : List ℕ) (ds : List Datapoint) (ok : tableOk 1000 datapointId dat
   abbrev es : List SetEntry
   es = setEntries firstDatapointEntry 4 (numberOf m) (drop 6 m)
 
-  abbrev v : Verdict
-  v = verdictOf (filledFinding 4 m)
+  abbrev filled : Bool
+  filled = fills 4 (numberOf m) (drop 6 m)
 
   abbrev u : Verdict
   u = verdictOf (firstBad judge es)
@@ -47,25 +48,34 @@ module _ (m : List ℕ) (ds : List Datapoint) (ok : tableOk 1000 datapointId dat
       let f = coded-says out at m i c (refl, refl) (ap (λ (x : Served). x .says) e) in
       (sym (ap (λ (x : Served). x .after .datapoints) e), f .0, f .1)
 
-  pub datapoints-refused : T (not (eqb (v .code) 0)) → Answers ds (put out at (coded m (v .id) (v .code))) (at + 7)
+  pub datapoints-unfilled : T (not filled) → Answers ds (put out at (coded m (startOf m) 10)) (at + 7)
   unfolding setDatapointValue
-  datapoints-refused t = answers (v .id) (v .code) ds (set-refused 4 firstDatapointEntry judge done (datapointsOnly ds) m (not-zero (v .code) t))
+  datapoints-unfilled t = answers (startOf m) 10 ds (set-refused-by 4 firstDatapointEntry judge done (datapointsOnly ds) m (startOf m) 10 (not-filled 4 m (no-T filled t)))
 
-  module _ (z : T (not (not (eqb (v .code) 0)))) where
-    pub datapoints-filled : fills 4 (numberOf m) (drop 6 m) ≡ true
-    datapoints-filled = earlier-filled 4 firstDatapointEntry judge done (datapointsOnly ds) m (is-zero (v .code) z)
+  module _ (z : T (not (not filled))) where
+    pub datapoints-filled : filled ≡ true
+    datapoints-filled = yes-T filled z
 
-    pub datapoints-bad : T (not (eqb (u .code) 0)) → Answers ds (put out at (coded m (u .id) (u .code))) (at + 7)
+    pub datapoints-none : T (eqb (numberOf m) 0) → Answers ds (put out at (coded m (startOf m) 6)) (at + 7)
     unfolding setDatapointValue
-    datapoints-bad t = answers (u .id) (u .code) ds (set-bad 4 firstDatapointEntry judge done (datapointsOnly ds) m (is-zero (v .code) z) (not-zero (u .code) t))
+    datapoints-none t = answers (startOf m) 6 ds (set-refused-by 4 firstDatapointEntry judge done (datapointsOnly ds) m (startOf m) 6 (no-entry 4 m datapoints-filled (is-T (eqb (numberOf m) 0) t)))
 
-    module _ (y : T (not (not (eqb (u .code) 0)))) where
-      pub datapoints-fit : allShort 14 es ≡ true
-      datapoints-fit = datapoints-short ds es (fine-code judge es (is-zero (u .code) y))
+    module _ (k : T (not (eqb (numberOf m) 0))) where
+      earlier : verdictOf (filledFinding 4 m) .code ≡ 0
+      unfolding verdictOf
+      earlier = ap (λ (f : Finding). verdictOf f .code) (well-filled 4 m datapoints-filled (no-T (eqb (numberOf m) 0) k))
 
-      pub datapoints-set : Answers (applied datapointId setDatapoint es ds) (put out at (coded m (startOf m) 0)) (at + 7)
+      pub datapoints-bad : T (not (eqb (u .code) 0)) → Answers ds (put out at (coded m (u .id) (u .code))) (at + 7)
       unfolding setDatapointValue
-      datapoints-set = answers (startOf m) 0 (applied datapointId setDatapoint es ds) (set-done 4 firstDatapointEntry judge done (datapointsOnly ds) m (is-zero (v .code) z) (is-zero (u .code) y))
+      datapoints-bad t = answers (u .id) (u .code) ds (set-bad 4 firstDatapointEntry judge done (datapointsOnly ds) m earlier (not-zero (u .code) t))
+
+      module _ (y : T (not (not (eqb (u .code) 0)))) where
+        pub datapoints-fit : allShort 14 es ≡ true
+        datapoints-fit = datapoints-short ds es (fine-code judge es (is-zero (u .code) y))
+
+        pub datapoints-set : Answers (applied datapointId setDatapoint es ds) (put out at (coded m (startOf m) 0)) (at + 7)
+        unfolding setDatapointValue
+        datapoints-set = answers (startOf m) 0 (applied datapointId setDatapoint es ds) (set-done 4 firstDatapointEntry judge done (datapointsOnly ds) m earlier (is-zero (u .code) y))
 
 -- ---- the set of items
 module _ (m : List ℕ) (is : List Item) (ok : tableOk 64 itemId itemOk is ≡ true) (out : List ℕ) (at : ℕ) where

@@ -73,6 +73,11 @@ module _ (h : ℕ) (first : List ℕ → SetEntry) (judge : SetEntry → ℕ) (d
   unfolding setting served answerOf afterOf afterwards answer
   set-refused n = ap answer (filled-first ∙ ap afterwards (verdict-bad earlier n))
 
+  -- the same, where the finding is known
+  pub set-refused-by : (i c : ℕ) → earlier ≡ bad i c → setting h first judge done t m ≡ record { says = coded m i c; after = t }
+  unfolding setting served answerOf afterOf afterwards answer
+  set-refused-by i c e = ap answer (filled-first ∙ ap afterwards e)
+
   pub set-bad : verdictOf earlier .code ≡ 0 → (verdictOf later .code ≡ 0 → ⊥)
       → setting h first judge done t m ≡ record { says = coded m (verdictOf later .id) (verdictOf later .code); after = t }
   unfolding setting served answerOf afterOf afterwards answer

@@ -20,6 +20,8 @@ use Rattle.services.proofs.indication.Told as Said
 use Rattle.services.proofs.indication.Told.Laws as Said′
 use Rattle.services.proofs.message.Verdict as Judged
 use Rattle.services.proofs.message.Verdict.Laws as Judged′
+use Rattle.services.proofs.set.Found as Sought
+use Rattle.services.proofs.set.Found.Laws as Sought′
 use Rattle.walks.proofs.Data.{Data, Good, structD, uintD}
 
 abbrev pub datapointD : Data
@@ -40,6 +42,9 @@ toldD = structD Said.the-type Said′.the-laws Said′.the-plain (λ x f. refl)
 abbrev pub verdictD : Data
 verdictD = structD Judged.the-type Judged′.the-laws Judged′.the-plain (λ x f. refl)
 
+abbrev pub foundD : Data
+foundD = structD Sought.the-type Sought′.the-laws Sought′.the-plain (λ x f. refl)
+
 abbrev pub byteD : Data
 byteD = uintD w8
 
@@ -58,12 +63,15 @@ item-id-fits i g = LL.owed I.the-type I′.the-laws i _ g .0 .1
 pub nothing-good : Good gatheredD nothingGathered
 nothing-good = LL.owes G.the-type G′.the-laws nothingGathered ((refl, lit< tt), ((refl, lit< tt), ((refl, lit< tt), (refl, tt))))
 
--- the byte offset of record i fits: a datapoint has 22 bytes, an item 20
+-- the byte offset of record i fits: a datapoint has 22 bytes, an item 20, a found entry 4
 pub datapoint-offset-fits : (n i : ℕ) → n * 22 < 2 ^ 63 → i < n → i * 22 < 2 ^ 64
 datapoint-offset-fits n i g l = omega (arith, g, l)
 
 pub item-offset-fits : (n i : ℕ) → n * 20 < 2 ^ 63 → i < n → i * 20 < 2 ^ 64
 item-offset-fits n i g l = omega (arith, g, l)
+
+pub found-offset-fits : (n i : ℕ) → n * 4 < 2 ^ 63 → i < n → i * 4 < 2 ^ 64
+found-offset-fits n i g l = omega (arith, g, l)
 
 pub fits-next : (i n : ℕ) → n < 2 ^ 64 → i < n → i + 1 < 2 ^ 64
 fits-next i n g l = omega (arith, g, l)
@@ -74,3 +82,6 @@ zero-verdict = LL.owes Judged.the-type Judged′.the-laws (record { id = 0; code
 
 pub told-good : (c e : ℕ) → c < 2 ^ 16 → e < 2 ^ 64 → Good toldD (record { count = c; end = e })
 told-good c e f g = LL.owes Said.the-type Said′.the-laws (record { count = c; end = e }) ((refl, f), ((refl, g), tt))
+
+pub found-good : (a p : ℕ) → a < 2 ^ 16 → p < 2 ^ 16 → Good foundD (record { at = a; place = p })
+found-good a p f g = LL.owes Sought.the-type Sought′.the-laws (record { at = a; place = p }) ((refl, f), ((refl, g), tt))

@@ -5,12 +5,12 @@ use mathlib.Core.Bool.{Bool, true, false, not, _&&_, _||_}
 use mathlib.Core.List.{List, [], _∷_, _++_, map, flatten}
 use lib.ListN.{length}
 use lib.Dec.{leb, ltb, eqb}
-use Rattle.link.specs.Words.{if_then_else_}
+use Rattle.link.specs.Words.{if_then_else_, twoBytes}
 use Rattle.services.specs.declared.datapoint.Datapoint.{Datapoint}
 use Rattle.services.specs.declared.item.Item.{Item}
 use Rattle.services.specs.declared.gather.Wanted.{Wanted}
 use Rattle.services.specs.declared.gather.Gathered.{Gathered}
-use Rattle.services.specs.Datapoint.{withMark, handedOut}
+use Rattle.services.specs.Datapoint.{sizeOf, handedOut}
 use Rattle.services.specs.declared.message.Verdict.{Verdict}
 use Rattle.services.specs.Table.{Tables}
 use Rattle.services.specs.Message.{startOf, numberOf, filterOf, Finding, fine, bad, Served}
@@ -26,14 +26,21 @@ unfoldable pub isWithin : Wanted → ℕ → Bool
 isWithin w id = leb (w .start) id && ltb id (w .end)
 
 unfoldable pub isWanted : Wanted → Datapoint → Bool
-isWanted w d = isWithin w (d .id) && passes (w .filter) d && (not (w .marked) || d .mark)
+isWanted w d = isWithin w (d .id) && passes (w .filter) d
 
 unfoldable pub entryOf : Wanted → Datapoint → AnswerEntry
 entryOf w d = if w .values then valueEntry d else descriptionEntry d
 
+-- A value's entry as it is written where others follow: all of the value's memory, of which the next entry overwrites what is behind the value.
+unfoldable pub wideValue : Datapoint → List ℕ
+wideValue d = twoBytes (d .id) ++ d .state ∷ sizeOf (d .typecode) ∷ d .value
+
+unfoldable pub wideOf : Wanted → Datapoint → List ℕ
+wideOf w d = if w .values then wideValue d else descriptionEntry d .bytes
+
 -- the record after its entry was built
 unfoldable pub leftOf : Wanted → Datapoint → Datapoint
-leftOf w d = if w .values then (if w .marked then withMark false (handedOut d) else handedOut d) else d
+leftOf w d = if w .values then handedOut d else d
 
 -- ---- the first pass
 unfoldable pub ended : Gathered → Gathered
@@ -88,7 +95,7 @@ sizeAsked values = if values then 7 else 6
 
 -- what a get of values, or of anything else, asks for
 unfoldable pub wantedOf : Bool → List ℕ → Wanted
-wantedOf values m = record { start = startOf m; end = startOf m + numberOf m; filter = filterAsked values m; values = values; marked = false }
+wantedOf values m = record { start = startOf m; end = startOf m + numberOf m; filter = filterAsked values m; values = values }
 
 -- Rows 10 and 6, known before the first pass.
 unfoldable pub requestFinding : Bool → List ℕ → Finding

@@ -1,14 +1,16 @@
 // A datapoint record: the core by value. Nothing here knows of a table.
 ghost use mathlib.Core.Path.{_≡_};
 ghost use mathlib.Core.Bool.{false, _&&_};
-ghost use Prim.Native.Nat.{_+_, _≤_};
+ghost use mathlib.Core.List.{[], _∷_};
+ghost use Prim.Native.Nat.{_+_, _≤_, _<_};
 ghost use lib.ListN.{length};
 ghost use lib.Dec.{ltb};
 ghost use Rattle.link.specs.Words.{pad, put};
-ghost use Rattle.services.specs.Datapoint.{sizeOf, limitOf, unusedBitsOk, isValue, datapointOk, handedOut, busValue, outcome, commanded, withMark};
+ghost use Rattle.services.specs.Datapoint.{sizeOf, limitOf, unusedBitsOk, isValue, datapointOk, handedOut, busValue, outcome, commanded, commandedState, withMark};
 ghost use Rattle.services.specs.Mask.{datapointMasks};
 ghost use Rattle.services.specs.Get.{descriptionEntry, valueEntry, passes};
 ghost use Rattle.services.specs.Set.{datapointCode};
+ghost use Rattle.services.specs.Gather.{wideValue};
 use crate::mask::Masks;
 use crate::mask::are_clear;
 use crate::mask::word8;
@@ -34,7 +36,14 @@ pub fn size_of(typecode: u8) -> usize
     ensures { λ r. ⌜ r ≡ sizeOf typecode ⌝ }
 {
     match typecode {
-        0..=7 => 1,
+        0 => 1,
+        1 => 1,
+        2 => 1,
+        3 => 1,
+        4 => 1,
+        5 => 1,
+        6 => 1,
+        7 => 1,
         8 => 2,
         9 => 3,
         10 => 4,
@@ -244,6 +253,17 @@ pub fn bus_value(d: Datapoint, value: &[u8]) -> Datapoint
     r
 }
 
+// A value of one byte came from the bus: no copy.
+pub fn bus_byte(d: Datapoint, b: u8) -> Datapoint
+    ensures { λ r. ⌜ r ≡ busValue (b ∷ []) d ⌝ }
+{
+    let mut r = d;
+    r.value = [b, 0, 0, 0, 0, 0, 0, 0, 0, 0, 0, 0, 0, 0];
+    r.state = d.state / 32 * 32 + 24 + d.state % 4;
+    r.mark = true;
+    r
+}
+
 // The outcome of a transmission.
 pub fn outcome_of(d: Datapoint, status: u8) -> Datapoint
     requires { ⌜ status ≤ 3 ⌝ }
@@ -254,36 +274,52 @@ pub fn outcome_of(d: Datapoint, status: u8) -> Datapoint
     r
 }
 
+// The state that a command leaves.
+fn state_after(c: u8, s: u8) -> u8
+    ensures { λ r. ⌜ r ≡ commandedState c s ⌝ }
+{
+    match c {
+        1 => s / 32 * 32 + 16 + s % 16,
+        2 => s / 4 * 4 + 3,
+        3 => (s / 32 * 32 + 16 + s % 16) / 4 * 4 + 3,
+        4 => s / 8 * 8 + 4 + s % 4,
+        5 => s / 4 * 4,
+        _ => s,
+    }
+}
+
 // A command of a set request, with the value sent with it.
 pub fn command(d: Datapoint, c: u8, value: &[u8]) -> Datapoint
     requires { ⌜ length (now value) ≤ 14 ⌝ }
     ensures { λ r. ⌜ r ≡ commanded c (now (value .entry)) d ⌝ }
 {
-    let s = d.state;
-    let valid = s / 32 * 32 + 16 + s % 16;
     let mut r = d;
+    r.state = state_after(c, d.state);
     if c == 1 {
         let v = padded(value);
         r.value = v;
-        r.state = valid;
-        return r;
-    }
-    if c == 2 {
-        r.state = s / 4 * 4 + 3;
         return r;
     }
     if c == 3 {
         let v = padded(value);
         r.value = v;
-        r.state = valid / 4 * 4 + 3;
         return r;
     }
-    if c == 4 {
-        r.state = s / 8 * 8 + 4 + s % 4;
+    r
+}
+
+// The same with a value of one byte: no copy.
+pub fn command_byte(d: Datapoint, c: u8, b: u8) -> Datapoint
+    ensures { λ r. ⌜ r ≡ commanded c (b ∷ []) d ⌝ }
+{
+    let mut r = d;
+    r.state = state_after(c, d.state);
+    if c == 1 {
+        r.value = [b, 0, 0, 0, 0, 0, 0, 0, 0, 0, 0, 0, 0, 0];
         return r;
     }
-    if c == 5 {
-        r.state = s / 4 * 4;
+    if c == 3 {
+        r.value = [b, 0, 0, 0, 0, 0, 0, 0, 0, 0, 0, 0, 0, 0];
         return r;
     }
     r
@@ -361,5 +397,33 @@ pub fn put_value(out: &mut [u8], at: usize, d: Datapoint) -> usize
     }
     out[at + 3] = n as u8;
     put_bytes(&mut *out, at + 4, &v[..n]);
+    at + 4 + n
+}
+
+// The same where others follow, with all of the value's memory: no branch on its size. The next entry overwrites what is behind the value.
+pub fn put_wide_value(out: &mut [u8], at: usize, d: Datapoint) -> usize
+    requires { ⌜ (d .typecode ≤ 14) × (at + 18 ≤ length (now out)) ⌝ }
+    ensures { λ r. ⌜ (now (out .exit) ≡ put (now (out .entry)) at (wideValue d)) × (r ≡ at + length (valueEntry d .bytes)) ⌝ }
+{
+    let n = size_of(d.typecode);
+    let v = d.value;
+    out[at] = (d.id / 256) as u8;
+    out[at + 1] = (d.id % 256) as u8;
+    out[at + 2] = d.state;
+    out[at + 3] = n as u8;
+    out[at + 4] = v[0];
+    out[at + 5] = v[1];
+    out[at + 6] = v[2];
+    out[at + 7] = v[3];
+    out[at + 8] = v[4];
+    out[at + 9] = v[5];
+    out[at + 10] = v[6];
+    out[at + 11] = v[7];
+    out[at + 12] = v[8];
+    out[at + 13] = v[9];
+    out[at + 14] = v[10];
+    out[at + 15] = v[11];
+    out[at + 16] = v[12];
+    out[at + 17] = v[13];
     at + 4 + n
 }

@@ -3,20 +3,20 @@
 ghost use mathlib.Core.Path.{_≡_};
 ghost use mathlib.Core.Bool.{true};
 ghost use mathlib.Core.List.{_++_};
-ghost use Prim.Native.Nat.{_+_, _≤_};
+ghost use Prim.Native.Nat.{_+_, _≤_, _<_};
 ghost use lib.ListN.{length, take, drop};
 ghost use Rattle.link.specs.Words.{put};
 ghost use Rattle.services.specs.Get.{itemEntry};
 ghost use Rattle.services.specs.Datapoint.{datapointId, datapointOk};
 ghost use Rattle.services.specs.Item.{itemId, itemOk};
-ghost use Rattle.services.specs.Table.{tableOk};
-ghost use Rattle.services.specs.Gather.{isBehind, isWithin, isWanted, entryOf, leftOf, ended, withEntry, measured, walked, nothingGathered, datapointStep, itemStep, datapointsBuilt, datapointsLeft, itemsBuilt};
+ghost use Rattle.services.specs.Table.{place, tableOk};
+ghost use Rattle.services.specs.Gather.{isBehind, isWithin, isWanted, entryOf, wideOf, leftOf, ended, withEntry, measured, walked, nothingGathered, datapointStep, itemStep, datapointsBuilt, datapointsLeft, itemsBuilt};
 use crate::datapoint::Datapoint;
 use crate::datapoint::handed_out;
 use crate::datapoint::passes_filter;
 use crate::datapoint::put_description;
 use crate::datapoint::put_value;
-use crate::datapoint::reported;
+use crate::datapoint::put_wide_value;
 use crate::datapoint::size_of;
 use crate::item::Item;
 use crate::item::put_item;
@@ -29,8 +29,6 @@ pub struct Wanted {
     pub filter: u8,
     // Values, as against descriptions.
     pub values: bool,
-    // Those with a report mark alone, for an indication.
-    pub marked: bool,
 }
 
 // What the first pass has found.
@@ -51,29 +49,12 @@ pub fn is_behind(w: Wanted, id: u16) -> bool
     w.end <= id as u32
 }
 
-// Whether the ID is within the range.
-pub fn is_within(w: Wanted, id: u16) -> bool
-    ensures { λ r. ⌜ r ≡ isWithin w id ⌝ }
-{
-    if id < w.start {
-        return false;
-    }
-    (id as u32) < w.end
-}
-
-// Whether the record is to be gathered.
+// Whether the record is to be gathered. Its ID is in the range: the passes begin at the place of the first ID, and end behind the last.
 pub fn is_wanted(w: Wanted, d: Datapoint) -> bool
+    requires { ⌜ (w .start ≤ d .id) × (d .id < w .end) ⌝ }
     ensures { λ r. ⌜ r ≡ isWanted w d ⌝ }
 {
-    if is_within(w, d.id) {
-        if passes_filter(d, w.filter) {
-            if w.marked {
-                return d.mark;
-            }
-            return true;
-        }
-    }
-    false
+    passes_filter(d, w.filter)
 }
 
 // How many bytes the record's entry takes.
@@ -98,14 +79,22 @@ pub fn put_entry(out: &mut [u8], at: usize, w: Wanted, d: Datapoint) -> usize
     put_description(&mut *out, at, d)
 }
 
+// The same where others follow.
+pub fn put_wide_entry(out: &mut [u8], at: usize, w: Wanted, d: Datapoint) -> usize
+    requires { ⌜ (d .typecode ≤ 14) × (at + 18 ≤ length (now out)) ⌝ }
+    ensures { λ r. ⌜ (now (out .exit) ≡ put (now (out .entry)) at (wideOf w d)) × (r ≡ at + length (entryOf w d .bytes)) ⌝ }
+{
+    if w.values {
+        return put_wide_value(&mut *out, at, d);
+    }
+    put_description(&mut *out, at, d)
+}
+
 // The record after its entry was built.
 pub fn left_of(w: Wanted, d: Datapoint) -> Datapoint
     ensures { λ r. ⌜ r ≡ leftOf w d ⌝ }
 {
     if w.values {
-        if w.marked {
-            return reported(d);
-        }
         return handed_out(d);
     }
     d
@@ -139,7 +128,7 @@ fn with_entry(g: Gathered, id: u16, n: usize) -> Gathered
 
 // A datapoint is measured, after those before it.
 pub fn measured(w: Wanted, d: Datapoint, g: Gathered) -> Gathered
-    requires { ⌜ (d .typecode ≤ 14) × (g .count ≤ g .size) × (g .size ≤ 248) ⌝ }
+    requires { ⌜ (w .start ≤ d .id) × (d .typecode ≤ 14) × (g .count ≤ g .size) × (g .size ≤ 248) ⌝ }
     ensures { λ r. ⌜ r ≡ measured (isBehind w (d .id)) (isWanted w d) (entryOf w d) g ⌝ }
 {
     if is_behind(w, d.id) {
@@ -153,21 +142,18 @@ pub fn measured(w: Wanted, d: Datapoint, g: Gathered) -> Gathered
 
 // An item is measured, after those before it.
 pub fn item_measured(w: Wanted, i: Item, g: Gathered) -> Gathered
-    requires { ⌜ (i .size ≤ 16) × (g .count ≤ g .size) × (g .size ≤ 248) ⌝ }
+    requires { ⌜ (w .start ≤ i .id) × (i .size ≤ 16) × (g .count ≤ g .size) × (g .size ≤ 248) ⌝ }
     ensures { λ r. ⌜ r ≡ measured (isBehind w (i .id)) (isWithin w (i .id)) (itemEntry i) g ⌝ }
 {
     if is_behind(w, i.id) {
         return ended(g);
     }
-    if is_within(w, i.id) {
-        return with_entry(g, i.id, 3 + i.size as usize);
-    }
-    g
+    with_entry(g, i.id, 3 + i.size as usize)
 }
 
-// The first pass over the datapoints, from a place on.
+// The first pass over the datapoints, from the place of the first ID of the range on.
 pub fn measure_datapoints(table: &[Datapoint], from: usize, w: Wanted) -> Gathered
-    requires { ⌜ (tableOk 1000 datapointId datapointOk (now table) ≡ true) × (from ≤ length (now table)) ⌝ }
+    requires { ⌜ (tableOk 1000 datapointId datapointOk (now table) ≡ true) × (from ≡ place datapointId (w .start) (now table)) ⌝ }
     ensures { λ r. ⌜ r ≡ walked (datapointStep w) nothingGathered (drop from (now (table .entry))) ⌝ }
 {
     let mut g = Gathered {
@@ -187,9 +173,9 @@ pub fn measure_datapoints(table: &[Datapoint], from: usize, w: Wanted) -> Gather
     g
 }
 
-// The first pass over the items, from a place on.
+// The first pass over the items, from the place of the first ID of the range on.
 pub fn measure_items(table: &[Item], from: usize, w: Wanted) -> Gathered
-    requires { ⌜ (tableOk 64 itemId itemOk (now table) ≡ true) × (from ≤ length (now table)) ⌝ }
+    requires { ⌜ (tableOk 64 itemId itemOk (now table) ≡ true) × (from ≡ place itemId (w .start) (now table)) ⌝ }
     ensures { λ r. ⌜ r ≡ walked (itemStep w) nothingGathered (drop from (now (table .entry))) ⌝ }
 {
     let mut g = Gathered {
@@ -209,19 +195,22 @@ pub fn measure_items(table: &[Item], from: usize, w: Wanted) -> Gathered
     g
 }
 
-// The second pass over the datapoints, from a place on: the entries go into the buffer at `at`, and each record is left as it is after its entry was built.
-// Answers where the entries end. A wanted record is read anew, so that the others are not copied, and stored before its entry is built, so that only what is
-// changed is stored.
+// The second pass over the datapoints, from the place of the first ID of the range on: the entries go into the buffer at `at`, and each record is left as it
+// is after its entry was built. Answers where the entries end. A wanted record is read anew, so that the others are not copied, and stored before its entry is
+// built, so that only what is changed is stored. An entry that others follow is written with all of its value's memory, without a look at its size; all
+// entries together have `size` bytes.
 pub fn build_datapoints(
     table: &mut [Datapoint],
     from: usize,
     w: Wanted,
     out: &mut [u8],
     at: usize,
+    size: usize,
 ) -> usize
-    requires { ⌜ (tableOk 1000 datapointId datapointOk (now table) ≡ true) × (from ≤ length (now table)) × (at + length (datapointsBuilt w (drop from (now table))) ≤ length (now out)) ⌝ }
+    requires { ⌜ (tableOk 1000 datapointId datapointOk (now table) ≡ true) × (from ≡ place datapointId (w .start) (now table)) × (at + length (datapointsBuilt w (drop from (now table))) ≤ length (now out)) × (size ≡ length (datapointsBuilt w (drop from (now table)))) ⌝ }
     ensures { λ r. ⌜ (now (table .exit) ≡ take from (now (table .entry)) ++ datapointsLeft w (drop from (now (table .entry)))) × (now (out .exit) ≡ put (now (out .entry)) at (datapointsBuilt w (drop from (now (table .entry))))) × (r ≡ at + length (datapointsBuilt w (drop from (now (table .entry))))) ⌝ }
 {
+    let stop = at + size;
     let mut i = from;
     let mut end = at;
     while i < table.len() {
@@ -230,9 +219,15 @@ pub fn build_datapoints(
             return end;
         }
         if is_wanted(w, d) {
-            let e = table[i];
-            table[i] = left_of(w, e);
-            end = put_entry(out, end, w, e);
+            if end + 18 <= stop {
+                let e = table[i];
+                table[i] = left_of(w, e);
+                end = put_wide_entry(out, end, w, e);
+            } else {
+                let e = table[i];
+                table[i] = left_of(w, e);
+                end = put_entry(out, end, w, e);
+            }
         }
         i += 1;
     }
@@ -241,7 +236,7 @@ pub fn build_datapoints(
 
 // The second pass over the items, which stay as they are.
 pub fn build_items(table: &[Item], from: usize, w: Wanted, out: &mut [u8], at: usize) -> usize
-    requires { ⌜ (tableOk 64 itemId itemOk (now table) ≡ true) × (from ≤ length (now table)) × (at + length (itemsBuilt w (drop from (now table))) ≤ length (now out)) ⌝ }
+    requires { ⌜ (tableOk 64 itemId itemOk (now table) ≡ true) × (from ≡ place itemId (w .start) (now table)) × (at + length (itemsBuilt w (drop from (now table))) ≤ length (now out)) ⌝ }
     ensures { λ r. ⌜ (now (out .exit) ≡ put (now (out .entry)) at (itemsBuilt w (drop from (now (table .entry))))) × (r ≡ at + length (itemsBuilt w (drop from (now (table .entry))))) ⌝ }
 {
     let mut i = from;
@@ -251,9 +246,7 @@ pub fn build_items(table: &[Item], from: usize, w: Wanted, out: &mut [u8], at: u
         if is_behind(w, item.id) {
             return end;
         }
-        if is_within(w, item.id) {
-            end = put_item(out, end, item);
-        }
+        end = put_item(out, end, item);
         i += 1;
     }
     end

@@ -61,7 +61,6 @@ pub fn wanted(m: &[u8], values: bool) -> Wanted
         end: start as u32 + number as u32,
         filter: filter,
         values: values,
-        marked: false,
     }
 }
 
@@ -170,7 +169,7 @@ pub fn get_datapoints(
         return put_coded(out, at, m, u.id, u.code);
     }
     let end = put_answer_head(out, at, m, g.count);
-    build_datapoints(table, from, w, out, end)
+    build_datapoints(table, from, w, out, end, g.size)
 }
 
 // GetServerItem: the answer, into the buffer at `at`; answers where it ends.

@@ -41,7 +41,7 @@ pub fn carry_out(
     out: &mut [u8],
     at: usize,
 ) -> usize
-    requires { ⌜ (tableOk 1000 datapointId datapointOk (now datapoints) ≡ true) × (tableOk 64 itemId itemOk (now items) ≡ true) × (length (now parameters) ≤ 255) × (at + 254 ≤ length (now out)) ⌝ }
+    requires { ⌜ (tableOk 1000 datapointId datapointOk (now datapoints) ≡ true) × (tableOk 64 itemId itemOk (now items) ≡ true) × (length (now parameters) ≤ 255) × (at + 254 ≤ length (now out)) × (length (now m) ≤ 254) ⌝ }
     ensures { λ r. ⌜ (now (datapoints .exit) ≡ carriedOut (tablesOf (now (datapoints .entry)) (now (items .entry)) (now (parameters .entry))) (now (m .entry)) .after .datapoints)
         × (now (items .exit) ≡ carriedOut (tablesOf (now (datapoints .entry)) (now (items .entry)) (now (parameters .entry))) (now (m .entry)) .after .items)
         × (now (out .exit) ≡ put (now (out .entry)) at (carriedOut (tablesOf (now (datapoints .entry)) (now (items .entry)) (now (parameters .entry))) (now (m .entry)) .says))

@@ -1,18 +1,19 @@
 // The sets: the entries of a request. An entry is given by the request's bytes and the place where it begins.
 ghost use mathlib.Core.Path.{_≡_};
 ghost use mathlib.Core.Bool.{true};
-ghost use mathlib.Core.List.{[], _∷_, map};
+ghost use mathlib.Core.List.{[], _∷_, _++_, map};
 ghost use Prim.Native.Nat.{_≤_, _<_, _+_};
-ghost use lib.ListN.{length, getD, drop};
+ghost use lib.ListN.{length, getD, take, drop};
 ghost use lib.Dec.{eqb};
 ghost use Rattle.link.specs.Words.{if_then_else_, ofTwoBytes, put};
 ghost use Rattle.services.specs.Datapoint.{datapointId, datapointOk};
 ghost use Rattle.services.specs.Item.{itemId, itemOk};
-ghost use Rattle.services.specs.Table.{datapointsOnly, itemsOnly, found, changed, rising, tableOk};
+ghost use Rattle.services.specs.Table.{datapointsOnly, itemsOnly, found, changed, place, rising, tableOk};
 ghost use Rattle.services.specs.Message.{subService, verdictOf};
-ghost use Rattle.services.specs.Set.{filledFinding, setDatapointValue, setServerItem, fills, span, firstDatapointEntry, firstItemEntry, judgedDatapoint, judgedItem, setDatapoint, setItem, setEntries, firstBad, applied, allShort};
+ghost use Rattle.services.specs.Set.{filledFinding, foundEntries, setDatapointValue, setServerItem, fills, span, firstDatapointEntry, firstItemEntry, judgedDatapoint, judgedItem, setDatapoint, setItem, setEntries, firstBad, applied, allShort};
 use crate::datapoint::Datapoint;
 use crate::datapoint::command;
+use crate::datapoint::command_byte;
 use crate::datapoint::entry_code;
 use crate::item::Item;
 use crate::item::item_code;
@@ -27,6 +28,12 @@ use crate::table::item_at;
 use crate::table::item_place;
 use crate::table::put_datapoint_at;
 use crate::table::put_item_at;
+
+// An entry of a set of datapoints: where it begins in the message, and the place where the datapoint of its ID belongs.
+pub struct Found {
+    pub at: u16,
+    pub place: u16,
+}
 
 // Whether n entries with heads of so many bytes fill the bytes exactly.
 pub fn is_filled(s: &[u8], head: usize, n: u16) -> bool
@@ -100,6 +107,18 @@ pub fn datapoint_set_at(s: &[u8], at: usize, d: Datapoint) -> Datapoint
     d
 }
 
+// The same for an entry with one byte of value, as most have: no copy.
+pub fn datapoint_byte_set_at(s: &[u8], at: usize, d: Datapoint) -> Datapoint
+    requires { ⌜ (at + span 4 (drop at (now s)) ≤ length (now s)) × (getD (drop at (now s)) 3 0 ≡ 1) ⌝ }
+    ensures { λ r. ⌜ r ≡ (if eqb (d .id) (firstDatapointEntry (drop at (now (s .entry))) .id) then setDatapoint (firstDatapointEntry (drop at (now (s .entry)))) d else d) ⌝ }
+{
+    let id = entry_id(s, at);
+    if d.id == id {
+        return command_byte(d, s[at + 2], s[at + 4]);
+    }
+    d
+}
+
 // The code of an entry, judged by the item that stands where its ID belongs.
 pub fn item_code_at(s: &[u8], at: usize, i: Item) -> u8
     requires { ⌜ at + span 3 (drop at (now s)) ≤ length (now s) ⌝ }
@@ -126,33 +145,71 @@ pub fn item_set_at(s: &[u8], at: usize, i: Item) -> Item
     i
 }
 
-// The code of an entry, judged by the table.
-pub fn judge_datapoint(table: &[Datapoint], s: &[u8], at: usize) -> u8
-    requires { ⌜ (length (now table) ≤ 1000) × (rising 0 (map datapointId (now table)) ≡ true) × (at + span 4 (drop at (now s)) ≤ length (now s)) ⌝ }
-    ensures { λ r. ⌜ r ≡ judgedDatapoint (found datapointId (firstDatapointEntry (drop at (now (s .entry))) .id) (now (table .entry))) (firstDatapointEntry (drop at (now (s .entry)))) ⌝ }
+// The entries of a request found, one after the other: whether n of them fill the message exactly. Each ID is searched here and nowhere else, while the next
+// entry's length is waited for.
+pub fn find_entries(table: &[Datapoint], m: &[u8], n: u16, entries: &mut [Found]) -> bool
+    requires { ⌜ (length (now table) ≤ 1000) × (rising 0 (map datapointId (now table)) ≡ true) × (6 ≤ length (now m)) × (length (now m) ≤ 254) × (62 ≤ length (now entries)) ⌝ }
+    ensures { λ r. ⌜ (r ≡ fills 4 n (drop 6 (now (m .entry))))
+        × (now (entries .exit) ≡ foundEntries (now (table .entry)) n 6 (drop 6 (now (m .entry))) ++ drop (length (foundEntries (now (table .entry)) n 6 (drop 6 (now (m .entry))))) (now (entries .entry))) ⌝ }
 {
-    let id = entry_id(s, at);
-    let place = datapoint_place(table, id);
+    let mut at: usize = 6;
+    let mut k: usize = 0;
+    let count = n as usize;
+    while k < count {
+        if m.len() - at < 4 {
+            return false;
+        }
+        let span = 4 + m[at + 3] as usize;
+        if m.len() - at < span {
+            return false;
+        }
+        let id = entry_id(m, at);
+        let place = datapoint_place(table, id);
+        entries[k] = Found {
+            at: at as u16,
+            place: place as u16,
+        };
+        at += span;
+        k += 1;
+    }
+    at == m.len()
+}
+
+// The code of an entry, judged by the table.
+pub fn judge_datapoint(table: &[Datapoint], m: &[u8], f: Found) -> u8
+    requires { ⌜ (length (now table) ≤ 1000) × (rising 0 (map datapointId (now table)) ≡ true) × (f .at + span 4 (drop (f .at) (now m)) ≤ length (now m))
+        × (f .place ≡ place datapointId (firstDatapointEntry (drop (f .at) (now m)) .id) (now table)) ⌝ }
+    ensures { λ r. ⌜ r ≡ judgedDatapoint (found datapointId (firstDatapointEntry (drop (f .at) (now (m .entry))) .id) (now (table .entry))) (firstDatapointEntry (drop (f .at) (now (m .entry)))) ⌝ }
+{
+    let place = f.place as usize;
     if place >= table.len() {
         return 7;
     }
+    let at = f.at as usize;
     let d = datapoint_at(table, place);
-    let code = datapoint_code_at(s, at, d);
+    let code = datapoint_code_at(m, at, d);
     code
 }
 
-// An entry applied: the datapoint of its ID is changed, if there is one.
-pub fn apply_datapoint(table: &mut [Datapoint], s: &[u8], at: usize)
-    requires { ⌜ (length (now table) ≤ 1000) × (rising 0 (map datapointId (now table)) ≡ true) × (at + span 4 (drop at (now s)) ≤ length (now s)) × (length (firstDatapointEntry (drop at (now s)) .value) ≤ 14) ⌝ }
-    ensures { λ _. ⌜ now (table .exit) ≡ changed datapointId (firstDatapointEntry (drop at (now (s .entry))) .id) (setDatapoint (firstDatapointEntry (drop at (now (s .entry))))) (now (table .entry)) ⌝ }
+// An entry applied: the datapoint of its ID is changed, if there is one. A value of one byte goes a way of its own, so that nothing of the record is copied.
+pub fn apply_datapoint(table: &mut [Datapoint], m: &[u8], f: Found)
+    requires { ⌜ (length (now table) ≤ 1000) × (rising 0 (map datapointId (now table)) ≡ true) × (f .at + span 4 (drop (f .at) (now m)) ≤ length (now m))
+        × (length (firstDatapointEntry (drop (f .at) (now m)) .value) ≤ 14) × (f .place ≡ place datapointId (firstDatapointEntry (drop (f .at) (now m)) .id) (now table)) ⌝ }
+    ensures { λ _. ⌜ now (table .exit) ≡ changed datapointId (firstDatapointEntry (drop (f .at) (now (m .entry))) .id) (setDatapoint (firstDatapointEntry (drop (f .at) (now (m .entry))))) (now (table .entry)) ⌝ }
 {
-    let id = entry_id(s, at);
-    let place = datapoint_place(table, id);
+    let place = f.place as usize;
     if place >= table.len() {
         return;
     }
+    let at = f.at as usize;
+    if m[at + 3] == 1 {
+        let d = datapoint_at(table, place);
+        let c = datapoint_byte_set_at(m, at, d);
+        put_datapoint_at(table, place, c);
+        return;
+    }
     let d = datapoint_at(table, place);
-    let c = datapoint_set_at(s, at, d);
+    let c = datapoint_set_at(m, at, d);
     put_datapoint_at(table, place, c);
 }
 
@@ -187,37 +244,38 @@ pub fn apply_item(table: &mut [Item], s: &[u8], at: usize)
 }
 
 // The entries of a request judged one after the other: the first bad one decides.
-pub fn judge_datapoints(table: &[Datapoint], m: &[u8], n: u16) -> Verdict
-    requires { ⌜ (length (now table) ≤ 1000) × (rising 0 (map datapointId (now table)) ≡ true) × (fills 4 n (drop 6 (now m)) ≡ true) ⌝ }
+pub fn judge_datapoints(table: &[Datapoint], m: &[u8], entries: &[Found], n: u16) -> Verdict
+    requires { ⌜ (length (now table) ≤ 1000) × (rising 0 (map datapointId (now table)) ≡ true) × (fills 4 n (drop 6 (now m)) ≡ true)
+        × (take n (now entries) ≡ foundEntries (now table) n 6 (drop 6 (now m))) ⌝ }
     ensures { λ r. ⌜ r ≡ verdictOf (firstBad (λ e. judgedDatapoint (found datapointId (e .id) (now (table .entry))) e) (setEntries firstDatapointEntry 4 n (drop 6 (now (m .entry))))) ⌝ }
 {
-    let mut at: usize = 6;
-    let mut left = n;
-    while 0 < left {
-        let code = judge_datapoint(table, m, at);
+    let mut k: usize = 0;
+    let count = n as usize;
+    while k < count {
+        let f = entries[k];
+        let code = judge_datapoint(table, m, f);
         if code != 0 {
+            let at = f.at as usize;
             let v = verdict_at(m, at, code);
             return v;
         }
-        let end = entry_end(m, at, 4);
-        at = end;
-        left -= 1;
+        k += 1;
     }
     Verdict { id: 0, code: 0 }
 }
 
 // The entries applied in order.
-pub fn apply_datapoints(table: &mut [Datapoint], m: &[u8], n: u16)
-    requires { ⌜ (length (now table) ≤ 1000) × (rising 0 (map datapointId (now table)) ≡ true) × (fills 4 n (drop 6 (now m)) ≡ true) × (allShort 14 (setEntries firstDatapointEntry 4 n (drop 6 (now m))) ≡ true) ⌝ }
+pub fn apply_datapoints(table: &mut [Datapoint], m: &[u8], entries: &[Found], n: u16)
+    requires { ⌜ (length (now table) ≤ 1000) × (rising 0 (map datapointId (now table)) ≡ true) × (fills 4 n (drop 6 (now m)) ≡ true) × (allShort 14 (setEntries firstDatapointEntry 4 n (drop 6 (now m))) ≡ true)
+        × (take n (now entries) ≡ foundEntries (now table) n 6 (drop 6 (now m))) ⌝ }
     ensures { λ _. ⌜ now (table .exit) ≡ applied datapointId setDatapoint (setEntries firstDatapointEntry 4 n (drop 6 (now (m .entry)))) (now (table .entry)) ⌝ }
 {
-    let mut at: usize = 6;
-    let mut left = n;
-    while 0 < left {
-        apply_datapoint(table, m, at);
-        let end = entry_end(m, at, 4);
-        at = end;
-        left -= 1;
+    let mut k: usize = 0;
+    let count = n as usize;
+    while k < count {
+        let f = entries[k];
+        apply_datapoint(table, m, f);
+        k += 1;
     }
 }
 
@@ -277,22 +335,26 @@ pub fn set_verdict(m: &[u8], head: usize) -> Verdict
 
 // SetDatapointValue: the answer, into the buffer at `at`; answers where it ends. All entries are judged before any is applied.
 pub fn set_datapoints(table: &mut [Datapoint], m: &[u8], out: &mut [u8], at: usize) -> usize
-    requires { ⌜ (tableOk 1000 datapointId datapointOk (now table) ≡ true) × (6 ≤ length (now m)) × (subService (now m) < 0x80) × (at + 254 ≤ length (now out)) ⌝ }
+    requires { ⌜ (tableOk 1000 datapointId datapointOk (now table) ≡ true) × (6 ≤ length (now m)) × (length (now m) ≤ 254) × (subService (now m) < 0x80) × (at + 254 ≤ length (now out)) ⌝ }
     ensures { λ r. ⌜ (now (table .exit) ≡ setDatapointValue (datapointsOnly (now (table .entry))) (now (m .entry)) .after .datapoints)
         × (now (out .exit) ≡ put (now (out .entry)) at (setDatapointValue (datapointsOnly (now (table .entry))) (now (m .entry)) .says))
         × (r ≡ at + length (setDatapointValue (datapointsOnly (now (table .entry))) (now (m .entry)) .says)) ⌝ }
 {
-    let v = set_verdict(m, 4);
-    if v.code != 0 {
-        return put_coded(out, at, m, v.id, v.code);
-    }
+    let start = start_of(m);
     let n = number_of(m);
-    let u = judge_datapoints(table, m, n);
+    let mut entries = [Found { at: 0, place: 0 }; 62];
+    let filled = find_entries(table, m, n, &mut entries);
+    if !filled {
+        return put_coded(out, at, m, start, 10);
+    }
+    if n == 0 {
+        return put_coded(out, at, m, start, 6);
+    }
+    let u = judge_datapoints(table, m, &entries, n);
     if u.code != 0 {
         return put_coded(out, at, m, u.id, u.code);
     }
-    apply_datapoints(table, m, n);
-    let start = start_of(m);
+    apply_datapoints(table, m, &entries, n);
     put_coded(out, at, m, start, 0)
 }
 

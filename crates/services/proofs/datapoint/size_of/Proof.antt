@@ -1,7 +1,8 @@
--- Each arm by computing; the first and the last by a law.
+-- Each arm by computing; the last by a law.
+use Prim.Native.Nat.{zero-le}
 use mathlib.Core.Path.{sym, ap}
 use Rattle.services.specs.Datapoint.{sizeOf}
-use Rattle.services.proofs.ValueLaws.{beyond, size-of-bits, size-of-none}
+use Rattle.services.proofs.ValueLaws.{beyond, size-of-none}
 use Rattle.services.proofs.datapoint.size_of.Statement.{statement}
 use Rattle.services.proofs.datapoint.size_of.Tie as tie
 
@@ -34,10 +35,39 @@ unfolding sizeOf
 returns-7 c = sym (ap sizeOf (c .match .keys7))
 
 returns-8 : tie.Need-returns-8
-returns-8 c = sym (size-of-bits _ (c .if1 .taken))
+unfolding sizeOf
+returns-8 c = sym (ap sizeOf (c .match .keys8))
 
 returns-9 : tie.Need-returns-9
-returns-9 c = sym (size-of-none _ (beyond 8 7 _ (c .if1 .left) (c .before .match .rest)))
+unfolding sizeOf
+returns-9 c = sym (ap sizeOf (c .match .keys9))
+
+returns-10 : tie.Need-returns-10
+unfolding sizeOf
+returns-10 c = sym (ap sizeOf (c .match .keys10))
+
+returns-11 : tie.Need-returns-11
+unfolding sizeOf
+returns-11 c = sym (ap sizeOf (c .match .keys11))
+
+returns-12 : tie.Need-returns-12
+unfolding sizeOf
+returns-12 c = sym (ap sizeOf (c .match .keys12))
+
+returns-13 : tie.Need-returns-13
+unfolding sizeOf
+returns-13 c = sym (ap sizeOf (c .match .keys13))
+
+returns-14 : tie.Need-returns-14
+unfolding sizeOf
+returns-14 c = sym (ap sizeOf (c .match .keys14))
+
+returns-15 : tie.Need-returns-15
+unfolding sizeOf
+returns-15 c = sym (ap sizeOf (c .match .keys15))
+
+returns-16 : tie.Need-returns-16
+returns-16 c = sym (size-of-none _ (beyond 0 15 _ zero-le (c .match .rest)))
 
 pub size-of-spec : {M : Type 1} → statement M
 size-of-spec =
@@ -51,4 +81,11 @@ size-of-spec =
     returns-6
     returns-7
     returns-8
-    returns-9)
+    returns-9
+    returns-10
+    returns-11
+    returns-12
+    returns-13
+    returns-14
+    returns-15
+    returns-16)

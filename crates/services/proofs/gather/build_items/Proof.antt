@@ -1,8 +1,8 @@
--- A walk of the loop: the table is looked into and the buffer opened once, at the entry; both are given back where the function returns. In each turn item i is read; if it is wanted, the buffer is lent for its entry.
+-- A walk of the loop: the table is looked into and the buffer opened once, at the entry; both are given back where the function returns. In each turn item i is read; if it is not behind the range, the buffer is lent for its entry.
 -- Assumes nothing.
 use Rattle.walks.proofs.Data.{boolD, Good, typed, MutS, ShrS}
 use Rattle.walks.proofs.Walk.{Blocks, homes, allocs-all, frees-all, Param, dataP, mutSliceP, shrSliceP, Ends, ends-in, Walk, meets-by, behind, starts, cell, room}
-use Rattle.walks.proofs.Branches.{leaves-early, tests, both}
+use Rattle.walks.proofs.Branches.{leaves-early, tests}
 use Rattle.walks.proofs.Slices.{takes-at, back-at, OpenS, opened-slice, closed-slice, LookS, looked-slice, shut-slice}
 use Rattle.walks.proofs.Calls.{calls-plain, calls-mutR}
 use Rattle.walks.proofs.Loops.{by-measure, stack, val, lets, sets}
@@ -40,23 +40,21 @@ use denote.Triple.Statement.{Triple}
 use denote.Triple.Table.{entered, cited}
 use denote.Triple.Walked.{needs}
 use Rattle.link.specs.Words.{every, put}
+use Rattle.link.proofs.WordLaws.{true-T}
 use Rattle.services.specs.declared.gather.Wanted.{Wanted}
 use Rattle.services.specs.declared.item.Item.{Item}
 use Rattle.services.specs.Item.{itemId, itemOk, zeroItem}
 use Rattle.services.specs.Get.{itemEntry}
 use Rattle.services.specs.Gather.{isBehind, isWithin, itemsBuilt}
-use Rattle.services.specs.Table.{tableOk}
+use Rattle.services.specs.Table.{place, tableOk}
 use Rattle.services.proofs.Types.{itemD, wantedD, byteD, idD, placeD, item-id-fits, item-offset-fits, fits-next}
-use Rattle.services.proofs.MeasureLaws.{item-length}
-use Rattle.services.proofs.PassLaws.{rest-ok, here-ok, bytes-fit, built-end, built-behind, built-wanted, built-other, Putting, putting-all, putting-none, putting-next, entry-fits}
+use Rattle.services.proofs.MeasureLaws.{ahead-below, in-range, item-length}
+use Rattle.services.proofs.PlaceLaws.{okFrom, from-id, from-ok, at-place}
+use Rattle.services.proofs.PassLaws.{here-ok, bytes-fit, built-end, built-behind, built-wanted, Putting, putting-all, putting-none, putting-next, entry-fits}
 use Rattle.services.proofs.gather.is_behind as is-behind
 use Rattle.services.proofs.gather.is_behind.Symbol as is-behind-def
 use Rattle.services.proofs.gather.is_behind.Symbol.{name as #services·gather·is-behind}
 use Rattle.services.proofs.gather.is_behind.Met as is-behind-thm
-use Rattle.services.proofs.gather.is_within as is-within
-use Rattle.services.proofs.gather.is_within.Symbol as is-within-def
-use Rattle.services.proofs.gather.is_within.Symbol.{name as #services·gather·is-within}
-use Rattle.services.proofs.gather.is_within.Met as is-within-thm
 use Rattle.services.proofs.item.put_item as put-item
 use Rattle.services.proofs.item.put_item.Symbol as put-item-def
 use Rattle.services.proofs.item.put_item.Symbol.{name as #services·item·put-item}
@@ -72,17 +70,16 @@ ps = shrSliceP 2 0 tt itemD ∷ dataP 2 placeD ∷ dataP 2 wantedD ∷ mutSliceP
 
 -- where local j stands
 abbrev loc : ℕ → ℕ
-loc j = 36 - 2 * j
+loc j = 34 - 2 * j
 
 record Known {M : Type 1} (𝓤 : URA M) (H : Heap 𝓤) (A : Atoms 𝓤) (mem : Memory → SProp 𝓤) (run : Routine → Fun 𝓤) (C : Calls 𝓤 H) : Type 1 where
   pub is-behind : Triple 𝓤 (C #services·gather·is-behind) (tripleOf 𝓤 H A is-behind.signature (is-behind.spec 𝓤 H A mem run))
-  pub is-within : Triple 𝓤 (C #services·gather·is-within) (tripleOf 𝓤 H A is-within.signature (is-within.spec 𝓤 H A mem run))
   pub put-item : Triple 𝓤 (C #services·item·put-item) (tripleOf 𝓤 H A put-item.signature (put-item.spec 𝓤 H A mem run))
 
 module _ {M : Type 1} (𝓤 : URA M) (H : Heap 𝓤) (A : Atoms 𝓤) (W : Given 𝓤 H A) (mem : Memory → SProp 𝓤) (run : Routine → Fun 𝓤) (𝓣 : Tables 𝓤 H) (known : Known 𝓤 H A mem run (𝓣 .C))
     (κ κ′ : Lft) (q q′ : Share) (p : RefT (List Item)) (start : ℕ) (w : Wanted) (p′ : RefT (List ℕ)) (at : ℕ)
     (gn : Room (itemD .row) (length (p .now))) (start-ok : Good placeD start) (w-ok : Good wantedD w) (gm : Room (byteD .row) (length (p′ .now))) (at-ok : Good placeD at)
-    (ok : tableOk 64 itemId itemOk (p .now) ≡ true) (inside : start ≤ length (p .now)) (enough : at + length (itemsBuilt w (dropL start (p .now))) ≤ length (p′ .now)) where
+    (ok : tableOk 64 itemId itemOk (p .now) ≡ true) (placed : start ≡ place itemId (w .start) (p .now)) (enough : at + length (itemsBuilt w (dropL start (p .now))) ≤ length (p′ .now)) where
   abbrev x : RefT (List Item) × (ℕ × (Wanted × (RefT (List ℕ) × (ℕ × Unit {0}))))
   x = (p, (start, (w, (p′, (at, tt)))))
 
@@ -116,6 +113,10 @@ module _ {M : Type 1} (𝓤 : URA M) (H : Heap 𝓤) (A : Atoms 𝓤) (W : Given
   abbrev within : Item → Bool
   within d = isWithin w (d .id)
 
+  -- a record from the place of the first ID on
+  abbrev fine : Item → Bool
+  fine d = okFrom itemId zeroItem (w .start) itemOk d
+
   abbrev all : List ℕ
   all = itemsBuilt w (dropL start ys)
 
@@ -140,7 +141,7 @@ module _ {M : Type 1} (𝓤 : URA M) (H : Heap 𝓤) (A : Atoms 𝓤) (W : Given
 
     -- the records before i are done: the buffer as it is now, and where the entries end
     abbrev State : Type 0
-    State = (i : ℕ) × (end : ℕ) × (bs : List ℕ) × ((i ≤ n) × Holds (every itemOk (dropL i ys)) × Putting out at all bs end (itemsBuilt w (dropL i ys)))
+    State = (i : ℕ) × (end : ℕ) × (bs : List ℕ) × ((i ≤ n) × Holds (every fine (dropL i ys)) × Putting out at all bs end (itemsBuilt w (dropL i ys)))
 
     abbrev Inv : State → List (Entry 𝓤)
     Inv s = ‵ (row (itemD .row) sh ys b o) ∷ ‵ (row (byteD .row) fullShare (s .2) b′ o′) ∷ ‵ (LookS itemD κ q sh (p .name) ys b o) ∷ ‵ (OpenS byteD κ′ q′ (p′ .name) out b′ o′)
@@ -171,31 +172,23 @@ module _ {M : Type 1} (𝓤 : URA M) (H : Heap 𝓤) (A : Atoms 𝓤) (W : Given
         leaves-early ! (val ! (loc 13) refl) (λ behind-it.
         lets ! (loc 0) (of-opd ! (val ! (loc 7) refl)) refl (tt, record { fits = end-fits }) $
         move ! (0 ∷ 2 ∷ []) $ shut-slice ! tt itemD sh ys b o $ move ! (2 ∷ 3 ∷ []) $ closed-slice ! tt byteD m out bs b′ o′ refl (putting .long) gm $ move ! (2 ∷ 3 ∷ []) $
-        returns-within ! Done refl (look ! (loc 0) refl) $ behind ! 4 $ frees-all ! (room ∷ room ∷ room ∷ cell ∷ cell ∷ cell ∷ cell ∷ cell ∷ cell ∷ cell ∷ cell ∷ cell ∷ cell ∷ cell ∷ cell ∷ cell ∷ cell ∷ []) _ $
+        returns-within ! Done refl (look ! (loc 0) refl) $ behind ! 4 $ frees-all ! (room ∷ room ∷ cell ∷ cell ∷ cell ∷ cell ∷ cell ∷ cell ∷ cell ∷ cell ∷ cell ∷ cell ∷ cell ∷ cell ∷ cell ∷ cell ∷ []) _ $
         by ! (exits end bs end-fits (putting .long) (stopped (built-behind past within zeroItem ys i itemEntry (lt small) behind-it))))
         (λ ahead.
-        calls-plain ! (fmOf 𝓤 H (W .laws) 𝓣) (wantedD ∷ idD ∷ []) boolD (is-within.clauses 𝓤 H A mem run) (known .is-within) (w, (d .id, tt)) tt (w-ok, ((refl, item-id-fits d d-ok), tt)) (id⊢ 𝓤 _) (within d) (λ _ _. id⊢ 𝓤 _)
-        (λ _. and-then ! (val ! (1 + loc 3) refl) (and-then ! (load ! (from ! (fld ! refl (stop !))) (look-in ! (1 + loc 8) (sub ! 0 refl (whole !)))) (no-more !))) (λ _.
-        land ! (from ! (stop !)) (init ! (loc 14) refl (tt, tt)) $
-        both ! 𝓣 (val ! (loc 14) refl) (λ hit.
-        lets ! (loc 15) (addr ! (from ! (fld ! refl (hop ! (look-in ! (loc 4) (sub ! 0 refl (whole !))) (stop !))))) refl (tt, tt) $
-        lets ! (loc 16) (agg ! (and-then ! (val ! (loc 15) refl) (and-then ! (load ! (from ! (fld ! refl (stop !))) (look-in ! (loc 4) (sub ! 1 refl (whole !)))) (no-more !)))) refl (tt, (tt, (record { fits = gm .0 }, tt))) $
+        lets ! (loc 14) (addr ! (from ! (fld ! refl (hop ! (look-in ! (loc 4) (sub ! 0 refl (whole !))) (stop !))))) refl (tt, tt) $
+        lets ! (loc 15) (agg ! (and-then ! (val ! (loc 14) refl) (and-then ! (load ! (from ! (fld ! refl (stop !))) (look-in ! (loc 4) (sub ! 1 refl (whole !)))) (no-more !)))) refl (tt, (tt, (record { fits = gm .0 }, tt))) $
         move ! (1 ∷ 0 ∷ []) $
         calls-mutR ! (fmOf 𝓤 H (W .laws) 𝓣) byteD (placeD ∷ itemD ∷ []) placeD (put-item.clauses 𝓤 H A mem run) (known .put-item) m bs (sym (putting .long)) (subst (Room (byteD .row)) (sym (putting .long)) gm) (λ _. (end, (d, tt))) (λ _ _. tt) (λ _. ((refl, end-fits), (d-ok, tt)))
-        (λ _ _. factI 𝓤 _ (emp 𝓤) (bytes-fit d (here small .0) .0, enough-here small ahead hit)) (put bs end es) (end + length es) (λ _ _ _ _. id⊢ 𝓤 _)
-        (λ _ _ _. and-then ! (val ! (1 + loc 16) refl) (and-then ! (val ! (1 + loc 7) refl) (and-then ! (val ! (1 + loc 8) refl) (no-more !)))) (λ _ end-ok.
+        (λ _ _. factI 𝓤 _ (emp 𝓤) (bytes-fit d (passes small) .0, enough-here small ahead)) (put bs end es) (end + length es) (λ _ _ _ _. id⊢ 𝓤 _)
+        (λ _ _ _. and-then ! (val ! (1 + loc 15) refl) (and-then ! (val ! (1 + loc 7) refl) (and-then ! (val ! (1 + loc 8) refl) (no-more !)))) (λ _ end-ok.
         land ! (from ! (stop !)) (store ! (loc 7) refl (tt, record { fits = end-ok .1 })) $
         move ! (1 ∷ 0 ∷ []) $
         assigns-last ! (bin ! (val ! (loc 6) refl) (lit ! tt) (record { fits = fits-next i n (gn .0) (lt small) })) (from ! (stop !)) (store ! (loc 6) refl (tt, record { fits = fits-next i n (gn .0) (lt small) })) $
-        forget ! (loc 8) refl $ forget ! (loc 9) refl $ forget ! (loc 10) refl $ forget ! (loc 11) refl $ forget ! (loc 12) refl $ forget ! (loc 13) refl $ forget ! (loc 14) refl $ forget ! (loc 15) refl $ forget ! (loc 16) refl $
-        again ! ≺ Inv s (i + 1, end + length es, put bs end es, (omega (arith, lt small), here small .1, putting-next out at all bs end es _ (wanted-putting small ahead hit))) (omega (arith, lt small))))
-        (λ miss.
-        assigns-last ! (bin ! (val ! (loc 6) refl) (lit ! tt) (record { fits = fits-next i n (gn .0) (lt small) })) (from ! (stop !)) (store ! (loc 6) refl (tt, record { fits = fits-next i n (gn .0) (lt small) })) $
-        forget ! (loc 8) refl $ forget ! (loc 9) refl $ forget ! (loc 10) refl $ forget ! (loc 11) refl $ forget ! (loc 12) refl $ forget ! (loc 13) refl $ forget ! (loc 14) refl $
-        again ! ≺ Inv s (i + 1, end, bs, (omega (arith, lt small), here small .1, subst (Putting out at all bs end) (built-other past within zeroItem ys i itemEntry (lt small) ahead miss) putting)) (omega (arith, lt small))))))))
+        forget ! (loc 8) refl $ forget ! (loc 9) refl $ forget ! (loc 10) refl $ forget ! (loc 11) refl $ forget ! (loc 12) refl $ forget ! (loc 13) refl $ forget ! (loc 14) refl $ forget ! (loc 15) refl $
+        again ! ≺ Inv s (i + 1, end + length es, put bs end es, (omega (arith, lt small), here small .1, putting-next out at all bs end es _ (wanted-putting small ahead))) (omega (arith, lt small)))))))
         (λ big. exec ! (𝓣 .C) (𝓣 .Λ) En part.t-4 (atRet En Done) $ lets ! (loc 0) (of-opd ! (val ! (loc 7) refl)) refl (tt, record { fits = end-fits }) $
         move ! (0 ∷ 2 ∷ []) $ shut-slice ! tt itemD sh ys b o $ move ! (2 ∷ 3 ∷ []) $ closed-slice ! tt byteD m out bs b′ o′ refl (putting .long) gm $ move ! (2 ∷ 3 ∷ []) $
-        returns ! (look ! (loc 0) refl) $ behind ! 4 $ frees-all ! (room ∷ room ∷ room ∷ room ∷ room ∷ room ∷ cell ∷ cell ∷ room ∷ cell ∷ cell ∷ cell ∷ cell ∷ cell ∷ cell ∷ cell ∷ cell ∷ []) _ $
+        returns ! (look ! (loc 0) refl) $ behind ! 4 $ frees-all ! (room ∷ room ∷ room ∷ room ∷ room ∷ cell ∷ cell ∷ room ∷ cell ∷ cell ∷ cell ∷ cell ∷ cell ∷ cell ∷ cell ∷ cell ∷ []) _ $
         by ! (exits end bs end-fits (putting .long) (stopped (built-end past within zeroItem ys i itemEntry (nltb→le i n big)))))
       where
         i : ℕ
@@ -222,20 +215,29 @@ module _ {M : Type 1} (𝓤 : URA M) (H : Heap 𝓤) (A : Atoms 𝓤) (W : Given
         end-fits : end < 2 ^ 64
         end-fits = omega (arith, gm .0, putting .fits, putting .long)
 
-        here : Holds (ltb i n) → Holds (itemOk d) × Holds (every itemOk (dropL (i + 1) ys))
-        here t = here-ok itemOk ys i zeroItem (lt t) (s .3 .1)
+        here : Holds (ltb i n) → Holds (fine d) × Holds (every fine (dropL (i + 1) ys))
+        here t = here-ok fine ys i zeroItem (lt t) (s .3 .1)
 
-        wanted-putting : Holds (ltb i n) → Holds (not (past d)) → Holds (within d) → Putting out at all bs end (es ++ itemsBuilt w (dropL (i + 1) ys))
-        wanted-putting t u v = subst (Putting out at all bs end) (built-wanted past within zeroItem ys i itemEntry (lt t) u v) putting
+        passes : Holds (ltb i n) → Holds (itemOk d)
+        passes t = from-ok itemId zeroItem (w .start) itemOk d (here t .0)
 
-        enough-here : Holds (ltb i n) → Holds (not (past d)) → Holds (within d) → end + 3 + d .size ≤ length bs
-        enough-here t u v = omega (arith, entry-fits out at all bs end es _ (wanted-putting t u v), item-length d (bytes-fit d (here t .0) .1) (bytes-fit d (here t .0) .0))
+        hit : Holds (ltb i n) → Holds (not (past d)) → Holds (within d)
+        hit t u = true-T (in-range w (d .id) (from-id itemId zeroItem (w .start) itemOk d (here t .0)) (ahead-below w (d .id) u))
+
+        wanted-putting : Holds (ltb i n) → Holds (not (past d)) → Putting out at all bs end (es ++ itemsBuilt w (dropL (i + 1) ys))
+        wanted-putting t u = subst (Putting out at all bs end) (built-wanted past within zeroItem ys i itemEntry (lt t) u (hit t u)) putting
+
+        enough-here : Holds (ltb i n) → Holds (not (past d)) → end + 3 + d .size ≤ length bs
+        enough-here t u = omega (arith, entry-fits out at all bs end es _ (wanted-putting t u), item-length d (bytes-fit d (passes t) .1) (bytes-fit d (passes t) .0))
 
         stopped : itemsBuilt w (dropL i ys) ≡ [] → (bs ≡ put out at all) × (end ≡ at + length all)
         stopped e = putting-none out at all bs end (subst (Putting out at all bs end) e putting)
 
+    from-start : (start ≤ n) × Holds (every fine (dropL start ys))
+    from-start = at-place itemId zeroItem (w .start) itemOk 64 ys start ok placed
+
     abbrev begin : State
-    begin = (start, at, out, (inside, rest-ok itemOk 64 itemId ys start ok, putting-all out at all enough))
+    begin = (start, at, out, (from-start .0, from-start .1, putting-all out at all enough))
 
     begins : Sq W (Inv begin) (runs (𝓣 .C) (𝓣 .Λ) En part.t-3 (atRet En Done))
     begins = first ! $ blocks ! $ loops ! 𝓣 ≺ (by-measure (λ (s : State). n - s .0)) Inv turn begin
@@ -243,10 +245,10 @@ module _ {M : Type 1} (𝓤 : URA M) (H : Heap 𝓤) (A : Atoms 𝓤) (W : Given
   walk : Walk 2 𝓤 H A W ps placeD (f.clauses 𝓤 H A mem run) 𝓣 code.function (κ, (κ′, tt)) (q, (q′, tt)) x tt
   walk =
       starts 𝓤 H A W 2 ps (κ, (κ′, tt)) (q, (q′, tt)) x ∵ enter ! (𝓣 .C) (𝓣 .Λ) code.function _ _ $ allocs-all ! (code.function .locals) (λ l. params1 ! $
-      pass1 ! (init ! 30 refl (tt, (tt, (record { fits = gn .0 }, tt)))) $ pass1 ! (init ! 28 refl (tt, record { fits = start-ok .1 })) $ pass1 ! (init ! 26 refl (typed 𝓤 H A wantedD W w w-ok .0)) $
-      pass1 ! (init ! 24 refl (tt, (tt, (record { fits = gm .0 }, tt)))) $ pass1 ! (init ! 22 refl (tt, record { fits = at-ok .1 })) $ pass0 ! $
-      lets ! 20 (of-opd ! (val ! 28 refl)) refl (tt, record { fits = start-ok .1 }) $ lets ! 18 (of-opd ! (val ! 22 refl)) refl (tt, record { fits = at-ok .1 }) $
-      move ! (36 ∷ 34 ∷ []) $ looked-slice ! tt itemD ys b o (λ sh _. move ! (39 ∷ 36 ∷ []) $ opened-slice ! tt byteD m out b′ o′ refl (λ _. move ! (2 ∷ 0 ∷ 3 ∷ 1 ∷ []) $ begins sh l)))
+      pass1 ! (init ! 28 refl (tt, (tt, (record { fits = gn .0 }, tt)))) $ pass1 ! (init ! 26 refl (tt, record { fits = start-ok .1 })) $ pass1 ! (init ! 24 refl (typed 𝓤 H A wantedD W w w-ok .0)) $
+      pass1 ! (init ! 22 refl (tt, (tt, (record { fits = gm .0 }, tt)))) $ pass1 ! (init ! 20 refl (tt, record { fits = at-ok .1 })) $ pass0 ! $
+      lets ! 18 (of-opd ! (val ! 26 refl)) refl (tt, record { fits = start-ok .1 }) $ lets ! 16 (of-opd ! (val ! 20 refl)) refl (tt, record { fits = at-ok .1 }) $
+      move ! (34 ∷ 32 ∷ []) $ looked-slice ! tt itemD ys b o (λ sh _. move ! (37 ∷ 34 ∷ []) $ opened-slice ! tt byteD m out b′ o′ refl (λ _. move ! (2 ∷ 0 ∷ 3 ∷ 1 ∷ []) $ begins sh l)))
 
 pub build-items-spec : {M : Type 1} → stated.statement M
 unfolding code.routine tablesOf
@@ -258,7 +260,6 @@ build-items-spec 𝓤 H 𝓜 𝓖 𝓡 =
     (meets-by 2 𝓤 H (𝓖 .A) W ps placeD (f.clauses 𝓤 H (𝓖 .A) (𝓜 .mem) (𝓡 .run)) 𝓣 code.function (λ κs qs a _ are. needs 𝓤 _ _ (λ ok. walk 𝓤 H (𝓖 .A) W (𝓜 .mem) (𝓡 .run) 𝓣
     record {
       is-behind = cited 𝓤 H (tripleOf 𝓤 H (𝓖 .A) is-behind.signature (is-behind.spec 𝓤 H (𝓖 .A) (𝓜 .mem) (𝓡 .run))) 𝓜 𝓡 code.env #services·gather·is-behind is-behind-def.routine code.calls-services·gather·is-behind (is-behind-thm.met 𝓤 H 𝓜 𝓖 𝓡);
-      is-within = cited 𝓤 H (tripleOf 𝓤 H (𝓖 .A) is-within.signature (is-within.spec 𝓤 H (𝓖 .A) (𝓜 .mem) (𝓡 .run))) 𝓜 𝓡 code.env #services·gather·is-within is-within-def.routine code.calls-services·gather·is-within (is-within-thm.met 𝓤 H 𝓜 𝓖 𝓡);
       put-item = cited 𝓤 H (tripleOf 𝓤 H (𝓖 .A) put-item.signature (put-item.spec 𝓤 H (𝓖 .A) (𝓜 .mem) (𝓡 .run))) 𝓜 𝓡 code.env #services·item·put-item put-item-def.routine code.calls-services·item·put-item (put-item-thm.met 𝓤 H 𝓜 𝓖 𝓡);
     }
     (κs .0) (κs .1 .0) (qs .0) (qs .1 .0) (a .0) (a .1 .0) (a .1 .1 .0) (a .1 .1 .1 .0) (a .1 .1 .1 .1 .0) (are .0 .0 .1) (are .1 .0) (are .1 .1 .0) (are .1 .1 .1 .0 .0 .1) (are .1 .1 .1 .1 .0) (ok .0) (ok .1) (ok .2))))

@@ -5,10 +5,9 @@ use lib.ListN.{length}
 use borrow.Author.Needs.{needs}
 use Rattle.services.specs.Gather.{ended, withEntry}
 use Rattle.services.specs.Get.{itemEntry}
-use Rattle.services.proofs.MeasureLaws.{item-length, measured-behind, measured-wanted, measured-other}
+use Rattle.services.proofs.MeasureLaws.{not-behind, in-range, item-length, measured-behind, measured-wanted}
 use Rattle.services.proofs.gather.ended.Reads as ended-reads
 use Rattle.services.proofs.gather.is_behind.Reads as is-behind-reads
-use Rattle.services.proofs.gather.is_within.Reads as is-within-reads
 use Rattle.services.proofs.gather.with_entry.Reads as with-entry-reads
 use Rattle.services.proofs.gather.item_measured.Statement.{statement}
 use Rattle.services.proofs.gather.item_measured.Tie as tie
@@ -22,9 +21,6 @@ ended-requires c κs = search needs
 returns : tie.Need-returns
 returns c = c .ended .ensures ∙ sym (measured-behind _ _ _ _ (sym (c .before .before .is-behind .ensures) ∙ c .before .if1 .taken))
 
-is-within-requires : tie.Need-is-within-requires
-is-within-requires c κs = search needs
-
 cast-with-entry : tie.Need-cast-with-entry
 cast-with-entry c = search needs
 
@@ -37,14 +33,12 @@ with-entry-requires c κs = search needs
 returns-2 : tie.Need-returns-2
 unfolding itemEntry
 returns-2 c =
-    let a = c .before .before .before .before .before .before .args in
+    let a = c .before .before .before .before .args in
+    let ahead = sym (c .before .before .before .is-behind .ensures) ∙ c .before .before .if1 .left in
     let h : length (a .i .bytes) ≡ 16 = search needs in
     c .with-entry .ensures
     ∙ ap (λ (n : ℕ). withEntry (a .i .id) n (a .g)) (sym (item-length (a .i) h (omega arith)))
-    ∙ sym (measured-wanted _ _ (itemEntry (a .i)) _ (sym (c .before .before .before .before .before .is-behind .ensures) ∙ c .before .before .before .before .if1 .left) (sym (c .before .before .before .is-within .ensures) ∙ c .before .before .if2 .taken))
-
-returns-3 : tie.Need-returns-3
-returns-3 c = sym (measured-other _ _ _ _ (sym (c .before .before .before .is-behind .ensures) ∙ c .before .before .if1 .left) (sym (c .before .is-within .ensures) ∙ c .if2 .left))
+    ∙ sym (measured-wanted _ _ (itemEntry (a .i)) _ ahead (in-range (a .w) (a .i .id) (omega arith) (not-behind (a .w) (a .i .id) ahead)))
 
 pub item-measured-spec : {M : Type 1} → statement M
 item-measured-spec =
@@ -53,9 +47,7 @@ item-measured-spec =
     is-behind-requires
     ended-requires
     returns
-    is-within-requires
     cast-with-entry
     add-with-entry
     with-entry-requires
-    returns-2
-    returns-3)
+    returns-2)

@@ -8,7 +8,7 @@ use Rattle.walks.proofs.Loops.{by-measure, stack, val, lets, sets}
 use mathlib.Core.Path.{_≡_, refl, sym}
 use Prim.Native.Nat.{ℕ, _<_, _≤_, _*_, _+_, _-_}
 use native.Mathlib.Omega.{arith}
-use mathlib.Core.Bool.{true}
+use mathlib.Core.Bool.{Bool, true}
 use mathlib.Core.Option.{none, some}
 use mathlib.Core.List.{List, [], _∷_}
 use lib.ListN.{length, getD, drop as dropL}
@@ -44,9 +44,10 @@ use Rattle.services.specs.declared.gather.Gathered.{Gathered}
 use Rattle.services.specs.declared.datapoint.Datapoint.{Datapoint}
 use Rattle.services.specs.Datapoint.{datapointId, datapointOk, zeroDatapoint}
 use Rattle.services.specs.Gather.{isBehind, isWanted, entryOf, walked, nothingGathered, datapointStep}
-use Rattle.services.specs.Table.{tableOk}
+use Rattle.services.specs.Table.{place, tableOk}
 use Rattle.services.proofs.Types.{datapointD, wantedD, gatheredD, placeD, nothing-good, datapoint-offset-fits, fits-next}
-use Rattle.services.proofs.PassLaws.{Fits, rest-ok, here-ok, code-fits, entry-some, step-fits, pass-ends, pass-on, pass-done}
+use Rattle.services.proofs.PlaceLaws.{okFrom, from-id, from-ok, at-place}
+use Rattle.services.proofs.PassLaws.{Fits, here-ok, code-fits, entry-some, step-fits, pass-ends, pass-on, pass-done}
 use Rattle.services.proofs.gather.measured as one
 use Rattle.services.proofs.gather.measured.Symbol as one-def
 use Rattle.services.proofs.gather.measured.Symbol.{name as #services·gather·measured}
@@ -66,7 +67,7 @@ loc j = 20 - 2 * j
 
 module _ {M : Type 1} (𝓤 : URA M) (H : Heap 𝓤) (A : Atoms 𝓤) (W : Given 𝓤 H A) (mem : Memory → SProp 𝓤) (run : Routine → Fun 𝓤) (𝓣 : Tables 𝓤 H)
     (known : Triple 𝓤 (𝓣 .C #services·gather·measured) (tripleOf 𝓤 H A one.signature (one.spec 𝓤 H A mem run))) (κ : Lft) (q : Share) (p : RefT (List Datapoint)) (start : ℕ) (w : Wanted)
-    (gn : Room (datapointD .row) (length (p .now))) (start-ok : Good placeD start) (w-ok : Good wantedD w) (ok : tableOk 1000 datapointId datapointOk (p .now) ≡ true) (inside : start ≤ length (p .now)) where
+    (gn : Room (datapointD .row) (length (p .now))) (start-ok : Good placeD start) (w-ok : Good wantedD w) (ok : tableOk 1000 datapointId datapointOk (p .now) ≡ true) (placed : start ≡ place datapointId (w .start) (p .now)) where
   abbrev x : RefT (List Datapoint) × (ℕ × (Wanted × Unit {0}))
   x = (p, (start, (w, tt)))
 
@@ -81,6 +82,10 @@ module _ {M : Type 1} (𝓤 : URA M) (H : Heap 𝓤) (A : Atoms 𝓤) (W : Given
 
   abbrev o : ℕ
   o = p .ptr .1
+
+  -- a record from the place of the first ID on
+  abbrev fine : Datapoint → Bool
+  fine d = okFrom datapointId zeroDatapoint (w .start) datapointOk d
 
   abbrev result : Gathered
   result = walked (datapointStep w) nothingGathered (dropL start ys)
@@ -102,7 +107,7 @@ module _ {M : Type 1} (𝓤 : URA M) (H : Heap 𝓤) (A : Atoms 𝓤) (W : Given
 
     -- the records before i are measured, and g is what was found
     abbrev State : Type 0
-    State = (i : ℕ) × (g : Gathered) × ((i ≤ n) × Good gatheredD g × Fits g × Holds (every datapointOk (dropL i ys)) × (walked (datapointStep w) g (dropL i ys) ≡ result))
+    State = (i : ℕ) × (g : Gathered) × ((i ≤ n) × Good gatheredD g × Fits g × Holds (every fine (dropL i ys)) × (walked (datapointStep w) g (dropL i ys) ≡ result))
 
     abbrev Inv : State → List (Entry 𝓤)
     Inv s = ‵ (row (datapointD .row) sh ys b o) ∷ ‵ (LookS datapointD κ q sh (p .name) ys b o) ∷ stack 𝓤 H En (none ∷ some (sliceVal (b, o) n) ∷ some (vint w64 start) ∷ some (wantedD .val w) ∷ some (gatheredD .val (s .1)) ∷ some (vint w64 (s .0)) ∷ [])
@@ -126,7 +131,7 @@ module _ {M : Type 1} (𝓤 : URA M) (H : Heap 𝓤) (A : Atoms 𝓤) (W : Given
         takes-at ! datapointD sh ys i zeroDatapoint b o (lt small) (λ d-ok.
         lets ! (1 + loc 9) (of-opd ! (load ! (from ! (hop ! (look ! (1 + loc 8) refl) (stop !))) (look-raw ! 0 refl))) refl (typed 𝓤 H A datapointD W d d-ok .0) $
         back-at ! datapointD sh ys i zeroDatapoint b o (lt small) d-ok $
-        calls-plain ! (fmOf 𝓤 H (W .laws) 𝓣) (wantedD ∷ datapointD ∷ gatheredD ∷ []) gatheredD (one.clauses 𝓤 H A mem run) known (w, (d, (g, tt))) tt (w-ok, (d-ok, (s .2 .1, tt))) (factI 𝓤 _ (emp 𝓤) (code-fits d (here (lt small) .0), s .2 .2 .0, s .2 .2 .1)) (datapointStep w d g) (λ _ _. id⊢ 𝓤 _)
+        calls-plain ! (fmOf 𝓤 H (W .laws) 𝓣) (wantedD ∷ datapointD ∷ gatheredD ∷ []) gatheredD (one.clauses 𝓤 H A mem run) known (w, (d, (g, tt))) tt (w-ok, (d-ok, (s .2 .1, tt))) (factI 𝓤 _ (emp 𝓤) (from-id datapointId zeroDatapoint (w .start) datapointOk d (here (lt small) .0), code-fits d (from-ok datapointId zeroDatapoint (w .start) datapointOk d (here (lt small) .0)), s .2 .2 .0, s .2 .2 .1)) (datapointStep w d g) (λ _ _. id⊢ 𝓤 _)
         (λ _. and-then ! (val ! (1 + loc 3) refl) (and-then ! (val ! (1 + loc 9) refl) (and-then ! (val ! (1 + loc 4) refl) (no-more !)))) (λ g-ok.
         land ! (from ! (stop !)) (store ! (loc 4) refl (typed 𝓤 H A gatheredD W (datapointStep w d g) g-ok .0)) $
         sets ! (loc 7) (of-opd ! (load ! (from ! (fld ! refl (stop !))) (look-in ! (loc 4) (sub ! 3 refl (whole !))))) refl (tt, tt) $
@@ -154,11 +159,14 @@ module _ {M : Type 1} (𝓤 : URA M) (H : Heap 𝓤) (A : Atoms 𝓤) (W : Given
         lt : Holds (ltb i n) → i < n
         lt t = ltb→lt i n t
 
-        here : i < n → Holds (datapointOk d) × Holds (every datapointOk (dropL (i + 1) ys))
-        here l = here-ok datapointOk ys i zeroDatapoint l (s .2 .3)
+        here : i < n → Holds (fine d) × Holds (every fine (dropL (i + 1) ys))
+        here l = here-ok fine ys i zeroDatapoint l (s .2 .3)
+
+    from-start : (start ≤ n) × Holds (every fine (dropL start ys))
+    from-start = at-place datapointId zeroDatapoint (w .start) datapointOk 1000 ys start ok placed
 
     abbrev begin : State
-    begin = (start, nothingGathered, (inside, nothing-good, (omega arith, omega arith), rest-ok datapointOk 1000 datapointId ys start ok, refl))
+    begin = (start, nothingGathered, (from-start .0, nothing-good, (omega arith, omega arith), from-start .1, refl))
 
     begins : Sq W (Inv begin) (runs (𝓣 .C) (𝓣 .Λ) En part.t-3 (atRet En Done))
     begins = first ! $ blocks ! $ loops ! 𝓣 ≺ (by-measure (λ (s : State). n - s .0)) Inv turn begin

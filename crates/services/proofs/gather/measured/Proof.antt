@@ -4,7 +4,7 @@ use native.Mathlib.Omega.{arith}
 use lib.ListN.{length}
 use borrow.Author.Needs.{needs}
 use Rattle.services.specs.Gather.{entryOf, ended, withEntry}
-use Rattle.services.proofs.MeasureLaws.{entry-id, entry-short, measured-behind, measured-wanted, measured-other}
+use Rattle.services.proofs.MeasureLaws.{not-behind, entry-id, entry-short, measured-behind, measured-wanted, measured-other}
 use Rattle.services.proofs.gather.ended.Reads as ended-reads
 use Rattle.services.proofs.gather.entry_size.Reads as entry-size-reads
 use Rattle.services.proofs.gather.is_behind.Reads as is-behind-reads
@@ -23,7 +23,7 @@ returns : tie.Need-returns
 returns c = c .ended .ensures ∙ sym (measured-behind _ _ _ _ (sym (c .before .before .is-behind .ensures) ∙ c .before .if1 .taken))
 
 is-wanted-requires : tie.Need-is-wanted-requires
-is-wanted-requires c κs = search needs
+is-wanted-requires c κs = (omega arith, not-behind _ _ (sym (c .before .is-behind .ensures) ∙ c .if1 .left))
 
 entry-size-requires : tie.Need-entry-size-requires
 entry-size-requires c κs = search needs

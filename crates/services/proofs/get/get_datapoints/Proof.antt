@@ -43,8 +43,8 @@ use Rattle.services.specs.Datapoint.{datapointId, datapointOk}
 use Rattle.services.specs.Message.{subService, startOf, coded, verdictOf}
 use Rattle.services.specs.Gather.{requestFinding, gatheredVerdict, walked, nothingGathered, datapointStep, datapointsBuilt, datapointsLeft, wantedOf}
 use Rattle.services.proofs.Types.{datapointD, wantedD, gatheredD, byteD, idD, placeD, verdictD}
-use Rattle.services.proofs.FieldsFit.{id-fits, code-fits, start-fits, count-fits}
-use Rattle.services.proofs.AnswerJoins.{sought, place-inside, datapoints-refused, datapoints-bad, datapoints-fit, datapoints-fine}
+use Rattle.services.proofs.FieldsFit.{id-fits, code-fits, start-fits, count-fits, size-fits}
+use Rattle.services.proofs.AnswerJoins.{sought, datapoints-refused, datapoints-bad, datapoints-fit, datapoints-sized, datapoints-fine}
 use Rattle.services.proofs.get.request_verdict as request-verdict
 use Rattle.services.proofs.get.request_verdict.Symbol as request-verdict-def
 use Rattle.services.proofs.get.request_verdict.Symbol.{name as #services·get·request-verdict}
@@ -196,7 +196,7 @@ module _ {M : Type 1} (𝓤 : URA M) (H : Heap 𝓤) (A : Atoms 𝓤) (W : Given
       land ! (from ! (stop !)) (init ! 42 refl (typed 𝓤 H A placeD W p p-ok .0)) $
       assigns ! (addr ! (from ! (fld ! refl (hop ! (look-in ! 56 (sub ! 0 refl (whole !))) (stop !))))) (from ! (stop !)) (init ! 24 refl (tt, tt)) $
       assigns ! (agg ! (and-then ! (load ! (from ! (stop !)) (look ! 24 refl)) (and-then ! (load ! (from ! (fld ! refl (stop !))) (look-in ! 56 (sub ! 1 refl (whole !)))) (no-more !)))) (from ! (stop !)) (init ! 22 refl (tt, (tt, (record { fits = table-room .0 }, tt)))) $
-      calls-as-shrS ! (fmOf 𝓤 H (W .laws) 𝓣) datapointD (placeD ∷ wantedD ∷ []) gatheredD (measure-datapoints.clauses 𝓤 H A mem run) known-measure-datapoints (length ys) ys refl (λ _. (p, (w, tt))) (λ _ _. tt) (λ _. (p-ok, (w-ok, tt))) (λ _ _. factI 𝓤 _ (emp 𝓤) (ok .0, place-inside datapointId (w .start) ys)) g (λ _ _ _ _. id⊢ 𝓤 _)
+      calls-as-shrS ! (fmOf 𝓤 H (W .laws) 𝓣) datapointD (placeD ∷ wantedD ∷ []) gatheredD (measure-datapoints.clauses 𝓤 H A mem run) known-measure-datapoints (length ys) ys refl (λ _. (p, (w, tt))) (λ _ _. tt) (λ _. (p-ok, (w-ok, tt))) (λ _ _. factI 𝓤 _ (emp 𝓤) (ok .0, refl)) g (λ _ _ _ _. id⊢ 𝓤 _)
       (λ _ _ _. (and-then ! (load ! (from ! (stop !)) (look ! 22 refl)) (and-then ! (load ! (from ! (stop !)) (look ! 42 refl)) (and-then ! (load ! (from ! (stop !)) (look ! 44 refl)) (no-more !))))) (λ g-ok.
       land ! (from ! (stop !)) (init ! 40 refl (typed 𝓤 H A gatheredD W g g-ok .0)) $
       calls-plain ! (fmOf 𝓤 H (W .laws) 𝓣) (idD ∷ gatheredD ∷ []) verdictD (gathered-verdict.clauses 𝓤 H A mem run) known-gathered-verdict (w .start, (g, tt)) tt (start-fits w w-ok, (g-ok, tt)) (id⊢ 𝓤 _) u (λ _ _. id⊢ 𝓤 _)
@@ -249,21 +249,22 @@ module _ {M : Type 1} (𝓤 : URA M) (H : Heap 𝓤) (A : Atoms 𝓤) (W : Given
       lendsS ! tt datapointD (length ys) ys refl (λ ν₀ δ₀ rm₀.
       move ! (3 ∷ 4 ∷ []) $
       lendsS ! tt byteD (length (out .now)) out₁ long₁ (λ ν₁ δ₁ rm₁.
+      use0 W (‵ (placeD .row .own (g .size) (placeD .val (g .size) ∷ []))) (placeD .made 𝓤 H A W (g .size) (placeD .val (g .size) ∷ []) (size-fits g g-ok)) $
       use0 W (‵ (placeD .row .own (at + 6) (placeD .val (at + 6) ∷ []))) (placeD .made 𝓤 H A W (at + 6) (placeD .val (at + 6) ∷ []) head-ok) $
       use0 W (‵ (wantedD .row .own w (wantedD .val w ∷ []))) (wantedD .made 𝓤 H A W w (wantedD .val w ∷ []) w-ok) $
       use0 W (‵ (placeD .row .own p (placeD .val p ∷ []))) (placeD .made 𝓤 H A W p (placeD .val p ∷ []) p-ok) $
-      move ! (6 ∷ 3 ∷ 7 ∷ 0 ∷ 1 ∷ 4 ∷ 2 ∷ []) $
-      calls-any ! (fmOf 𝓤 H (W .laws) 𝓣) build-datapoints.ended (build-datapoints.clauses 𝓤 H A mem run) known-build-datapoints (((ν₀ ∷ [], (ν₁ ∷ [], tt)), (fullShare, (fullShare, tt)), tt, (record { ptr = table .ptr; name = δ₀; now = ys }, (p, (w, (record { ptr = out .ptr; name = δ₁; now = out₁ }, (at + 6, tt))))), (sliceVal (table .ptr) (length ys) ∷ [], (placeD .val p ∷ [], (wantedD .val w ∷ [], (sliceVal (out .ptr) (length (out .now)) ∷ [], (placeD .val (at + 6) ∷ [], tt)))))), tt) (factI 𝓤 _ (emp 𝓤) (ok .0, place-inside datapointId (w .start) ys, omega (arith, datapoints-fit values msg ys (ok .0) (out .now) at refused-not bad-not, ok .3, long₁))) placeD r′ (λ ws. (ws .0 ≡ ys′) × (ws .1 .1 .1 .0 ≡ out₂))
+      move ! (7 ∷ 4 ∷ 8 ∷ 0 ∷ 1 ∷ 5 ∷ 2 ∷ 3 ∷ []) $
+      calls-any ! (fmOf 𝓤 H (W .laws) 𝓣) build-datapoints.ended (build-datapoints.clauses 𝓤 H A mem run) known-build-datapoints (((ν₀ ∷ [], (ν₁ ∷ [], tt)), (fullShare, (fullShare, tt)), tt, (record { ptr = table .ptr; name = δ₀; now = ys }, (p, (w, (record { ptr = out .ptr; name = δ₁; now = out₁ }, (at + 6, (g .size, tt)))))), (sliceVal (table .ptr) (length ys) ∷ [], (placeD .val p ∷ [], (wantedD .val w ∷ [], (sliceVal (out .ptr) (length (out .now)) ∷ [], (placeD .val (at + 6) ∷ [], (placeD .val (g .size) ∷ [], tt))))))), tt) (factI 𝓤 _ (emp 𝓤) (ok .0, refl, omega (arith, datapoints-fit values msg ys (ok .0) (out .now) at refused-not bad-not, ok .3, long₁), datapoints-sized values msg ys (ok .0) (out .now) at refused-not bad-not)) placeD r′ (λ ws. (ws .0 ≡ ys′) × (ws .1 .1 .1 .0 ≡ out₂))
       (λ v r ws is. fact-use 𝓤 _ (id⊢ 𝓤 _) (λ z. factI 𝓤 _ _ ((z .0, z .1), pinned placeD r r′ v is (z .2))))
-      (and-then ! (load ! (from ! (stop !)) (look ! 8 refl)) (and-then ! (load ! (from ! (stop !)) (look ! 40 refl)) (and-then ! (load ! (from ! (stop !)) (look ! 42 refl)) (and-then ! (load ! (from ! (stop !)) (look ! 4 refl)) (and-then ! (load ! (from ! (stop !)) (look ! 34 refl)) (no-more !)))))) (λ ws z end-ok.
-      move ! (0 ∷ 2 ∷ 8 ∷ []) $
+      (and-then ! (load ! (from ! (stop !)) (look ! 8 refl)) (and-then ! (load ! (from ! (stop !)) (look ! 40 refl)) (and-then ! (load ! (from ! (stop !)) (look ! 42 refl)) (and-then ! (load ! (from ! (stop !)) (look ! 4 refl)) (and-then ! (load ! (from ! (stop !)) (look ! 34 refl)) (and-then ! (load ! (from ! (fld ! refl (stop !))) (look-in ! 38 (sub ! 1 refl (whole !)))) (no-more !))))))) (λ ws z end-ok.
+      move ! (0 ∷ 2 ∷ 9 ∷ []) $
       backsS ! tt datapointD (length ys) ys refl rm₀ (ws .0) ys′ (z .0) (λ long₀.
-      move ! (2 ∷ 5 ∷ 7 ∷ []) $
+      move ! (2 ∷ 5 ∷ 8 ∷ []) $
       backsS ! tt byteD (length (out .now)) out₁ long₁ rm₁ (ws .1 .1 .1 .0) out₂ (z .1) (λ long₂.
-      land ! (from ! (stop !)) (init ! 60 refl (typed 𝓤 H A placeD W r′ end-ok .0)) $
-      returns ! (look ! 60 refl) $ behind ! 8 $ frees-all ! (cell ∷ cell ∷ cell ∷ cell ∷ cell ∷ cell ∷ room ∷ room ∷ cell ∷ cell ∷ cell ∷ cell ∷ room ∷ room ∷ cell ∷ cell ∷ cell ∷ cell ∷ cell ∷ cell ∷ cell ∷ cell ∷ cell ∷ cell ∷ cell ∷ cell ∷ cell ∷ []) _ $
+      land ! (from ! (stop !)) (init ! 61 refl (typed 𝓤 H A placeD W r′ end-ok .0)) $
+      returns ! (look ! 61 refl) $ behind ! 9 $ frees-all ! (cell ∷ cell ∷ cell ∷ cell ∷ cell ∷ cell ∷ room ∷ room ∷ cell ∷ cell ∷ cell ∷ cell ∷ room ∷ room ∷ cell ∷ cell ∷ cell ∷ cell ∷ cell ∷ cell ∷ cell ∷ cell ∷ cell ∷ cell ∷ cell ∷ cell ∷ cell ∷ []) _ $
       suffices ! _ (ends-in 3 𝓤 H A W ps placeD (f.clauses 𝓤 H A mem run) (κ0, (κ1, (κ2, tt))) (q0, (q1, (q2, tt))) x tt r′ (ys′, (tt, (tt, (out₂, (tt, tt))))) (sym long₀, (tt, (tt, (sym long₂, (tt, tt))))) end-ok (factI 𝓤 _ (emp 𝓤) (datapoints-fine values msg ys (ok .0) (out .now) at refused-not bad-not (ok .3)))) $
-      nothing ! $ nothing ! $ nothing ! $ nothing ! $ nothing ! $ keep ! (10 ∷ 14 ∷ 8 ∷ 0 ∷ 9 ∷ 1 ∷ 2 ∷ 7 ∷ 3 ∷ 4 ∷ []) $ group ! 4 $ frame ! $ done !))))))))))))))))
+      nothing ! $ nothing ! $ nothing ! $ nothing ! $ nothing ! $ keep ! (10 ∷ 15 ∷ 8 ∷ 0 ∷ 9 ∷ 1 ∷ 2 ∷ 7 ∷ 3 ∷ 4 ∷ []) $ group ! 4 $ frame ! $ done !))))))))))))))))
 
 pub get-datapoints-spec : {M : Type 1} → stated.statement M
 unfolding code.routine tablesOf

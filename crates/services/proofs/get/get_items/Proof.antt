@@ -44,7 +44,7 @@ use Rattle.services.specs.Message.{subService, startOf, coded, verdictOf
 use Rattle.services.specs.Gather.{requestFinding, gatheredVerdict, walked, nothingGathered, itemStep, itemsBuilt, wantedOf}
 use Rattle.services.proofs.Types.{itemD, wantedD, gatheredD, byteD, idD, placeD, verdictD}
 use Rattle.services.proofs.FieldsFit.{id-fits, code-fits, start-fits, count-fits}
-use Rattle.services.proofs.AnswerJoins.{sought, place-inside, items-refused, items-bad, items-fit, items-fine}
+use Rattle.services.proofs.AnswerJoins.{sought, items-refused, items-bad, items-fit, items-fine}
 use Rattle.services.proofs.get.request_verdict as request-verdict
 use Rattle.services.proofs.get.request_verdict.Symbol as request-verdict-def
 use Rattle.services.proofs.get.request_verdict.Symbol.{name as #services·get·request-verdict}
@@ -188,7 +188,7 @@ module _ {M : Type 1} (𝓤 : URA M) (H : Heap 𝓤) (A : Atoms 𝓤) (W : Given
       calls-shrS ! (fmOf 𝓤 H (W .laws) 𝓣) itemD (idD ∷ []) placeD (item-place.clauses 𝓤 H A mem run) known-item-place ys (w .start, tt) tt (start-fits w w-ok, tt) (factI 𝓤 _ (emp 𝓤) (sought 64 itemId itemOk ys (ok .0))) p (λ _ _. id⊢ 𝓤 _)
       (λ _ _. (and-then ! (load ! (from ! (stop !)) (look ! 42 refl)) (and-then ! (load ! (from ! (fld ! refl (stop !))) (look-in ! 32 (sub ! 0 refl (whole !)))) (no-more !)))) (λ p-ok.
       land ! (from ! (stop !)) (init ! 30 refl (typed 𝓤 H A placeD W p p-ok .0)) $
-      calls-shrS ! (fmOf 𝓤 H (W .laws) 𝓣) itemD (placeD ∷ wantedD ∷ []) gatheredD (measure-items.clauses 𝓤 H A mem run) known-measure-items ys (p, (w, tt)) tt (p-ok, (w-ok, tt)) (factI 𝓤 _ (emp 𝓤) (ok .0, place-inside itemId (w .start) ys)) g (λ _ _. id⊢ 𝓤 _)
+      calls-shrS ! (fmOf 𝓤 H (W .laws) 𝓣) itemD (placeD ∷ wantedD ∷ []) gatheredD (measure-items.clauses 𝓤 H A mem run) known-measure-items ys (p, (w, tt)) tt (p-ok, (w-ok, tt)) (factI 𝓤 _ (emp 𝓤) (ok .0, refl)) g (λ _ _. id⊢ 𝓤 _)
       (λ _ _. (and-then ! (load ! (from ! (stop !)) (look ! 42 refl)) (and-then ! (load ! (from ! (stop !)) (look ! 30 refl)) (and-then ! (load ! (from ! (stop !)) (look ! 32 refl)) (no-more !))))) (λ g-ok.
       land ! (from ! (stop !)) (init ! 28 refl (typed 𝓤 H A gatheredD W g g-ok .0)) $
       calls-plain ! (fmOf 𝓤 H (W .laws) 𝓣) (idD ∷ gatheredD ∷ []) verdictD (gathered-verdict.clauses 𝓤 H A mem run) known-gathered-verdict (w .start, (g, tt)) tt (start-fits w w-ok, (g-ok, tt)) (id⊢ 𝓤 _) u (λ _ _. id⊢ 𝓤 _)
@@ -240,7 +240,7 @@ module _ {M : Type 1} (𝓤 : URA M) (H : Heap 𝓤) (A : Atoms 𝓤) (W : Given
       use0 W (‵ (wantedD .row .own w (wantedD .val w ∷ []))) (wantedD .made 𝓤 H A W w (wantedD .val w ∷ []) w-ok) $
       use0 W (‵ (placeD .row .own p (placeD .val p ∷ []))) (placeD .made 𝓤 H A W p (placeD .val p ∷ []) p-ok) $
       move ! (8 ∷ 3 ∷ 7 ∷ 0 ∷ 1 ∷ 4 ∷ 2 ∷ []) $
-      calls-any ! (fmOf 𝓤 H (W .laws) 𝓣) build-items.ended (build-items.clauses 𝓤 H A mem run) known-build-items (((κ0, (ν₁ ∷ [], tt)), (q0, (fullShare, tt)), tt, (table, (p, (w, (record { ptr = out .ptr; name = δ₁; now = out₁ }, (at + 6, tt))))), (sliceVal (table .ptr) (length ys) ∷ [], (placeD .val p ∷ [], (wantedD .val w ∷ [], (sliceVal (out .ptr) (length (out .now)) ∷ [], (placeD .val (at + 6) ∷ [], tt)))))), tt) (factI 𝓤 _ (emp 𝓤) (ok .0, place-inside itemId (w .start) ys, omega (arith, items-fit msg ys (ok .0) (out .now) at refused-not bad-not, ok .3, long₁))) placeD r′ (λ ws. ws .1 .1 .1 .0 ≡ out₂)
+      calls-any ! (fmOf 𝓤 H (W .laws) 𝓣) build-items.ended (build-items.clauses 𝓤 H A mem run) known-build-items (((κ0, (ν₁ ∷ [], tt)), (q0, (fullShare, tt)), tt, (table, (p, (w, (record { ptr = out .ptr; name = δ₁; now = out₁ }, (at + 6, tt))))), (sliceVal (table .ptr) (length ys) ∷ [], (placeD .val p ∷ [], (wantedD .val w ∷ [], (sliceVal (out .ptr) (length (out .now)) ∷ [], (placeD .val (at + 6) ∷ [], tt)))))), tt) (factI 𝓤 _ (emp 𝓤) (ok .0, refl, omega (arith, items-fit msg ys (ok .0) (out .now) at refused-not bad-not, ok .3, long₁))) placeD r′ (λ ws. ws .1 .1 .1 .0 ≡ out₂)
       (λ v r ws is. fact-use 𝓤 _ (id⊢ 𝓤 _) (λ z. factI 𝓤 _ _ (z .0, pinned placeD r r′ v is (z .1))))
       (and-then ! (load ! (from ! (stop !)) (look ! 39 refl)) (and-then ! (load ! (from ! (stop !)) (look ! 27 refl)) (and-then ! (load ! (from ! (stop !)) (look ! 29 refl)) (and-then ! (load ! (from ! (stop !)) (look ! 3 refl)) (and-then ! (load ! (from ! (stop !)) (look ! 21 refl)) (no-more !)))))) (λ ws z end-ok.
       move ! (1 ∷ 5 ∷ 7 ∷ []) $

@@ -1,5 +1,4 @@
 use Prim.Native.Nat.{_+_}
-use mathlib.Core.Bool.{false}
 use borrow.Author.Needs.{needs}
 use Rattle.services.specs.Gather.{wantedOf}
 use Rattle.services.proofs.get.filter_asked.Reads as filter-asked-reads
@@ -36,7 +35,6 @@ returns c =
       end = c .before .before .start-of .ensures i + c .before .number-of .ensures i;
       filter = c .filter-asked .ensures i;
       values = a .values;
-      marked = false;
     }
 
 pub wanted-spec : {M : Type 1} → statement M

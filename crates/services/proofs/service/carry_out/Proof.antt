@@ -120,7 +120,7 @@ C-put-coded 𝓤 H A mem run = tripleOf 𝓤 H A put-coded.signature (put-coded.
 
 module _ {M : Type 1} (𝓤 : URA M) (H : Heap 𝓤) (A : Atoms 𝓤) (W : Given 𝓤 H A) (mem : Memory → SProp 𝓤) (run : Routine → Fun 𝓤) (𝓣 : Tables 𝓤 H)
     (known-is-unanswered : Triple 𝓤 (𝓣 .C #services·service·is-unanswered) (C-is-unanswered 𝓤 H A mem run)) (known-sub-service-of : Triple 𝓤 (𝓣 .C #services·message·sub-service-of) (C-sub-service-of 𝓤 H A mem run)) (known-get-items : Triple 𝓤 (𝓣 .C #services·get·get-items) (C-get-items 𝓤 H A mem run)) (known-set-items : Triple 𝓤 (𝓣 .C #services·set·set-items) (C-set-items 𝓤 H A mem run)) (known-get-datapoints : Triple 𝓤 (𝓣 .C #services·get·get-datapoints) (C-get-datapoints 𝓤 H A mem run)) (known-set-datapoints : Triple 𝓤 (𝓣 .C #services·set·set-datapoints) (C-set-datapoints 𝓤 H A mem run)) (known-get-parameters : Triple 𝓤 (𝓣 .C #services·get·get-parameters) (C-get-parameters 𝓤 H A mem run)) (known-start-of : Triple 𝓤 (𝓣 .C #services·message·start-of) (C-start-of 𝓤 H A mem run)) (known-put-coded : Triple 𝓤 (𝓣 .C #services·message·put-coded) (C-put-coded 𝓤 H A mem run))
-    (κ0 κ1 κ2 κ3 κ4 : Lft) (q0 q1 q2 q3 q4 : Share) (datapoints : RefT (List Datapoint)) (items : RefT (List Item)) (parameters : RefT (List ℕ)) (m : RefT (List ℕ)) (out : RefT (List ℕ)) (at : ℕ) (datapoints-room : Room (datapointD .row) (length (datapoints .now))) (items-room : Room (itemD .row) (length (items .now))) (parameters-room : Room (byteD .row) (length (parameters .now))) (m-room : Room (byteD .row) (length (m .now))) (out-room : Room (byteD .row) (length (out .now))) (at-ok : Good placeD at) (ok : (tableOk 1000 datapointId datapointOk (datapoints .now) ≡ true) × (tableOk 64 itemId itemOk (items .now) ≡ true) × (length (parameters .now) ≤ 255) × (at + 254 ≤ length (out .now))) where
+    (κ0 κ1 κ2 κ3 κ4 : Lft) (q0 q1 q2 q3 q4 : Share) (datapoints : RefT (List Datapoint)) (items : RefT (List Item)) (parameters : RefT (List ℕ)) (m : RefT (List ℕ)) (out : RefT (List ℕ)) (at : ℕ) (datapoints-room : Room (datapointD .row) (length (datapoints .now))) (items-room : Room (itemD .row) (length (items .now))) (parameters-room : Room (byteD .row) (length (parameters .now))) (m-room : Room (byteD .row) (length (m .now))) (out-room : Room (byteD .row) (length (out .now))) (at-ok : Good placeD at) (ok : (tableOk 1000 datapointId datapointOk (datapoints .now) ≡ true) × (tableOk 64 itemId itemOk (items .now) ≡ true) × (length (parameters .now) ≤ 255) × (at + 254 ≤ length (out .now)) × (length (m .now) ≤ 254)) where
   abbrev x : RefT (List Datapoint) × (RefT (List Item) × (RefT (List ℕ) × (RefT (List ℕ) × (RefT (List ℕ) × (ℕ × Unit {0})))))
   x = (datapoints, (items, (parameters, (m, (out, (at, tt))))))
 
@@ -275,7 +275,7 @@ module _ {M : Type 1} (𝓤 : URA M) (H : Heap 𝓤) (A : Atoms 𝓤) (W : Given
       lendsS ! tt byteD (length (out .now)) (out .now) refl (λ ν₁ δ₁ rm₁.
       use0 W (‵ (placeD .row .own at (placeD .val at ∷ []))) (placeD .made 𝓤 H A W at (placeD .val at ∷ []) at-ok) $
       move ! (4 ∷ 8 ∷ 1 ∷ 5 ∷ 7 ∷ 2 ∷ 0 ∷ []) $
-      calls-any ! (fmOf 𝓤 H (W .laws) 𝓣) set-datapoints.ended (set-datapoints.clauses 𝓤 H A mem run) known-set-datapoints (((ν₀ ∷ [], (κ3, (ν₁ ∷ [], tt))), (fullShare, (q3, (fullShare, tt))), tt, (record { ptr = datapoints .ptr; name = δ₀; now = ds }, (m, (record { ptr = out .ptr; name = δ₁; now = out .now }, (at, tt)))), (sliceVal (datapoints .ptr) (length ds) ∷ [], (sliceVal (m .ptr) (length msg) ∷ [], (sliceVal (out .ptr) (length (out .now)) ∷ [], (placeD .val at ∷ [], tt))))), tt) (factI 𝓤 _ (emp 𝓤) (ok .0, (carry-long ds is bs msg (out .now) at silent-not), (carry-sub ds is bs msg (out .now) at silent-not), ok .3)) placeD (at + length (setDatapointValue (datapointsOnly ds) msg .says)) (λ ws. (ws .0 ≡ (setDatapointValue (datapointsOnly ds) msg .after .datapoints)) × (ws .1 .1 .0 ≡ (put (out .now) at (setDatapointValue (datapointsOnly ds) msg .says))))
+      calls-any ! (fmOf 𝓤 H (W .laws) 𝓣) set-datapoints.ended (set-datapoints.clauses 𝓤 H A mem run) known-set-datapoints (((ν₀ ∷ [], (κ3, (ν₁ ∷ [], tt))), (fullShare, (q3, (fullShare, tt))), tt, (record { ptr = datapoints .ptr; name = δ₀; now = ds }, (m, (record { ptr = out .ptr; name = δ₁; now = out .now }, (at, tt)))), (sliceVal (datapoints .ptr) (length ds) ∷ [], (sliceVal (m .ptr) (length msg) ∷ [], (sliceVal (out .ptr) (length (out .now)) ∷ [], (placeD .val at ∷ [], tt))))), tt) (factI 𝓤 _ (emp 𝓤) (ok .0, (carry-long ds is bs msg (out .now) at silent-not), ok .4, (carry-sub ds is bs msg (out .now) at silent-not), ok .3)) placeD (at + length (setDatapointValue (datapointsOnly ds) msg .says)) (λ ws. (ws .0 ≡ (setDatapointValue (datapointsOnly ds) msg .after .datapoints)) × (ws .1 .1 .0 ≡ (put (out .now) at (setDatapointValue (datapointsOnly ds) msg .says))))
       (λ v r ws fit. fact-use 𝓤 _ (id⊢ 𝓤 _) (λ z. factI 𝓤 _ _ ((z .0, z .1), pinned placeD r (at + length (setDatapointValue (datapointsOnly ds) msg .says)) v fit (z .2))))
       (and-then ! (load ! (from ! (stop !)) (look ! 19 refl)) (and-then ! (load ! (from ! (stop !)) (look ! 67 refl)) (and-then ! (load ! (from ! (stop !)) (look ! 15 refl)) (and-then ! (load ! (from ! (stop !)) (look ! 63 refl)) (no-more !))))) (λ ws z end-ok.
       move ! (0 ∷ 3 ∷ 8 ∷ []) $

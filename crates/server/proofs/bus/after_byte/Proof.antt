@@ -1,0 +1,79 @@
+use Prim.Native.Nat.{ℕ, _≤_}
+use mathlib.Core.Path.{sym, subst, ap, _∙_}
+use Rattle.services.specs.Datapoint.{outcome}
+use borrow.Author.Needs.{needs}
+use Rattle.server.specs.Promise.{taken}
+use Rattle.server.proofs.BusLaws.{status-fits}
+use Rattle.server.proofs.bus.after_byte.Statement.{statement}
+use Rattle.server.proofs.bus.after_byte.Tie as tie
+
+enum-told : tie.Need-enum-told
+enum-told c = search needs
+
+enum-told-2 : tie.Need-enum-told-2
+enum-told-2 c = search needs
+
+enum-told-3 : tie.Need-enum-told-3
+enum-told-3 c = search needs
+
+enum-told-4 : tie.Need-enum-told-4
+enum-told-4 c = search needs
+
+enum-told-5 : tie.Need-enum-told-5
+enum-told-5 c = search needs
+
+bus-byte-requires : tie.Need-bus-byte-requires
+bus-byte-requires c κs = search needs
+
+enum-known-event : tie.Need-enum-known-event
+enum-known-event c = search needs
+
+status-of-requires : tie.Need-status-of-requires
+status-of-requires c κs = search needs
+
+outcome-of-requires : tie.Need-outcome-of-requires
+outcome-of-requires c κs = subst (λ n. n ≤ 3) (sym (c .status-of .ensures)) (status-fits _)
+
+returns : tie.Need-returns
+unfolding taken
+returns c = search needs
+
+returns-2 : tie.Need-returns-2
+unfolding taken
+returns-2 c = search needs
+
+returns-3 : tie.Need-returns-3
+unfolding taken
+returns-3 c = search needs
+
+returns-4 : tie.Need-returns-4
+unfolding taken
+returns-4 c = search needs
+
+returns-5 : tie.Need-returns-5
+unfolding taken
+returns-5 c = rw (c .before .enum-told5 .given .1) (c .bus-byte .ensures)
+
+returns-6 : tie.Need-returns-6
+unfolding taken
+returns-6 c = rw (c .before .before .before .event .given .1) (c .outcome-of .ensures ∙ ap (λ (n : ℕ). outcome n (c .before .before .before .before .before .args .d)) (c .before .status-of .ensures))
+
+pub after-byte-spec : {M : Type 1} → statement M
+after-byte-spec =
+    tie.close
+    (tie.spec
+    enum-told
+    enum-told-2
+    enum-told-3
+    enum-told-4
+    enum-told-5
+    bus-byte-requires
+    enum-known-event
+    status-of-requires
+    outcome-of-requires
+    returns
+    returns-2
+    returns-3
+    returns-4
+    returns-5
+    returns-6)

@@ -1,0 +1,96 @@
+-- Entries of a set that are applied: the state that a command leaves, a value of one byte, and the record at a place that was searched before.
+use Prim.Native.Nat.{ℕ, _+_, _≤_, _<_}
+use mathlib.Core.Path.{_≡_, refl, sym, _∙_, ap}
+use mathlib.Core.Bool.{Bool, true, false}
+use mathlib.Core.List.{List, [], _∷_, map}
+use native.Mathlib.Omega.{arith}
+use lib.ListN.{length, getD, take, drop, set, length-drop}
+use lib.Seq.{getD-drop, take-suc}
+use borrow.Author.Tests.{eq-eqb, ne-eqb}
+use lib.Dec.{eqb}
+use Rattle.link.specs.Words.{if_then_else_}
+use Rattle.services.specs.declared.datapoint.Datapoint.{Datapoint}
+use Rattle.services.specs.Datapoint.{withValid, withRequest, withStatus, withState, withValue, commanded, commandedState}
+use Rattle.services.specs.Set.{span, firstDatapointEntry, setDatapoint}
+use Rattle.services.specs.Table.{changed, place, rising}
+use Rattle.services.proofs.EntriesLaws.{idBytes, changed-here, changed-nowhere}
+
+-- ---- the state that a command leaves
+module _ (c s : ℕ) where
+  pub state-1 : c ≡ 1 → commandedState c s ≡ withValid s
+  unfolding commandedState
+  state-1 e = rw e
+
+  pub state-2 : c ≡ 2 → commandedState c s ≡ withStatus 3 s
+  unfolding commandedState
+  state-2 e = rw e
+
+  pub state-3 : c ≡ 3 → commandedState c s ≡ withStatus 3 (withValid s)
+  unfolding commandedState
+  state-3 e = rw e
+
+  pub state-4 : c ≡ 4 → commandedState c s ≡ withRequest s
+  unfolding commandedState
+  state-4 e = rw e
+
+  pub state-5 : c ≡ 5 → commandedState c s ≡ withStatus 0 s
+  unfolding commandedState
+  state-5 e = rw e
+
+  pub state-stays : (c ≡ 1 → ⊥) → (c ≡ 2 → ⊥) → (c ≡ 3 → ⊥) → (c ≡ 4 → ⊥) → (c ≡ 5 → ⊥) → commandedState c s ≡ s
+  unfolding commandedState
+  state-stays n1 n2 n3 n4 n5 = simp (ne-eqb c 1 n1, ne-eqb c 2 n2, ne-eqb c 3 n3, ne-eqb c 4 n4, ne-eqb c 5 n5)
+
+-- ---- a command that replaces the value
+module _ (c : ℕ) (v : List ℕ) (d : Datapoint) where
+  pub value-1 : c ≡ 1 → commanded c v d ≡ withValue v (commandedState c (d .state)) d
+  unfolding commanded commandedState
+  value-1 e = rw e
+
+  pub value-3 : c ≡ 3 → commanded c v d ≡ withValue v (commandedState c (d .state)) d
+  unfolding commanded commandedState
+  value-3 e = rw e
+
+-- ---- a command that leaves the value as it is
+module _ (c : ℕ) (v : List ℕ) (d : Datapoint) where
+  pub value-stays : (c ≡ 1 → ⊥) → (c ≡ 3 → ⊥) → commanded c v d ≡ withState (commandedState c (d .state)) d
+  unfolding commanded commandedState withState
+  value-stays n1 n3 = simp (ne-eqb c 1 n1, ne-eqb c 3 n3) (go (eqb c 2) (eqb c 4) (eqb c 5))
+    where
+      go : (x y z : Bool) → (if x then withState (withStatus 3 (d .state)) d else if y then withState (withRequest (d .state)) d else if z then withState (withStatus 0 (d .state)) d else d)
+          ≡ withState (if x then withStatus 3 (d .state) else if y then withRequest (d .state) else if z then withStatus 0 (d .state) else d .state) d
+      go true y z = refl
+      go false true z = refl
+      go false false true = refl
+      go false false false = refl
+
+-- ---- an entry with one byte of value, read from byte `at` on
+module _ (at : ℕ) (s : List ℕ) (one : getD (drop at s) 3 0 ≡ 1) where
+  pub byte-span : span 4 (drop at s) ≡ 5
+  unfolding span
+  byte-span = ap (λ (n : ℕ). 4 + n) one
+
+  byte-value : at + span 4 (drop at s) ≤ length s → firstDatapointEntry (drop at s) .value ≡ getD s (at + 4) 0 ∷ []
+  unfolding firstDatapointEntry
+  byte-value l =
+      ap (λ (n : ℕ). take n (drop 4 (drop at s))) one
+      ∙ take-suc (drop 4 (drop at s)) 0 0 (omega (arith, l, byte-span, length-drop 4 (drop at s), length-drop at s))
+      ∙ ap (λ (b : ℕ). b ∷ []) (getD-drop 4 (drop at s) 0 0 ∙ getD-drop at s 4 0)
+
+  pub byte-set-here : (d : Datapoint) → at + span 4 (drop at s) ≤ length s → d .id ≡ idBytes at s
+      → commanded (getD s (at + 2) 0) (getD s (at + 4) 0 ∷ []) d ≡ (if eqb (d .id) (firstDatapointEntry (drop at s) .id) then setDatapoint (firstDatapointEntry (drop at s)) d else d)
+  unfolding setDatapoint firstDatapointEntry
+  byte-set-here d l q =
+      ap (λ (c : ℕ). commanded c (getD s (at + 4) 0 ∷ []) d) (sym (getD-drop at s 2 0))
+      ∙ ap (λ (v : List ℕ). commanded (getD (drop at s) 2 0) v d) (sym (byte-value l))
+      ∙ ap (λ (y : Bool). if y then setDatapoint (firstDatapointEntry (drop at s)) d else d) (sym (eq-eqb (d .id) (idBytes at s) q))
+
+-- ---- what is changed goes by the record at the place, which was searched before
+module _ {A : Type 0} (idOf : A → ℕ) (blank : A) (n : ℕ) (xs : List A) (t : rising 0 (map idOf xs) ≡ true) (f : A → A) (p : ℕ) (e : p ≡ place idOf n xs) where
+  pub changed-there : p < length xs → set xs p (if eqb (idOf (getD xs p blank)) n then f (getD xs p blank) else getD xs p blank) ≡ changed idOf n f xs
+  changed-there l =
+      ap (λ (i : ℕ). set xs i (if eqb (idOf (getD xs i blank)) n then f (getD xs i blank) else getD xs i blank)) e
+      ∙ sym (changed-here idOf blank n xs t f (omega (arith, e, l)))
+
+  pub unchanged-there : length xs ≤ p → xs ≡ changed idOf n f xs
+  unchanged-there l = sym (changed-nowhere idOf blank n xs t f (omega (arith, e, l)))
