@@ -384,17 +384,17 @@ pub fn put_value(out: &mut [u8], at: usize, d: Datapoint) -> usize
     requires { ⌜ (d .typecode ≤ 14) × (at + 4 + sizeOf (d .typecode) ≤ length (now out)) ⌝ }
     ensures { λ r. ⌜ (now (out .exit) ≡ put (now (out .entry)) at (valueEntry d .bytes)) × (r ≡ at + length (valueEntry d .bytes)) ⌝ }
 {
-    let n = size_of(d.typecode);
     let v = d.value;
     out[at] = (d.id / 256) as u8;
     out[at + 1] = (d.id % 256) as u8;
     out[at + 2] = d.state;
-    // One byte, as most values have: no copy.
+    // One byte, as most values have: no copy, and no look at its size.
     if d.typecode < 8 {
         out[at + 3] = 1;
         out[at + 4] = v[0];
         return at + 5;
     }
+    let n = size_of(d.typecode);
     out[at + 3] = n as u8;
     put_bytes(&mut *out, at + 4, &v[..n]);
     at + 4 + n

@@ -14,9 +14,6 @@ use Rattle.services.proofs.DatapointLaws.{size-fits}
 use Rattle.services.proofs.datapoint.put_value.Statement.{statement}
 use Rattle.services.proofs.datapoint.put_value.Tie as tie
 
-size-of-requires : tie.Need-size-of-requires
-size-of-requires c κs = search needs
-
 cast-out : tie.Need-cast-out
 cast-out c = search needs
 
@@ -38,7 +35,6 @@ add-out-2 c = search needs
 slice-write-out-3 : tie.Need-slice-write-out-3
 slice-write-out-3 c = simp length-set (omega arith)
 
--- a value of one byte
 add-out-3 : tie.Need-add-out-3
 add-out-3 c = search needs
 
@@ -52,17 +48,17 @@ add-out-4 : tie.Need-add-out-4
 add-out-4 c = search needs
 
 slice-write-out-5 : tie.Need-slice-write-out-5
-slice-write-out-5 c = simp length-set (omega (arith, one-byte (c .before .before .before .before .before .before .before .args .d .typecode) (c .if1 .taken)))
+slice-write-out-5 c = simp length-set (omega (arith, one-byte (c .before .before .before .before .before .before .args .d .typecode) (c .if1 .taken)))
 
 add-result : tie.Need-add-result
-add-result c = omega (arith, one-byte (c .before .before .before .before .before .before .before .args .d .typecode) (c .if1 .taken))
+add-result c = omega (arith, one-byte (c .before .before .before .before .before .before .args .d .typecode) (c .if1 .taken))
 
 same-length : tie.Need-same-length
 same-length c = search needs
 
 returns : tie.Need-returns
 returns c =
-    let a = c .before .before .before .before .before .before .before .args in
+    let a = c .before .before .before .before .before .before .args in
     let t = c .if1 .taken in
     let h : length (a .d .value) ≡ 14 = search needs in
     rw (one-byte-entry (a .d) t h) (
@@ -70,7 +66,9 @@ returns c =
       refl,
     )
 
--- a longer value
+size-of-requires : tie.Need-size-of-requires
+size-of-requires c κs = search needs
+
 cast-out-3 : tie.Need-cast-out-3
 cast-out-3 c = omega (arith, size-fits (c .before .before .before .before .before .before .before .args .d .typecode))
 
@@ -99,7 +97,7 @@ put-bytes-requires : tie.Need-put-bytes-requires
 put-bytes-requires c κs =
     let d = c .before .before .before .before .before .before .before .before .before .args .d in
     let h : length (d .value) ≡ 14 = search needs in
-    simp length-set (omega (arith, length-take-le (c .before .before .before .before .before .before .before .size-of .result) (d .value) (omega (arith, size-fits (d .typecode)))))
+    simp length-set (omega (arith, length-take-le (c .before .before .size-of .result) (d .value) (omega (arith, size-fits (d .typecode)))))
 
 add-result-2 : tie.Need-add-result-2
 add-result-2 c = search needs
@@ -112,14 +110,14 @@ same-length-2 c =
     let d = c .before .before .before .before .before .before .before .before .before .before .before .before .args .d in
     let h : length (d .value) ≡ 14 = search needs in
     ap length (c .before .before .put-bytes .ensures)
-    ∙ length-put _ _ _ (simp length-set (omega (arith, length-take-le (c .before .before .before .before .before .before .before .before .before .before .size-of .result) (d .value) (omega (arith, size-fits (d .typecode))))))
+    ∙ length-put _ _ _ (simp length-set (omega (arith, length-take-le (c .before .before .before .before .before .size-of .result) (d .value) (omega (arith, size-fits (d .typecode))))))
     ∙ simp length-set
 
 returns-2 : tie.Need-returns-2
 unfolding valueEntry valueOf
 returns-2 c =
     let a = c .before .before .before .before .before .before .before .before .before .before .before .before .args in
-    let s = c .before .before .before .before .before .before .before .before .before .before .size-of in
+    let s = c .before .before .before .before .before .size-of in
     let h : length (a .d .value) ≡ 14 = search needs in
     let k = size-fits (a .d .typecode) in
     rw (← s .ensures) (
@@ -131,7 +129,6 @@ pub put-value-spec : {M : Type 1} → statement M
 put-value-spec =
     tie.close
     (tie.spec
-    size-of-requires
     cast-out
     slice-write-out
     cast-out-2
@@ -147,6 +144,7 @@ put-value-spec =
     add-result
     same-length
     returns
+    size-of-requires
     cast-out-3
     add-out-5
     slice-write-out-6
