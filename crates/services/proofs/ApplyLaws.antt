@@ -10,59 +10,90 @@ use borrow.Author.Tests.{eq-eqb, ne-eqb}
 use lib.Dec.{eqb}
 use Rattle.link.specs.Words.{if_then_else_}
 use Rattle.services.specs.declared.datapoint.Datapoint.{Datapoint}
-use Rattle.services.specs.Datapoint.{withValid, withRequest, withStatus, withState, withValue, commanded, commandedState}
+use Rattle.services.specs.Datapoint.{withValid, withRequest, withStatus, withState, withValue, commanded, zeroDatapoint}
 use Rattle.services.specs.Set.{span, firstDatapointEntry, setDatapoint}
 use Rattle.services.specs.Table.{changed, place, rising}
 use Rattle.services.proofs.EntriesLaws.{idBytes, changed-here, changed-nowhere}
 
--- ---- the state that a command leaves
+-- ---- a command that replaces no value
+module _ (c : ℕ) (v : List ℕ) (d : Datapoint) (e1 : eqb c 1 ≡ false) (e3 : eqb c 3 ≡ false) where
+  command-2 : eqb c 2 ≡ true → commanded c v d ≡ withState (withStatus 3 (d .state)) d
+  unfolding commanded
+  command-2 e2 = simp (e1, e2)
+
+  command-4 : eqb c 2 ≡ false → eqb c 4 ≡ true → commanded c v d ≡ withState (withRequest (d .state)) d
+  unfolding commanded
+  command-4 e2 e4 = simp (e1, e2, e3, e4)
+
+  command-5 : eqb c 2 ≡ false → eqb c 4 ≡ false → eqb c 5 ≡ true → commanded c v d ≡ withState (withStatus 0 (d .state)) d
+  unfolding commanded
+  command-5 e2 e4 e5 = simp (e1, e2, e3, e4, e5)
+
+  no-command : eqb c 2 ≡ false → eqb c 4 ≡ false → eqb c 5 ≡ false → commanded c v d ≡ d
+  unfolding commanded
+  no-command e2 e4 e5 = simp (e1, e2, e3, e4, e5)
+
+-- ---- the state that a command leaves of a record that had the state s
+abbrev pub stateAfter : ℕ → ℕ → ℕ
+stateAfter c s = commanded c [] (withState s zeroDatapoint) .state
+
 module _ (c s : ℕ) where
-  pub state-1 : c ≡ 1 → commandedState c s ≡ withValid s
-  unfolding commandedState
+  pub state-1 : c ≡ 1 → stateAfter c s ≡ withValid s
+  unfolding commanded withState withValue
   state-1 e = rw e
 
-  pub state-2 : c ≡ 2 → commandedState c s ≡ withStatus 3 s
-  unfolding commandedState
+  pub state-2 : c ≡ 2 → stateAfter c s ≡ withStatus 3 s
+  unfolding commanded withState
   state-2 e = rw e
 
-  pub state-3 : c ≡ 3 → commandedState c s ≡ withStatus 3 (withValid s)
-  unfolding commandedState
+  pub state-3 : c ≡ 3 → stateAfter c s ≡ withStatus 3 (withValid s)
+  unfolding commanded withState withValue
   state-3 e = rw e
 
-  pub state-4 : c ≡ 4 → commandedState c s ≡ withRequest s
-  unfolding commandedState
+  pub state-4 : c ≡ 4 → stateAfter c s ≡ withRequest s
+  unfolding commanded withState
   state-4 e = rw e
 
-  pub state-5 : c ≡ 5 → commandedState c s ≡ withStatus 0 s
-  unfolding commandedState
+  pub state-5 : c ≡ 5 → stateAfter c s ≡ withStatus 0 s
+  unfolding commanded withState
   state-5 e = rw e
 
-  pub state-stays : (c ≡ 1 → ⊥) → (c ≡ 2 → ⊥) → (c ≡ 3 → ⊥) → (c ≡ 4 → ⊥) → (c ≡ 5 → ⊥) → commandedState c s ≡ s
-  unfolding commandedState
-  state-stays n1 n2 n3 n4 n5 = simp (ne-eqb c 1 n1, ne-eqb c 2 n2, ne-eqb c 3 n3, ne-eqb c 4 n4, ne-eqb c 5 n5)
+  pub state-stays : (c ≡ 1 → ⊥) → (c ≡ 2 → ⊥) → (c ≡ 3 → ⊥) → (c ≡ 4 → ⊥) → (c ≡ 5 → ⊥) → stateAfter c s ≡ s
+  unfolding withState
+  state-stays n1 n2 n3 n4 n5 = ap (λ (x : Datapoint). x .state) (no-command c [] (withState s zeroDatapoint) (ne-eqb c 1 n1) (ne-eqb c 3 n3) (ne-eqb c 2 n2) (ne-eqb c 4 n4) (ne-eqb c 5 n5))
 
--- ---- a command that replaces the value
+-- ---- a command that replaces the value, and one that leaves it as it is
 module _ (c : ℕ) (v : List ℕ) (d : Datapoint) where
-  pub value-1 : c ≡ 1 → commanded c v d ≡ withValue v (commandedState c (d .state)) d
-  unfolding commanded commandedState
+  pub value-1 : c ≡ 1 → commanded c v d ≡ withValue v (stateAfter c (d .state)) d
+  unfolding commanded withState withValue
   value-1 e = rw e
 
-  pub value-3 : c ≡ 3 → commanded c v d ≡ withValue v (commandedState c (d .state)) d
-  unfolding commanded commandedState
+  pub value-3 : c ≡ 3 → commanded c v d ≡ withValue v (stateAfter c (d .state)) d
+  unfolding commanded withState withValue
   value-3 e = rw e
 
--- ---- a command that leaves the value as it is
-module _ (c : ℕ) (v : List ℕ) (d : Datapoint) where
-  pub value-stays : (c ≡ 1 → ⊥) → (c ≡ 3 → ⊥) → commanded c v d ≡ withState (commandedState c (d .state)) d
-  unfolding commanded commandedState withState
-  value-stays n1 n3 = simp (ne-eqb c 1 n1, ne-eqb c 3 n3) (go (eqb c 2) (eqb c 4) (eqb c 5))
+  pub value-stays : (c ≡ 1 → ⊥) → (c ≡ 3 → ⊥) → commanded c v d ≡ withState (stateAfter c (d .state)) d
+  unfolding withState
+  value-stays n1 n3 = go (eqb c 2) (eqb c 4) (eqb c 5) refl refl refl
     where
-      go : (x y z : Bool) → (if x then withState (withStatus 3 (d .state)) d else if y then withState (withRequest (d .state)) d else if z then withState (withStatus 0 (d .state)) d else d)
-          ≡ withState (if x then withStatus 3 (d .state) else if y then withRequest (d .state) else if z then withStatus 0 (d .state) else d .state) d
-      go true y z = refl
-      go false true z = refl
-      go false false true = refl
-      go false false false = refl
+      e1 : eqb c 1 ≡ false
+      e1 = ne-eqb c 1 n1
+
+      e3 : eqb c 3 ≡ false
+      e3 = ne-eqb c 3 n3
+
+      blank : Datapoint
+      blank = withState (d .state) zeroDatapoint
+
+      -- what holds of the one holds of the other's state
+      alike : (y : ℕ) → commanded c v d ≡ withState y d → commanded c [] blank .state ≡ y → commanded c v d ≡ withState (stateAfter c (d .state)) d
+      alike y p q = p ∙ ap (λ (t : ℕ). withState t d) (sym q)
+
+      go : (x y z : Bool) → eqb c 2 ≡ x → eqb c 4 ≡ y → eqb c 5 ≡ z → commanded c v d ≡ withState (stateAfter c (d .state)) d
+      go true y z e f g = alike (withStatus 3 (d .state)) (command-2 c v d e1 e3 e) (ap (λ (t : Datapoint). t .state) (command-2 c [] blank e1 e3 e))
+      go false true z e f g = alike (withRequest (d .state)) (command-4 c v d e1 e3 e f) (ap (λ (t : Datapoint). t .state) (command-4 c [] blank e1 e3 e f))
+      go false false true e f g = alike (withStatus 0 (d .state)) (command-5 c v d e1 e3 e f g) (ap (λ (t : Datapoint). t .state) (command-5 c [] blank e1 e3 e f g))
+      go false false false e f g = alike (d .state) (no-command c v d e1 e3 e f g) (ap (λ (t : Datapoint). t .state) (no-command c [] blank e1 e3 e f g))
 
 -- ---- an entry with one byte of value, read from byte `at` on
 module _ (at : ℕ) (s : List ℕ) (one : getD (drop at s) 3 0 ≡ 1) where

@@ -1,20 +1,30 @@
--- The entries of a set of datapoints found in its message, one after the other, from byte `at` on; and what the loop over them knows.
-use Prim.Native.Nat.{ℕ, suc, _+_, _-_, _*_, _≤_, _<_}
+-- The entries of a set of datapoints found in its message, one after the other, from byte `at` on; what the loop that finds them knows, and what a loop over
+-- them knows.
+use Prim.Native.Nat.{ℕ, zero, suc, _+_, _-_, _*_, _^_, _≤_, _<_}
 use mathlib.Core.Path.{_≡_, refl, sym, _∙_, ap}
 use mathlib.Core.Bool.{Bool, true, false, _&&_}
-use mathlib.Core.List.{List, [], _∷_, _++_, append-nil}
+use mathlib.Core.List.{List, [], _∷_, _++_, map, append-nil}
 use native.Mathlib.Omega.{arith}
 use native.Mathlib.Numerals.{add-one}
-use lib.ListN.{length, getD, drop, set, length-append, length-drop}
-use lib.Seq.{getD-drop, drop-drop, drop-cons, set-at, append-snoc}
-use lib.Dec.{leb, eqb}
+use lib.ListN.{length, getD, take, drop, set, length-append, length-drop}
+use lib.Seq.{getD-drop, drop-drop, drop-cons, set-at, append-snoc, take-at}
+use lib.Dec.{leb, ltb, eqb}
 use borrow.Author.Tests.{lt-leb, le-leb}
+use denote.Struct.Laws as LL
+use Rattle.link.specs.Words.{if_then_else_}
+use Rattle.link.proofs.WordLaws.{true-T}
 use Rattle.services.specs.declared.datapoint.Datapoint.{Datapoint}
 use Rattle.services.specs.declared.set.Found.{Found}
 use Rattle.services.specs.Datapoint.{datapointId}
 use Rattle.services.specs.Table.{place}
-use Rattle.services.specs.Set.{span, fills, firstDatapointEntry, foundEntries}
+use Rattle.services.specs.Set.{span, fills, firstDatapointEntry}
+use Rattle.services.specs.Found.{foundEntries}
+use Rattle.walks.proofs.Data.{Good}
 use Rattle.services.proofs.SetLaws.{filled-end, short-head, short-value, entry-fits}
+use Rattle.services.proofs.LeftLaws.{fills-next}
+use Rattle.services.proofs.Types.{foundD}
+use Rattle.services.proofs.set.Found as F
+use Rattle.services.proofs.set.Found.Laws as F′
 
 abbrev pub zeroFound : Found
 zeroFound = record { at = 0; place = 0 }
@@ -140,3 +150,84 @@ module _ (ds : List Datapoint) (m : List ℕ) (n : ℕ) (es : List Found) where
           far = omega (arith, s .far);
           inside = omega (arith, s .inside, l);
         }
+
+-- ---- lists: what the first n of a list are says of its head and its tail
+first-is : {A : Type 0} (n : ℕ) (l : List A) (x blank : A) (xs : List A) → take (suc n) l ≡ x ∷ xs → (1 ≤ length l) × (getD l 0 blank ≡ x) × (take n (drop 1 l) ≡ xs)
+first-is {A} n [] x blank xs e = absurd (omega (arith, ap {A = List A} length e))
+first-is {A} n (y ∷ l) x blank xs e = (omega arith, ap {A = List A} (λ zs. getD zs 0 blank) e, ap {A = List A} (drop 1) e)
+
+-- ---- a loop over the entries found: what it knows of entry k, which begins at byte `at`, and of those behind it
+module _ (ds : List Datapoint) (at n k : ℕ) (m : List ℕ) (entries : List Found) (more : 1 ≤ n) (filled : fills 4 n (drop at m) ≡ true) (left : take n (drop k entries) ≡ foundEntries ds n at (drop at m)) where
+  -- where the entry ends
+  abbrev next : ℕ
+  next = at + span 4 (drop at m)
+
+  abbrev here : Found
+  here = foundAt ds at m
+
+  within : spanAt at m ≤ length m - at
+  within = omega (arith, fills-next 4 at n m more (omega arith) filled .0, span-is at m)
+
+  heads : take (suc (n - 1)) (drop k entries) ≡ here ∷ foundEntries ds (n - 1) next (drop next m)
+  heads =
+      ap (λ (j : ℕ). take j (drop k entries)) {x = suc (n - 1)} {y = n} (omega (arith, more)) ∙ left ∙ found-fits ds at m n more within
+      ∙ ap (λ (j : ℕ). here ∷ foundEntries ds (n - 1) (at + j) (drop (at + j) m)) (sym (span-is at m))
+
+  pub found-inside : k < length entries
+  found-inside = omega (arith, length-drop k entries, first-is (n - 1) (drop k entries) here here (foundEntries ds (n - 1) next (drop next m)) heads .0)
+
+  pub found-here : (blank : Found) → getD entries k blank ≡ here
+  found-here blank =
+      ap (λ (j : ℕ). getD entries j blank) {x = k} {y = k + 0} (omega arith) ∙ sym (getD-drop k entries 0 blank) ∙ first-is (n - 1) (drop k entries) here blank (foundEntries ds (n - 1) next (drop next m)) heads .1
+
+  pub found-next : take (n - 1) (drop (k + 1) entries) ≡ foundEntries ds (n - 1) next (drop next m)
+  found-next = sym (ap (take (n - 1)) (drop-drop 1 k entries)) ∙ first-is (n - 1) (drop k entries) here here (foundEntries ds (n - 1) next (drop next m)) heads .2
+
+-- ---- entries are found by the IDs of a table alone
+places-same : (n : ℕ) (ds es : List Datapoint) → map datapointId ds ≡ map datapointId es → place datapointId n ds ≡ place datapointId n es
+unfolding place
+places-same n ds es e = by-ids ds ∙ ap (place (λ i. i) n) e ∙ sym (by-ids es)
+  where
+    by-ids : (cs : List Datapoint) → place datapointId n cs ≡ place (λ i. i) n (map datapointId cs)
+    by-ids [] = refl
+    by-ids (c ∷ cs) = ap (λ (p : ℕ). if ltb (datapointId c) n then suc p else p) (by-ids cs)
+
+pub found-same : (ds es : List Datapoint) → map datapointId ds ≡ map datapointId es → (n at : ℕ) (s : List ℕ) → foundEntries ds n at s ≡ foundEntries es n at s
+unfolding foundEntries
+found-same ds es e zero at s = refl
+found-same ds es e (suc n) at s = go (leb 4 (length s) && leb (span 4 s) (length s)) (found-same ds es e n (at + span 4 s) (drop (span 4 s) s))
+  where
+    here : List Datapoint → Found
+    here cs = record { at = at; place = place datapointId (firstDatapointEntry s .id) cs }
+
+    behind : List Datapoint → List Found
+    behind cs = foundEntries cs n (at + span 4 s) (drop (span 4 s) s)
+
+    go : (y : Bool) → behind ds ≡ behind es → _≡_ {A = List Found} (elim y [ true ↦ here ds ∷ behind ds | false ↦ [] ]) (elim y [ true ↦ here es ∷ behind es | false ↦ [] ])
+    go true r = ap (λ (p : ℕ). record { at = at; place = p } ∷ behind ds) (places-same (firstDatapointEntry s .id) ds es e) ∙ ap (λ (fs : List Found). here es ∷ fs) r
+    go false r = refl
+
+-- ---- the numbers of an entry fit
+pub found-at-fits : (f : Found) → Good foundD f → f .at < 2 ^ 16
+found-at-fits f g = LL.owed F.the-type F′.the-laws f _ g .0 .1
+
+pub found-place-fits : (f : Found) → Good foundD f → f .place < 2 ^ 16
+found-place-fits f g = LL.owed F.the-type F′.the-laws f _ g .1 .0 .1
+
+-- ---- where the entries fill the message, as many are found as it says: they are the first of what is kept of them
+-- n entries fill the bytes: n are found
+pub filled-count : (ds : List Datapoint) (n at : ℕ) (s : List ℕ) → fills 4 n s ≡ true → length (foundEntries ds n at s) ≡ n
+unfolding fills foundEntries
+filled-count ds zero at s f = refl
+filled-count ds (suc n) at s f = go (leb 4 (length s)) (leb (span 4 s) (length s)) (λ g. filled-count ds n (at + span 4 s) (drop (span 4 s) s) g) f
+  where
+    go : (a b : Bool) → (fills 4 n (drop (span 4 s) s) ≡ true → length (foundEntries ds n (at + span 4 s) (drop (span 4 s) s)) ≡ n)
+        → elim (a && b) [ true ↦ fills 4 n (drop (span 4 s) s) | false ↦ false ] ≡ true
+        → length {A = Found} (elim (a && b) [ true ↦ record { at = at; place = place datapointId (firstDatapointEntry s .id) ds } ∷ foundEntries ds n (at + span 4 s) (drop (span 4 s) s) | false ↦ [] ]) ≡ suc n
+    go true true r z = ap suc (r z)
+    go true false r z = absurd (true-T z)
+    go false b r z = absurd (true-T z)
+
+-- whatever stands behind them, the first n are those found
+pub filled-take : (ds : List Datapoint) (n at : ℕ) (s : List ℕ) (ys : List Found) → fills 4 n s ≡ true → take n (foundEntries ds n at s ++ ys) ≡ foundEntries ds n at s
+filled-take ds n at s ys f = take-at (foundEntries ds n at s) ys n (filled-count ds n at s f)

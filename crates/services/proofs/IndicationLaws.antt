@@ -21,12 +21,13 @@ use Rattle.services.specs.Gather.{entriesTold}
 use Rattle.services.specs.Indication.{needs, goes, roomAfter, Choice, choices, reported, afterReport, indicationOf, indication}
 use Rattle.services.proofs.DatapointLaws.{parts, size-fits}
 use Rattle.services.proofs.AnswerLaws.{entries-fit}
+use Rattle.services.proofs.WideLaws.{value-size}
 use Rattle.services.proofs.PassLaws.{drop-next, take-next, take-set, drop-set, rest-ok, here-ok, code-fits, Putting, putting-all, putting-none, putting-next, entry-fits}
 
 -- ---- one datapoint
 pub needs-is : (d : Datapoint) → length (d .value) ≡ 14 → needs d ≡ 4 + sizeOf (d .typecode)
-unfolding needs valueEntry valueOf
-needs-is d l = omega (arith, length-take-le (sizeOf (d .typecode)) (d .value) (omega (arith, l, size-fits (d .typecode))))
+unfolding needs
+needs-is d l = value-size d l
 
 pub waits-is : (d : Datapoint) (size room : ℕ) → length (d .value) ≡ 14 → size ≡ sizeOf (d .typecode) → ltb room (4 + size) ≡ not (leb (needs d) room)
 waits-is d size room l e = go (ltb room (4 + size)) refl

@@ -8,13 +8,12 @@ pub mod EntryLaws
 pub mod MaskLaws
 pub mod SetLaws
 pub mod EntriesLaws
-pub mod FoundLaws
-pub mod MeasureLaws
 pub mod WideLaws
+pub mod MeasureLaws
 pub mod Types
 pub mod Pairs
 pub mod LeftLaws
-pub mod FoundNextLaws
+pub mod FoundLaws
 pub mod RisenLaws
 pub mod PlaceLaws
 pub mod GetLaws
@@ -23,7 +22,6 @@ pub mod GatherLaws
 pub mod PassLaws
 pub mod AnsweredLaws
 pub mod SettingLaws
-pub mod FilledLaws
 pub mod FieldsFit
 pub mod AnswerJoins
 pub mod IndicationLaws

@@ -18,6 +18,7 @@ use Rattle.services.specs.declared.gather.Gathered.{Gathered}
 use Rattle.services.specs.declared.gather.Wanted.{Wanted}
 use Rattle.services.specs.declared.item.Item.{Item}
 use Rattle.services.proofs.DatapointLaws.{size-fits}
+use Rattle.services.proofs.WideLaws.{value-size}
 
 -- ---- which records
 module _ (w : Wanted) (id : ℕ) where
@@ -40,8 +41,8 @@ module _ (w : Wanted) (d : Datapoint) where
 
   -- ---- an entry
   pub value-length : w .values ≡ true → length (d .value) ≡ 14 → d .typecode ≤ 14 → length (entryOf w d .bytes) ≡ 4 + sizeOf (d .typecode)
-  unfolding entryOf valueEntry valueOf
-  value-length v l t = simp v (omega (arith, length-take-le (sizeOf (d .typecode)) (d .value) (omega (arith, size-fits (d .typecode)))))
+  unfolding entryOf
+  value-length v l t = simp v (value-size d l)
 
   pub description-length : w .values ≡ false → length (entryOf w d .bytes) ≡ 5
   unfolding entryOf descriptionEntry

@@ -98,13 +98,3 @@ commanded c v d =
     else if eqb c 4 then withState (withRequest (d .state)) d
     else if eqb c 5 then withState (withStatus 0 (d .state)) d
     else d
-
--- Inner contracts alone cite this: the state that a command leaves, whatever it does to the value.
-unfoldable pub commandedState : ℕ → ℕ → ℕ
-commandedState c s =
-    if eqb c 1 then withValid s
-    else if eqb c 2 then withStatus 3 s
-    else if eqb c 3 then withStatus 3 (withValid s)
-    else if eqb c 4 then withRequest s
-    else if eqb c 5 then withStatus 0 s
-    else s

@@ -6,5 +6,6 @@ pub mod Message
 pub mod Get
 pub mod Gather
 pub mod Set
+pub mod Found
 pub mod Service
 pub mod Indication

@@ -7,10 +7,9 @@ use lib.Dec.{leb, ltb, eqb}
 use Rattle.link.specs.Words.{if_then_else_, ofTwoBytes, isEmpty, every}
 use Rattle.services.specs.declared.datapoint.Datapoint.{Datapoint}
 use Rattle.services.specs.declared.item.Item.{Item}
-use Rattle.services.specs.declared.set.Found.{Found}
 use Rattle.services.specs.Datapoint.{datapointId, sizeOf, unusedBitsOk, commanded}
 use Rattle.services.specs.Item.{itemId, withBytes}
-use Rattle.services.specs.Table.{Tables, found, changed, place}
+use Rattle.services.specs.Table.{Tables, found, changed}
 use Rattle.services.specs.Message.{startOf, numberOf, coded, Finding, fine, bad, Served, served}
 
 -- an entry of a set request: an ID, a command (an item's entry has none: 0) and the bytes sent
@@ -115,10 +114,3 @@ filledFinding h m =
     if not (fills h (numberOf m) (drop 6 m)) then bad (startOf m) 10
     else if eqb (numberOf m) 0 then bad (startOf m) 6
     else fine
-
--- Inner contracts alone cite this: the first n entries of the bytes s, which begin at byte `at` of the message, as far as they are whole; where each begins,
--- and where its datapoint belongs.
-unfoldable pub foundEntries : List Datapoint → ℕ → ℕ → List ℕ → List Found
-foundEntries ds zero at s = []
-foundEntries ds (suc n) at s =
-    elim (leb 4 (length s) && leb (span 4 s) (length s)) [ true ↦ record { at = at; place = place datapointId (firstDatapointEntry s .id) ds } ∷ foundEntries ds n (at + span 4 s) (drop (span 4 s) s) | false ↦ [] ]

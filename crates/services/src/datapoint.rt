@@ -6,7 +6,7 @@ ghost use Prim.Native.Nat.{_+_, _≤_, _<_};
 ghost use lib.ListN.{length};
 ghost use lib.Dec.{ltb};
 ghost use Rattle.link.specs.Words.{pad, put};
-ghost use Rattle.services.specs.Datapoint.{sizeOf, limitOf, unusedBitsOk, isValue, datapointOk, handedOut, busValue, outcome, commanded, commandedState, withMark};
+ghost use Rattle.services.specs.Datapoint.{sizeOf, limitOf, unusedBitsOk, isValue, datapointOk, handedOut, busValue, outcome, commanded, withState, withMark, zeroDatapoint};
 ghost use Rattle.services.specs.Mask.{datapointMasks};
 ghost use Rattle.services.specs.Get.{descriptionEntry, valueEntry, passes};
 ghost use Rattle.services.specs.Set.{datapointCode};
@@ -274,9 +274,9 @@ pub fn outcome_of(d: Datapoint, status: u8) -> Datapoint
     r
 }
 
-// The state that a command leaves.
+// The state that a command leaves of a record that had the state s.
 fn state_after(c: u8, s: u8) -> u8
-    ensures { λ r. ⌜ r ≡ commandedState c s ⌝ }
+    ensures { λ r. ⌜ r ≡ commanded c [] (withState s zeroDatapoint) .state ⌝ }
 {
     match c {
         1 => s / 32 * 32 + 16 + s % 16,

@@ -45,7 +45,7 @@ use Rattle.services.specs.Set.{SetEntry, span, firstDatapointEntry, setD
 use Rattle.services.proofs.Types.{datapointD, foundD, byteD, placeD}
 use Rattle.link.specs.Words.{if_then_else_}
 use Rattle.services.proofs.SetLaws.{span-head}
-use Rattle.services.proofs.FoundNextLaws.{found-at-fits, found-place-fits}
+use Rattle.services.proofs.FoundLaws.{found-at-fits, found-place-fits}
 use Rattle.services.proofs.ApplyLaws.{changed-there, unchanged-there}
 use Rattle.services.proofs.table.datapoint_at as datapoint-at
 use Rattle.services.proofs.table.datapoint_at.Symbol as datapoint-at-def

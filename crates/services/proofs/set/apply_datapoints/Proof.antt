@@ -41,11 +41,12 @@ use Rattle.services.specs.declared.datapoint.Datapoint.{Datapoint}
 use Rattle.services.specs.declared.set.Found.{Found}
 use Rattle.services.specs.Datapoint.{datapointId}
 use Rattle.services.specs.Table.{changed, place, rising}
-use Rattle.services.specs.Set.{SetEntry, span, fills, setEntries, applied, allShort, firstDatapointEntry, setDatapoint, foundEntries}
+use Rattle.services.specs.Set.{SetEntry, span, fills, setEntries, applied, allShort, firstDatapointEntry, setDatapoint}
+use Rattle.services.specs.Found.{foundEntries}
 use Rattle.services.proofs.Types.{datapointD, foundD, byteD, idD}
 use Rattle.services.proofs.Pairs.{calls-mutS-shrS}
 use Rattle.services.proofs.LeftLaws.{fills-next, short-next, applied-next, applied-all, ids-stay, datapoint-keeps}
-use Rattle.services.proofs.FoundNextLaws.{found-inside, found-here, found-next, found-same}
+use Rattle.services.proofs.FoundLaws.{found-inside, found-here, found-next, found-same}
 use Rattle.services.proofs.set.apply_datapoint as apply-datapoint
 use Rattle.services.proofs.set.apply_datapoint.Symbol as apply-datapoint-def
 use Rattle.services.proofs.set.apply_datapoint.Symbol.{name as #services·set·apply-datapoint}

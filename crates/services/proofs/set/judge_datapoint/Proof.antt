@@ -39,7 +39,7 @@ use Rattle.services.specs.Datapoint.{datapointId, zeroDatapoint}
 use Rattle.services.specs.Table.{found, place, rising}
 use Rattle.services.specs.Set.{SetEntry, span, firstDatapointEntry, judgedDatapoint}
 use Rattle.services.proofs.Types.{datapointD, foundD, byteD, placeD}
-use Rattle.services.proofs.FoundNextLaws.{found-at-fits, found-place-fits}
+use Rattle.services.proofs.FoundLaws.{found-at-fits, found-place-fits}
 use Rattle.services.proofs.EntriesLaws.{found-here, none-datapoint}
 use Rattle.services.proofs.table.datapoint_at as datapoint-at
 use Rattle.services.proofs.table.datapoint_at.Symbol as datapoint-at-def

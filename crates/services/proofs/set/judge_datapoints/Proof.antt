@@ -44,12 +44,13 @@ use Rattle.services.specs.declared.message.Verdict.{Verdict}
 use Rattle.services.specs.declared.set.Found.{Found}
 use Rattle.services.specs.Datapoint.{datapointId}
 use Rattle.services.specs.Table.{found, place, rising}
-use Rattle.services.specs.Set.{SetEntry, span, fills, setEntries, firstBad, firstDatapointEntry, judgedDatapoint, foundEntries}
+use Rattle.services.specs.Set.{SetEntry, span, fills, setEntries, firstBad, firstDatapointEntry, judgedDatapoint}
+use Rattle.services.specs.Found.{foundEntries}
 use Rattle.services.proofs.Types.{datapointD, foundD, byteD, idD, placeD, verdictD, found-offset-fits}
 use Rattle.services.proofs.SetLaws.{span-head}
 use Rattle.services.proofs.Pairs.{calls-shrS-shrS}
 use Rattle.services.proofs.EntriesLaws.{datapoint-entry-id}
-use Rattle.services.proofs.FoundNextLaws.{found-inside, found-here, found-next, found-at-fits}
+use Rattle.services.proofs.FoundLaws.{found-inside, found-here, found-next, found-at-fits}
 use Rattle.services.proofs.LeftLaws.{fills-next, judged-bad, judged-fine, judged-all}
 use Rattle.services.specs.Message.{Finding, verdictOf}
 use Rattle.services.proofs.Types.{zero-verdict}

@@ -43,12 +43,13 @@ use Rattle.services.specs.declared.set.Found.{Found}
 use Rattle.services.specs.Table.{tableOk, found, rising}
 use Rattle.services.specs.Datapoint.{datapointId, datapointOk}
 use Rattle.services.specs.Message.{subService, startOf, numberOf, coded, verdictOf}
-use Rattle.services.specs.Set.{SetEntry, fills, setEntries, foundEntries, firstBad, applied, firstDatapointEntry, judgedDatapoint, setDatapoint}
+use Rattle.services.specs.Set.{SetEntry, fills, setEntries, firstBad, applied, firstDatapointEntry, judgedDatapoint, setDatapoint}
+use Rattle.services.specs.Found.{foundEntries}
 use Rattle.services.proofs.Types.{datapointD, foundD, verdictD, byteD, idD, placeD}
 use Rattle.walks.proofs.Repeated.{repeated-typed, repeated, array-room}
 use Rattle.services.proofs.LeftLaws.{ok-table}
 use Rattle.services.proofs.FieldsFit.{id-fits, code-fits}
-use Rattle.services.proofs.FilledLaws.{filled-take}
+use Rattle.services.proofs.FoundLaws.{filled-take}
 use Rattle.services.proofs.SetJoins.{datapoints-unfilled, datapoints-filled, datapoints-none, datapoints-bad, datapoints-fit, datapoints-set}
 use Rattle.services.proofs.set.Found as Entry
 use Rattle.services.proofs.set.Found.Laws as Entry′
