@@ -5,10 +5,10 @@ use mathlib.Core.List.{List, [], _∷_, _++_}
 use native.Mathlib.Omega.{arith}
 use native.Mathlib.Numerals.{add-one}
 use lib.ListN.{length, take, drop, set, replicate, length-append}
-use Rattle.link.specs.Words.{put}
-use Rattle.link.specs.Frame.{checksum, dataFrame}
-use Rattle.link.proofs.ByteLaws.{put-put, put-read}
-use Rattle.link.proofs.FrameLaws.{frame-length}
+use Rattle.words.specs.Words.{put}
+use Rattle.ft12.specs.Frame.{checksum, dataFrame}
+use Rattle.words.proofs.ByteLaws.{put-put, put-read}
+use Rattle.ft12.proofs.FrameLaws.{frame-length}
 use Rattle.cases.proofs.WrittenLaws.{Written, none-written, one-written, some-written}
 
 -- head, message and end, one behind the other

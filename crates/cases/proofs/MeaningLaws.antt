@@ -7,7 +7,7 @@ use native.Mathlib.Omega.{arith}
 use lib.ListN.{length, getD}
 use lib.Dec.{ltb, leb}
 use borrow.Author.Tests.{leb-true, leb-false, le-leb, lt-leb, le-ltb, lt-ltb}
-use Rattle.link.specs.Words.{ofTwoBytes}
+use Rattle.words.specs.Words.{ofTwoBytes}
 use Rattle.cases.specs.Meaning.{digitOf, numberAt}
 use Rattle.cases.proofs.SameLaws.{not-true, not-false}
 

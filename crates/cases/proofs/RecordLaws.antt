@@ -5,7 +5,7 @@ use mathlib.Core.List.{List, [], _∷_, _++_, append-assoc}
 use native.Mathlib.Omega.{arith}
 use native.Mathlib.Nat.{add-comm, add-zero}
 use native.Mathlib.Numerals.{add-one}
-use Rattle.services.specs.declared.datapoint.Datapoint.{Datapoint}
+use Rattle.baos.specs.declared.datapoint.Datapoint.{Datapoint}
 use Rattle.cases.specs.declared.bench.Bench.{Bench}
 use Rattle.cases.specs.Bench.{emptyBench, withDatapoint}
 use Rattle.cases.specs.Run.{busValued}

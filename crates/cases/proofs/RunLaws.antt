@@ -7,7 +7,7 @@ use native.Mathlib.Omega.{arith}
 use native.Mathlib.Numerals.{add-one}
 use lib.ListN.{length, take, drop, getD, take-append-drop, drop-of-length-le}
 use lib.Seq.{drop-cons}
-use Rattle.server.specs.declared.event.Event.the-variants.{HostByte}
+use Rattle.calls.specs.declared.event.Event.the-variants.{HostByte}
 use Rattle.cases.specs.declared.bench.Bench.{Bench}
 use Rattle.cases.specs.declared.run.Fed.{Fed}
 use Rattle.cases.specs.Run.{happened, quiet, heard, allQuiet, fed}

@@ -7,10 +7,10 @@ use native.Mathlib.Omega.{arith}
 use native.Mathlib.Numerals.{add-one}
 use lib.ListN.{length, take, getD}
 use lib.Seq.{take-suc, take-all}
-use Rattle.link.specs.declared.record.Link.{Link}
-use Rattle.link.specs.Frame.{dataFrame}
-use Rattle.server.specs.declared.event.Event.the-variants.{HostByte}
-use Rattle.server.specs.Reply.{sentCount}
+use Rattle.ft12.specs.declared.record.Link.{Link}
+use Rattle.ft12.specs.Frame.{dataFrame}
+use Rattle.calls.specs.declared.event.Event.the-variants.{HostByte}
+use Rattle.calls.specs.Reply.{sentCount}
 use Rattle.cases.specs.declared.bench.Bench.{Bench}
 use Rattle.cases.specs.declared.trial.Trial.{Trial}
 use Rattle.cases.specs.declared.run.Fed.{Fed}

@@ -16,14 +16,14 @@ use denote.Struct.Laws as SL
 use denote.Struct.Struct.{Struct}
 use denote.Struct.Members.{Member, rowsOf}
 use Rattle.walks.proofs.Data.{Data, structD}
-use Rattle.link.proofs.record.Link as L
-use Rattle.link.proofs.record.Link.Laws as L′
-use Rattle.services.proofs.datapoint.Datapoint as P
-use Rattle.services.proofs.datapoint.Datapoint.Laws as P′
-use Rattle.services.proofs.item.Item as I
-use Rattle.services.proofs.item.Item.Laws as I′
-use Rattle.server.proofs.reply.Reply as R
-use Rattle.server.proofs.reply.Reply.Laws as R′
+use Rattle.ft12.proofs.record.Link as L
+use Rattle.ft12.proofs.record.Link.Laws as L′
+use Rattle.baos.proofs.datapoint.Datapoint as P
+use Rattle.baos.proofs.datapoint.Datapoint.Laws as P′
+use Rattle.baos.proofs.item.Item as I
+use Rattle.baos.proofs.item.Item.Laws as I′
+use Rattle.calls.proofs.reply.Reply as R
+use Rattle.calls.proofs.reply.Reply.Laws as R′
 use Rattle.cases.proofs.bench.Bench as B
 use Rattle.cases.proofs.bench.Bench.Laws as B′
 

@@ -6,8 +6,8 @@ use native.Mathlib.Omega.{arith}
 use native.Mathlib.Numerals.{add-one}
 use lib.ListN.{length, take, drop, set, length-append, length-set}
 use lib.Seq.{take-suc-set, take-all, take-at, length-take-le}
-use Rattle.link.specs.Words.{put}
-use Rattle.link.proofs.ByteLaws.{length-put}
+use Rattle.words.specs.Words.{put}
+use Rattle.words.proofs.ByteLaws.{length-put}
 
 -- the array l of n places has vs in its first `at` places
 pub record Written (l : List ℕ) (n at : ℕ) (vs : List ℕ) : Type 0 where

@@ -4,13 +4,13 @@ use mathlib.Core.Bool.{Bool, true, false, _&&_}
 use mathlib.Core.List.{List, [], _∷_}
 use lib.ListN.{set, replicate}
 use lib.Dec.{ltb, leb}
-use Rattle.link.specs.declared.record.Link.{Link}
-use Rattle.link.specs.Words.{if_then_else_}
-use Rattle.link.specs.Record.{linkOf}
-use Rattle.services.specs.declared.datapoint.Datapoint.{Datapoint}
-use Rattle.services.specs.declared.item.Item.{Item}
-use Rattle.server.specs.declared.reply.Reply.{Reply}
-use Rattle.server.specs.declared.reply.Reply.the-variants.{Accepted}
+use Rattle.ft12.specs.declared.record.Link.{Link}
+use Rattle.words.specs.Words.{if_then_else_}
+use Rattle.ft12.specs.Record.{linkOf}
+use Rattle.baos.specs.declared.datapoint.Datapoint.{Datapoint}
+use Rattle.baos.specs.declared.item.Item.{Item}
+use Rattle.calls.specs.declared.reply.Reply.{Reply}
+use Rattle.calls.specs.declared.reply.Reply.the-variants.{Accepted}
 use Rattle.cases.specs.declared.bench.Bench.{Bench}
 
 -- nothing received, nothing outstanding, and these bits

@@ -3,7 +3,7 @@ use Prim.Native.Nat.{ℕ, _+_}
 use mathlib.Core.List.{List}
 use lib.ListN.{length, getD}
 use lib.Dec.{ltb, leb}
-use Rattle.link.specs.Words.{if_then_else_, ofTwoBytes}
+use Rattle.words.specs.Words.{if_then_else_, ofTwoBytes}
 
 -- a hexadecimal digit in ASCII: 0 to 9, A to F
 unfoldable pub digitOf : ℕ → ℕ

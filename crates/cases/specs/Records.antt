@@ -4,9 +4,9 @@ use mathlib.Core.Bool.{Bool, true, false}
 use mathlib.Core.List.{List, [], _∷_, _++_}
 use lib.ListN.{length, replicate}
 use lib.Dec.{ltb, leb}
-use Rattle.link.specs.Words.{if_then_else_, pad}
-use Rattle.services.specs.declared.datapoint.Datapoint.{Datapoint}
-use Rattle.services.specs.declared.item.Item.{Item}
+use Rattle.words.specs.Words.{if_then_else_, pad}
+use Rattle.baos.specs.declared.datapoint.Datapoint.{Datapoint}
+use Rattle.baos.specs.declared.item.Item.{Item}
 use Rattle.cases.specs.declared.bench.Bench.{Bench}
 use Rattle.cases.specs.Bench.{emptyBench, withDatapoint, withItem, withParameters}
 use Rattle.cases.specs.Run.{busValued}

@@ -4,7 +4,7 @@ use mathlib.Core.Path.{_≡_}
 use mathlib.Core.Bool.{Bool, true}
 use mathlib.Core.List.{List}
 use lib.ListN.{take}
-use Rattle.link.specs.declared.record.Link.{Link}
+use Rattle.ft12.specs.declared.record.Link.{Link}
 use Rattle.cases.specs.declared.bench.Bench.{Bench}
 
 -- r is true exactly where P holds

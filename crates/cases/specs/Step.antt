@@ -2,9 +2,9 @@
 use Prim.Native.Nat.{ℕ}
 use mathlib.Core.List.{List, _++_}
 use lib.ListN.{take, drop}
-use Rattle.services.specs.Table.{Tables, tablesOf}
-use Rattle.server.specs.declared.event.Event.{Event}
-use Rattle.server.specs.Call.{Called, call}
+use Rattle.baos.specs.Table.{Tables, tablesOf}
+use Rattle.calls.specs.declared.event.Event.{Event}
+use Rattle.calls.specs.Call.{Called, call}
 use Rattle.cases.specs.declared.bench.Bench.{Bench}
 
 -- the tables as far as their counts go

@@ -4,8 +4,8 @@ use mathlib.Core.Path.{_≡_}
 use mathlib.Core.Bool.{Bool, true, false}
 use mathlib.Core.List.{List, _∷_}
 use lib.ListN.{length, take}
-use Rattle.link.specs.Frame.{dataFrame}
-use Rattle.server.specs.Reply.{sentCount}
+use Rattle.ft12.specs.Frame.{dataFrame}
+use Rattle.calls.specs.Reply.{sentCount}
 use Rattle.cases.specs.declared.bench.Bench.{Bench}
 use Rattle.cases.specs.declared.trial.Trial.{Trial}
 use Rattle.cases.specs.Run.{sent, heard, allQuiet}

@@ -1,10 +1,10 @@
 // The bench: the tables at a fixed width with a count beside each, the link record and the output of one server, by value.
 ghost use mathlib.Core.Path.{_≡_};
 ghost use Rattle.cases.specs.Bench.{idleLink, emptyBench, withLink, withDatapoint, withItem, withParameters, withValue};
-use link::record::Link;
-use server::reply::Reply;
-use services::datapoint::Datapoint;
-use services::item::Item;
+use baos::datapoint::Datapoint;
+use baos::item::Item;
+use calls::reply::Reply;
+use ft12::record::Link;
 
 pub struct Bench {
     pub link: Link,

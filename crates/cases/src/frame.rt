@@ -3,9 +3,9 @@ ghost use mathlib.Core.Path.{_≡_};
 ghost use mathlib.Core.List.{_∷_};
 ghost use Prim.Native.Nat.{_+_, _≤_};
 ghost use lib.ListN.{length, take};
-ghost use Rattle.link.specs.Words.{put};
-ghost use Rattle.link.specs.Frame.{checksum, dataFrame};
-use link::words::put_bytes;
+ghost use Rattle.words.specs.Words.{put};
+ghost use Rattle.ft12.specs.Frame.{checksum, dataFrame};
+use words::bytes::put_bytes;
 
 // Bytes on the line, and how many they are.
 pub struct Burst {

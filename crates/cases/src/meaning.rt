@@ -5,7 +5,7 @@ ghost use lib.ListN.{length};
 ghost use lib.Dec.{leb};
 ghost use Rattle.cases.specs.Meaning.{numberAt};
 use crate::print;
-use link::frame::is_whole;
+use frames::frame::is_whole;
 
 // Whether so many bytes stand from this place on.
 fn has(s: &[u8], at: usize, count: usize) -> bool

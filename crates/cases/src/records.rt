@@ -13,9 +13,9 @@ use crate::bench::with_datapoint;
 use crate::bench::with_item;
 use crate::bench::with_parameters;
 use crate::run::bus_value;
-use link::words::put_bytes;
-use services::datapoint::Datapoint;
-use services::item::Item;
+use baos::datapoint::Datapoint;
+use baos::item::Item;
+use words::bytes::put_bytes;
 
 // An item that is not writable, of this content.
 pub fn item(id: u16, content: &[u8]) -> Item

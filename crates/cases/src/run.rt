@@ -1,14 +1,14 @@
 // Events on the bench, one after the other.
 ghost use mathlib.Core.Path.{_≡_};
 ghost use mathlib.Core.Bool.{_&&_};
-ghost use Rattle.server.specs.Reply.{sentCount};
+ghost use Rattle.calls.specs.Reply.{sentCount};
 ghost use Rattle.cases.specs.Bench.{isWithin};
 ghost use Rattle.cases.specs.Run.{happened, busValued, quiet as isQuiet, fed};
 use crate::bench::Bench;
 use crate::bench::with_value;
 use crate::step::step;
-use server::event::Event;
-use server::reply::Reply;
+use calls::event::Event;
+use calls::reply::Reply;
 
 // A bench after some bytes from the host, and whether none of them drew a byte or a refusal.
 pub struct Fed {

@@ -2,9 +2,9 @@
 ghost use mathlib.Core.Path.{_≡_};
 ghost use Rattle.cases.specs.Same.{Decides, SameTables, LinkIs};
 use crate::bench::Bench;
-use link::record::Link;
-use services::datapoint::Datapoint;
-use services::item::Item;
+use baos::datapoint::Datapoint;
+use baos::item::Item;
+use ft12::record::Link;
 
 fn same_bit(a: bool, b: bool) -> bool
     ensures { λ r. ⌜ Decides r (a ≡ b) ⌝ }

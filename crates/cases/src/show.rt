@@ -1,10 +1,10 @@
 // Records in words.
 use crate::bench::Bench;
 use crate::print;
-use link::record::Link;
-use services::datapoint::Datapoint;
-use services::datapoint::size_of;
-use services::item::Item;
+use baos::datapoint::Datapoint;
+use baos::item::Item;
+use ft12::record::Link;
+use records::datapoint::size_of;
 
 // ID and data.
 fn item(i: Item) {

@@ -3,8 +3,8 @@ ghost use mathlib.Core.Path.{_≡_};
 ghost use Rattle.cases.specs.Bench.{Within};
 ghost use Rattle.cases.specs.Step.{stepped};
 use crate::bench::Bench;
+use calls::event::Event;
 use server::call::call;
-use server::event::Event;
 
 // One call. The tables and the value are lent as far as their counts go.
 pub fn step(bench: Bench, event: Event) -> Bench

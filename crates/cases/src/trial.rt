@@ -4,8 +4,8 @@ ghost use mathlib.Core.Bool.{true};
 ghost use mathlib.Core.List.{_∷_};
 ghost use Prim.Native.Nat.{_≤_, _<_};
 ghost use lib.ListN.{length};
-ghost use Rattle.link.specs.Frame.{dataFrame};
-ghost use Rattle.server.specs.declared.event.Event.{Event};
+ghost use Rattle.ft12.specs.Frame.{dataFrame};
+ghost use Rattle.calls.specs.declared.event.Event.{Event};
 ghost use Rattle.cases.specs.Run.{happened, quiet, heard};
 ghost use Rattle.cases.specs.Same.{Decides, SameTables, LinkIs};
 ghost use Rattle.cases.specs.Trial.{Shows, Goes, Sends, Draws, Answered, Damaged};
@@ -21,7 +21,7 @@ use crate::run::sent_count;
 use crate::same::is_link;
 use crate::same::same_tables;
 use crate::show;
-use server::event::Event;
+use calls::event::Event;
 
 pub struct Trial {
     pub bench: Bench,

@@ -5,17 +5,17 @@ use mathlib.Core.List.{List, [], _∷_, _++_, map}
 use lib.ListN.{length, drop}
 use lib.Seq.{take-append-seam}
 use lib.Dec.{T}
-use Rattle.link.specs.declared.record.Link.{Link}
-use Rattle.link.specs.Record.{Line, linkOf, lineOk, inRange}
-use Rattle.link.specs.Delivery.{Delivery, arrives}
-use Rattle.link.proofs.WordLaws.{T-true, both}
-use Rattle.link.proofs.RecordLaws.{lineOf-linkOf, line-in-range}
-use Rattle.services.specs.Table.{Tables, wellFormed}
-use Rattle.server.specs.declared.event.Event.{Event}
-use Rattle.server.specs.declared.event.Event.the-variants.{HostByte, IdleMark}
-use Rattle.server.specs.Event.{busOk}
-use Rattle.server.specs.Call.{Done, happens, accepted, call}
-use Rattle.server.proofs.CallLaws.{refusal-0, InOrder, happens-lasts}
+use Rattle.ft12.specs.declared.record.Link.{Link}
+use Rattle.ft12.specs.Record.{Line, linkOf, lineOk, inRange}
+use Rattle.ft12.specs.Delivery.{Delivery, arrives}
+use Rattle.words.proofs.WordLaws.{T-true, both}
+use Rattle.ft12.proofs.RecordLaws.{lineOf-linkOf, line-in-range}
+use Rattle.baos.specs.Table.{Tables, wellFormed}
+use Rattle.calls.specs.declared.event.Event.{Event}
+use Rattle.calls.specs.declared.event.Event.the-variants.{HostByte, IdleMark}
+use Rattle.calls.specs.Event.{busOk}
+use Rattle.calls.specs.Call.{Done, happens, accepted, call}
+use Rattle.calls.proofs.CallLaws.{refusal-0, InOrder, happens-lasts}
 use Rattle.demands.specs.Run.{Ran, sentOf, before, run}
 use Rattle.demands.specs.Exchange.{following, inTurn, Lent, calls, thenIdle, delivery, isAccepted, allAccepted, noneRefused}
 

@@ -7,12 +7,12 @@ use mathlib.Core.Bool.{Bool, true, Bool·beq}
 use mathlib.Core.List.{List, [], _∷_, List·Memᴰ, List·Memᴰ·not-nil, List·Memᴰ·cases-cons}
 use mathlib.Core.Logic.{_⊎_, inl, inr}
 use lib.Dec.{T, eqb, eqb→eq}
-use Rattle.link.specs.Words.{every, same, sameBy}
-use Rattle.link.specs.declared.record.Link.{Link}
-use Rattle.link.proofs.WordLaws.{left, right, beq→eq, sameBy→eq, same→eq}
-use Rattle.services.specs.declared.datapoint.Datapoint.{Datapoint}
-use Rattle.services.specs.declared.item.Item.{Item}
-use Rattle.services.specs.Table.{Tables}
+use Rattle.words.specs.Words.{every, same, sameBy}
+use Rattle.ft12.specs.declared.record.Link.{Link}
+use Rattle.words.proofs.WordLaws.{left, right, beq→eq, sameBy→eq, same→eq}
+use Rattle.baos.specs.declared.datapoint.Datapoint.{Datapoint}
+use Rattle.baos.specs.declared.item.Item.{Item}
+use Rattle.baos.specs.Table.{Tables}
 use Rattle.demands.specs.Run.{Ran}
 use Rattle.demands.specs.Example.{Case, found, stated, lineAt, exchange, item1, ask1, answer1, case1, case2, ask1even, case2even, datapoint, datapoint5, answer3, set5, case3, case4, oneByteFrom, oneBytes, entriesFrom, case5, case5more, parameterBytes, case6, case6more, case9, case9one, cases}
 use Rattle.demands.proofs.Opened.{opened}

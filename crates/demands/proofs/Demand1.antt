@@ -10,19 +10,19 @@ use lib.ListN.{length, take, drop}
 use lib.Seq.{take-append-seam, drop-append-seam}
 use lib.Dec.{T, ltb}
 use borrow.Author.Tests.{ltb-true, ltb-false}
-use Rattle.link.specs.declared.record.Link.{Link}
-use Rattle.link.specs.Frame.{fixedFrame}
-use Rattle.link.specs.Record.{Line, lineOf, serverControl, memoryOk, lineOk, inRange}
-use Rattle.link.proofs.WordLaws.{right}
-use Rattle.link.proofs.FrameLaws.{frame-length}
-use Rattle.services.specs.Table.{Tables, wellFormed}
-use Rattle.server.specs.declared.event.Event.{Event}
-use Rattle.server.specs.declared.reply.Reply.{Reply}
-use Rattle.server.specs.declared.reply.Reply.the-variants.{Refused, Accepted}
-use Rattle.server.specs.Event.{busOk}
-use Rattle.server.specs.Reply.{replyNumbers}
-use Rattle.server.specs.Call.{happens, refusal, Called, accepted, call}
-use Rattle.server.proofs.CallLaws.{refusal-0, refusal-1, refusal-2, refusal-3, refusal-4, not-refused, refused-leaves, call-lasts}
+use Rattle.ft12.specs.declared.record.Link.{Link}
+use Rattle.ft12.specs.Frame.{fixedFrame}
+use Rattle.ft12.specs.Record.{Line, lineOf, serverControl, memoryOk, lineOk, inRange}
+use Rattle.words.proofs.WordLaws.{right}
+use Rattle.ft12.proofs.FrameLaws.{frame-length}
+use Rattle.baos.specs.Table.{Tables, wellFormed}
+use Rattle.calls.specs.declared.event.Event.{Event}
+use Rattle.calls.specs.declared.reply.Reply.{Reply}
+use Rattle.calls.specs.declared.reply.Reply.the-variants.{Refused, Accepted}
+use Rattle.calls.specs.Event.{busOk}
+use Rattle.calls.specs.Reply.{replyNumbers}
+use Rattle.calls.specs.Call.{happens, refusal, Called, accepted, call}
+use Rattle.calls.proofs.CallLaws.{refusal-0, refusal-1, refusal-2, refusal-3, refusal-4, not-refused, refused-leaves, call-lasts}
 use Rattle.demands.specs.SentFrames.{ReadsBack, Sends, nothing, acknowledges, resets, frames, answers}
 use Rattle.demands.proofs.ReadBack.{happens-sends}
 use Rattle.demands.specs.Refusals.{Wrong, bad-tables, bad-link, short-output, bad-bus-event, Lowest, Refusals, Demand1}

@@ -2,12 +2,12 @@
 use Prim.Native.Nat.{ℕ}
 use mathlib.Core.Path.{_≡_, sym, _∙_}
 use mathlib.Core.List.{List}
-use Rattle.link.specs.declared.record.Link.{Link}
-use Rattle.services.specs.Table.{Tables}
-use Rattle.server.specs.declared.reply.Reply.{Reply}
-use Rattle.server.specs.Call.{Called}
-use Rattle.server.specs.Promise.{Leaves}
-use Rattle.server.proofs.CallLaws.{reply-told}
+use Rattle.ft12.specs.declared.record.Link.{Link}
+use Rattle.baos.specs.Table.{Tables}
+use Rattle.calls.specs.declared.reply.Reply.{Reply}
+use Rattle.calls.specs.Call.{Called}
+use Rattle.calls.specs.Promise.{Leaves}
+use Rattle.calls.proofs.CallLaws.{reply-told}
 use Rattle.demands.specs.Answers.{SameOutcome, Demand2}
 use Rattle.demands.proofs.ErrorLaws.{errors-change-nothing, error-calls-change-nothing}
 use Rattle.demands.proofs.ReadBack.{sent-frames-read}

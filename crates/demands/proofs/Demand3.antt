@@ -8,21 +8,21 @@ use native.Mathlib.Decide.{ℕ-discrete}
 use lib.ListN.{length, getD, take}
 use lib.Dec.{T, ltb, eqb}
 use borrow.Author.Tests.{le-ltb, eq-eqb}
-use Rattle.link.specs.Words.{if_then_else_, isEmpty}
-use Rattle.link.specs.declared.record.Link.{Link}
-use Rattle.link.specs.Frame.{acknowledgement, longestMessage, dataFrame}
-use Rattle.link.specs.Record.{Line, lineOf, linkOf, hostControl, serverControl, memoryOk, lineOk, inRange}
-use Rattle.link.specs.Rules.{atStart, cleared, holding, expecting, onIdleMark, onMessage}
-use Rattle.link.specs.Delivery.{Delivery, sound, changed, lost, isSound, arrives, Possible, Run, delivered}
-use Rattle.link.proofs.WordLaws.{left, right}
-use Rattle.link.proofs.RecordLaws.{lineOf-linkOf}
-use Rattle.link.proofs.EventLaws.{range-stays}
-use Rattle.link.proofs.HearingLaws.{quiet, acknowledges, repeat-heard}
-use Rattle.link.proofs.DeliveryLaws.{damaged-nothing, damaged-acknowledges, host-control}
-use Rattle.services.specs.Table.{Tables, wellFormed}
-use Rattle.services.specs.Service.{carriedOut}
-use Rattle.services.proofs.AnswerLaws.{Sized, none, some, answer-sized}
-use Rattle.server.specs.Call.{Done, saying}
+use Rattle.words.specs.Words.{if_then_else_, isEmpty}
+use Rattle.ft12.specs.declared.record.Link.{Link}
+use Rattle.ft12.specs.Frame.{acknowledgement, longestMessage, dataFrame}
+use Rattle.ft12.specs.Record.{Line, lineOf, linkOf, hostControl, serverControl, memoryOk, lineOk, inRange}
+use Rattle.ft12.specs.Rules.{atStart, cleared, holding, expecting, onIdleMark, onMessage}
+use Rattle.ft12.specs.Delivery.{Delivery, sound, changed, lost, isSound, arrives, Possible, Run, delivered}
+use Rattle.words.proofs.WordLaws.{left, right}
+use Rattle.ft12.proofs.RecordLaws.{lineOf-linkOf}
+use Rattle.ft12.proofs.EventLaws.{range-stays}
+use Rattle.ft12.proofs.HearingLaws.{quiet, acknowledges, repeat-heard}
+use Rattle.ft12.proofs.DeliveryLaws.{damaged-nothing, damaged-acknowledges, host-control}
+use Rattle.baos.specs.Table.{Tables, wellFormed}
+use Rattle.baos.specs.Service.{carriedOut}
+use Rattle.baos.proofs.AnswerLaws.{Sized, none, some, answer-sized}
+use Rattle.calls.specs.Call.{Done, saying}
 use Rattle.demands.specs.Run.{Ran}
 use Rattle.demands.specs.Exchange.{inTurn, Lent, thenIdle, delivery, Exchange, exchange, Start, Request, requestFrame, EachPossible, someSound, answerFrame, draws, Rest, same, acknowledged, noneBeginsE5, Once, Demand3}
 use Rattle.demands.proofs.ExchangeLaws.{noMessage, thenMarked, delivery-leaves, request-carried}

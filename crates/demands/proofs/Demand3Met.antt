@@ -6,13 +6,13 @@ use mathlib.Core.List.{List, [], _∷_}
 use native.Mathlib.Omega.{arith}
 use lib.ListN.{replicate}
 use lib.Dec.{T, eqb}
-use Rattle.link.specs.declared.record.Link.{Link}
-use Rattle.link.specs.Frame.{dataFrame}
-use Rattle.link.specs.Record.{linkOf}
-use Rattle.link.specs.Delivery.{Delivery, sound, changed, lost, isSound, arrives}
-use Rattle.link.proofs.RecordLaws.{line-in-range}
-use Rattle.services.specs.Table.{Tables, wellFormed}
-use Rattle.services.specs.Service.{carriedOut}
+use Rattle.ft12.specs.declared.record.Link.{Link}
+use Rattle.ft12.specs.Frame.{dataFrame}
+use Rattle.ft12.specs.Record.{linkOf}
+use Rattle.ft12.specs.Delivery.{Delivery, sound, changed, lost, isSound, arrives}
+use Rattle.ft12.proofs.RecordLaws.{line-in-range}
+use Rattle.baos.specs.Table.{Tables, wellFormed}
+use Rattle.baos.specs.Service.{carriedOut}
 use Rattle.demands.specs.Example.{lineAt, item1, answer1, datapoint, datapoint5}
 use Rattle.demands.specs.Exchange.{Lent, calls, thenIdle, delivery, exchange, Start, Request, requestFrame, EachPossible, someSound, answerFrame, draws, Once}
 use Rattle.demands.proofs.Opened.{opened}

@@ -9,22 +9,22 @@ use lib.ListN.{length, getD, drop}
 use lib.Seq.{take-append-seam}
 use lib.Dec.{ltb, eqb}
 use borrow.Author.Tests.{ne-eqb}
-use Rattle.link.specs.Words.{isEmpty}
-use Rattle.link.specs.declared.rules.Heard.{Heard}
-use Rattle.link.specs.declared.rules.Heard.the-variants.{Gathered, Dropped, Ignored, Acknowledged, Reset, Repeat, Request}
-use Rattle.link.specs.Frame.{acknowledgement, dataFrame, longestMessage, messageOf}
-use Rattle.link.specs.Record.{Line, lineOf, serverControl}
-use Rattle.link.specs.Rules.{heardAt, onHeard, onHostByte, onIdleMark, onAckWaitOver, onMessage}
-use Rattle.link.proofs.FrameLaws.{frame-message}
-use Rattle.services.specs.Table.{Tables}
-use Rattle.services.specs.Message.{subService, startOf, numberOf, filterOf, coded, Finding, fine, bad, answerOf, afterOf, served}
-use Rattle.services.specs.Get.{AnswerEntry, listing, getFinding, getting, getServerItem, getDatapointDescription, getDatapointValue, getParameterByte}
-use Rattle.services.specs.Set.{SetEntry, setFinding, setting, setServerItem, setDatapointValue}
-use Rattle.services.specs.Service.{service, unanswered, carriedOut}
-use Rattle.services.specs.Indication.{indication}
-use Rattle.server.specs.declared.event.Event.{Event}
-use Rattle.server.specs.declared.event.Event.the-variants.{HostByte, IdleMark, AckWaitOver, Poll, BusValue, TransmissionOutcome}
-use Rattle.server.specs.Call.{saying, handedUp, onMoved, onPoll, happens, refusal, refused, accepted, call}
+use Rattle.words.specs.Words.{isEmpty}
+use Rattle.ft12.specs.declared.rules.Heard.{Heard}
+use Rattle.ft12.specs.declared.rules.Heard.the-variants.{Gathered, Dropped, Ignored, Acknowledged, Reset, Repeat, Request}
+use Rattle.ft12.specs.Frame.{acknowledgement, dataFrame, longestMessage, messageOf}
+use Rattle.ft12.specs.Record.{Line, lineOf, serverControl}
+use Rattle.ft12.specs.Rules.{heardAt, onHeard, onHostByte, onIdleMark, onAckWaitOver, onMessage}
+use Rattle.ft12.proofs.FrameLaws.{frame-message}
+use Rattle.baos.specs.Table.{Tables}
+use Rattle.baos.specs.Message.{subService, startOf, numberOf, filterOf, coded, Finding, fine, bad, answerOf, afterOf, served}
+use Rattle.baos.specs.Get.{AnswerEntry, listing, getFinding, getting, getServerItem, getDatapointDescription, getDatapointValue, getParameterByte}
+use Rattle.baos.specs.Set.{SetEntry, setFinding, setting, setServerItem, setDatapointValue}
+use Rattle.baos.specs.Service.{service, unanswered, carriedOut}
+use Rattle.baos.specs.Indication.{indication}
+use Rattle.calls.specs.declared.event.Event.{Event}
+use Rattle.calls.specs.declared.event.Event.the-variants.{HostByte, IdleMark, AckWaitOver, Poll, BusValue, TransmissionOutcome}
+use Rattle.calls.specs.Call.{saying, handedUp, onMoved, onPoll, happens, refusal, refused, accepted, call}
 use Rattle.demands.specs.Run.{sentOf}
 use Rattle.demands.specs.Answers.{ErrorAnswer, ErrorsChangeNothing, ErrorCallsChangeNothing}
 

@@ -6,19 +6,19 @@ use mathlib.Core.Bool.{Bool, true, false, not}
 use mathlib.Core.List.{List, [], _∷_, _++_, map, map-append, append-assoc, append-nil}
 use lib.ListN.{length}
 use lib.Dec.{T}
-use Rattle.link.specs.Words.{isEmpty}
-use Rattle.link.specs.Frame.{acknowledgement, dataFrame}
-use Rattle.link.specs.Receiver.{isBeginning}
-use Rattle.link.specs.Record.{Line, hostControl}
-use Rattle.link.specs.Rules.{Up, nothing, acknowledged, reset, message, atStart, gathering, expecting, onHostByte, onIdleMark}
-use Rattle.link.specs.Delivery.{Run, told, run, delivered}
-use Rattle.link.proofs.WordLaws.{true-T}
-use Rattle.link.proofs.HearingLaws.{beginning-runs, frame-reads, request-heard}
-use Rattle.services.specs.Table.{Tables}
-use Rattle.services.specs.Service.{carriedOut}
-use Rattle.server.specs.declared.event.Event.{Event}
-use Rattle.server.specs.declared.event.Event.the-variants.{HostByte, IdleMark}
-use Rattle.server.specs.Call.{Done, quiet, saying, handedUp, onMoved, happens}
+use Rattle.words.specs.Words.{isEmpty}
+use Rattle.ft12.specs.Frame.{acknowledgement, dataFrame}
+use Rattle.ft12.specs.Receiver.{isBeginning}
+use Rattle.ft12.specs.Record.{Line, hostControl}
+use Rattle.ft12.specs.Rules.{Up, nothing, acknowledged, reset, message, atStart, gathering, expecting, onHostByte, onIdleMark}
+use Rattle.ft12.specs.Delivery.{Run, told, run, delivered}
+use Rattle.words.proofs.WordLaws.{true-T}
+use Rattle.ft12.proofs.HearingLaws.{beginning-runs, frame-reads, request-heard}
+use Rattle.baos.specs.Table.{Tables}
+use Rattle.baos.specs.Service.{carriedOut}
+use Rattle.calls.specs.declared.event.Event.{Event}
+use Rattle.calls.specs.declared.event.Event.the-variants.{HostByte, IdleMark}
+use Rattle.calls.specs.Call.{Done, quiet, saying, handedUp, onMoved, happens}
 use Rattle.demands.specs.Exchange.{following, inTurn, thenIdle}
 
 -- ---- events in turn

@@ -7,15 +7,15 @@ use native.Mathlib.Omega.{arith}
 use lib.ListN.{length, drop}
 use lib.Dec.{T, leb, ltb, eqb, leb→le, ltb→lt}
 use borrow.Author.Tests.{le-ltb, lt-leb, eq-eqb, ne-eqb, eqb-true}
-use Rattle.link.specs.Words.{keep, every}
-use Rattle.link.proofs.WordLaws.{left, right, true-T, T-true}
-use Rattle.services.specs.declared.datapoint.Datapoint.{Datapoint}
-use Rattle.services.specs.declared.item.Item.{Item}
-use Rattle.services.specs.Table.{Tables, found}
-use Rattle.services.specs.Message.{mainService, subService, startOf, numberOf, filterOf, answerOf, afterOf, served}
-use Rattle.services.specs.Get.{AnswerEntry, inRequest, getFinding, getting, getServerItem, getDatapointDescription, asked, getDatapointValue, parameterEntries, getParameterByte}
-use Rattle.services.specs.Set.{fills, setEntries, firstDatapointEntry, judgedDatapoint, firstBad, setFinding, setting, setDatapointValue}
-use Rattle.services.specs.Service.{service, unanswered, carriedOut}
+use Rattle.words.specs.Words.{keep, every}
+use Rattle.words.proofs.WordLaws.{left, right, true-T, T-true}
+use Rattle.baos.specs.declared.datapoint.Datapoint.{Datapoint}
+use Rattle.baos.specs.declared.item.Item.{Item}
+use Rattle.baos.specs.Table.{Tables, found}
+use Rattle.baos.specs.Message.{mainService, subService, startOf, numberOf, filterOf, answerOf, afterOf, served}
+use Rattle.baos.specs.Get.{AnswerEntry, inRequest, getFinding, getting, getServerItem, getDatapointDescription, asked, getDatapointValue, parameterEntries, getParameterByte}
+use Rattle.baos.specs.Set.{fills, setEntries, firstDatapointEntry, judgedDatapoint, firstBad, setFinding, setting, setDatapointValue}
+use Rattle.baos.specs.Service.{service, unanswered, carriedOut}
 use Rattle.demands.specs.Example.{isGet, lastIds, TwoByteIds, LastIdOnly, RefusedWith, EmptyTable}
 
 -- ---- 7

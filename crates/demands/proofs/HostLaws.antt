@@ -7,8 +7,8 @@ use native.Mathlib.Omega.{arith}
 use lib.ListN.{length, drop}
 use lib.Seq.{take-append-seam, drop-append-seam}
 use borrow.Author.Tests.{le-leb, eq-eqb}
-use Rattle.link.specs.Frame.{acknowledgement, fixedFrame, checksum, dataFrame}
-use Rattle.link.specs.Record.{serverControl}
+use Rattle.ft12.specs.Frame.{acknowledgement, fixedFrame, checksum, dataFrame}
+use Rattle.ft12.specs.Record.{serverControl}
 use Rattle.demands.specs.Host.{HostHeard, heard-acknowledgement, heard-fixed, heard-message, isFixed, controlAndData, behindThem, isData, fromServer, hears, next, hearsUpTo, hostReads}
 
 module _ (c : ℕ) (m : List ℕ) where

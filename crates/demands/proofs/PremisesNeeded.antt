@@ -6,14 +6,14 @@ use mathlib.Core.List.{List, [], _∷_, _++_}
 use native.Mathlib.Omega.{arith}
 use lib.ListN.{length, getD}
 use lib.Dec.{T, eqb, eqb→eq}
-use Rattle.link.specs.Words.{isEmpty, same}
-use Rattle.link.specs.declared.record.Link.{Link}
-use Rattle.link.specs.Record.{linkOf}
-use Rattle.link.specs.Delivery.{sound, changed, lost, isSound, arrives}
-use Rattle.link.proofs.WordLaws.{left, right, same→eq}
-use Rattle.link.proofs.RecordLaws.{line-in-range}
-use Rattle.services.specs.Datapoint.{zeroDatapoint}
-use Rattle.services.specs.Table.{Tables, wellFormed}
+use Rattle.words.specs.Words.{isEmpty, same}
+use Rattle.ft12.specs.declared.record.Link.{Link}
+use Rattle.ft12.specs.Record.{linkOf}
+use Rattle.ft12.specs.Delivery.{sound, changed, lost, isSound, arrives}
+use Rattle.words.proofs.WordLaws.{left, right, same→eq}
+use Rattle.ft12.proofs.RecordLaws.{line-in-range}
+use Rattle.baos.specs.Datapoint.{zeroDatapoint}
+use Rattle.baos.specs.Table.{Tables, wellFormed}
 use Rattle.demands.specs.Run.{Ran}
 use Rattle.demands.specs.Example.{lineAt, item1, ask1, answer1, datapoint, datapoint5, set5, answer3}
 use Rattle.demands.specs.Exchange.{Lent, calls, thenIdle, delivery, exchange, isAccepted, allAccepted, noneRefused, Start, Request, requestFrame, EachPossible, someSound, answerFrame, draws}

@@ -7,24 +7,24 @@ use lib.ListN.{length, drop}
 use lib.Seq.{take-append-seam}
 use lib.Dec.{T, ltb}
 use borrow.Author.Tests.{ltb-false}
-use Rattle.link.specs.Words.{isEmpty}
-use Rattle.link.specs.declared.rules.Heard.{Heard}
-use Rattle.link.specs.declared.rules.Heard.the-variants.{Gathered, Dropped, Ignored, Acknowledged, Reset, Repeat, Request}
-use Rattle.link.specs.Frame.{acknowledgement, dataFrame}
-use Rattle.link.specs.Record.{Line, lineOf, serverControl, memoryOk, lineOk, inRange, holds-nothing, holds-frame, OutstandingInRange}
-use Rattle.link.specs.Rules.{Moved, holding, heardAt, onHeard, onHostByte, onIdleMark, onAckWaitOver, onMessage}
-use Rattle.link.proofs.WordLaws.{right}
-use Rattle.link.proofs.RecordLaws.{lineOf-linkOf, outstanding-decided}
-use Rattle.link.proofs.RulesLaws.{outstanding-of}
-use Rattle.link.proofs.HearingLaws.{frame-reads, reads-one}
-use Rattle.services.specs.Table.{Tables}
-use Rattle.services.specs.Message.{Served}
-use Rattle.services.specs.Service.{carriedOut}
-use Rattle.services.specs.Indication.{indication}
-use Rattle.server.specs.declared.event.Event.{Event}
-use Rattle.server.specs.declared.event.Event.the-variants.{HostByte, IdleMark, AckWaitOver, Poll, BusValue, TransmissionOutcome}
-use Rattle.server.specs.Call.{saying, handedUp, onMoved, onPoll, happens, accepted, call}
-use Rattle.server.proofs.CallLaws.{not-refused}
+use Rattle.words.specs.Words.{isEmpty}
+use Rattle.ft12.specs.declared.rules.Heard.{Heard}
+use Rattle.ft12.specs.declared.rules.Heard.the-variants.{Gathered, Dropped, Ignored, Acknowledged, Reset, Repeat, Request}
+use Rattle.ft12.specs.Frame.{acknowledgement, dataFrame}
+use Rattle.ft12.specs.Record.{Line, lineOf, serverControl, memoryOk, lineOk, inRange, holds-nothing, holds-frame, OutstandingInRange}
+use Rattle.ft12.specs.Rules.{Moved, holding, heardAt, onHeard, onHostByte, onIdleMark, onAckWaitOver, onMessage}
+use Rattle.words.proofs.WordLaws.{right}
+use Rattle.ft12.proofs.RecordLaws.{lineOf-linkOf, outstanding-decided}
+use Rattle.ft12.proofs.RulesLaws.{outstanding-of}
+use Rattle.ft12.proofs.HearingLaws.{frame-reads, reads-one}
+use Rattle.baos.specs.Table.{Tables}
+use Rattle.baos.specs.Message.{Served}
+use Rattle.baos.specs.Service.{carriedOut}
+use Rattle.baos.specs.Indication.{indication}
+use Rattle.calls.specs.declared.event.Event.{Event}
+use Rattle.calls.specs.declared.event.Event.the-variants.{HostByte, IdleMark, AckWaitOver, Poll, BusValue, TransmissionOutcome}
+use Rattle.calls.specs.Call.{saying, handedUp, onMoved, onPoll, happens, accepted, call}
+use Rattle.calls.proofs.CallLaws.{not-refused}
 use Rattle.demands.specs.Run.{sentOf}
 use Rattle.demands.specs.Host.{hostReads}
 use Rattle.demands.proofs.HostLaws.{frame-read, answer-read, acknowledgement-read, fixed-read}

@@ -5,14 +5,14 @@ use mathlib.Core.Path.{_≡_}
 use mathlib.Core.Logic.{_≢_}
 use mathlib.Core.List.{List, _++_}
 use lib.ListN.{length, getD}
-use Rattle.link.specs.declared.record.Link.{Link}
-use Rattle.link.specs.Frame.{acknowledgement, dataFrame}
-use Rattle.services.specs.Table.{Tables}
-use Rattle.services.specs.Service.{carriedOut}
-use Rattle.server.specs.declared.event.Event.{Event}
-use Rattle.server.specs.declared.reply.Reply.{Reply}
-use Rattle.server.specs.Call.{call}
-use Rattle.server.specs.Promise.{Leaves}
+use Rattle.ft12.specs.declared.record.Link.{Link}
+use Rattle.ft12.specs.Frame.{acknowledgement, dataFrame}
+use Rattle.baos.specs.Table.{Tables}
+use Rattle.baos.specs.Service.{carriedOut}
+use Rattle.calls.specs.declared.event.Event.{Event}
+use Rattle.calls.specs.declared.reply.Reply.{Reply}
+use Rattle.calls.specs.Call.{call}
+use Rattle.calls.specs.Promise.{Leaves}
 use Rattle.demands.specs.Run.{sentOf}
 use Rattle.demands.specs.SentFrames.{SentFramesRead}
 

@@ -5,16 +5,16 @@ use mathlib.Core.Bool.{Bool, true, false, _||_}
 use mathlib.Core.List.{List, [], _∷_, _++_, map}
 use lib.ListN.{length, drop, replicate}
 use lib.Dec.{T, ltb, eqb}
-use Rattle.link.specs.Words.{pad, keep, every}
-use Rattle.link.specs.Frame.{dataFrame}
-use Rattle.link.specs.Record.{Line, linkOf}
-use Rattle.services.specs.declared.datapoint.Datapoint.{Datapoint}
-use Rattle.services.specs.declared.item.Item.{Item}
-use Rattle.services.specs.Table.{Tables}
-use Rattle.services.specs.Message.{mainService, subService, startOf, numberOf, filterOf, coded}
-use Rattle.services.specs.Set.{fills, firstDatapointEntry}
-use Rattle.services.specs.Service.{carriedOut}
-use Rattle.server.specs.declared.event.Event.the-variants.{HostByte}
+use Rattle.words.specs.Words.{pad, keep, every}
+use Rattle.ft12.specs.Frame.{dataFrame}
+use Rattle.ft12.specs.Record.{Line, linkOf}
+use Rattle.baos.specs.declared.datapoint.Datapoint.{Datapoint}
+use Rattle.baos.specs.declared.item.Item.{Item}
+use Rattle.baos.specs.Table.{Tables}
+use Rattle.baos.specs.Message.{mainService, subService, startOf, numberOf, filterOf, coded}
+use Rattle.baos.specs.Set.{fills, firstDatapointEntry}
+use Rattle.baos.specs.Service.{carriedOut}
+use Rattle.calls.specs.declared.event.Event.the-variants.{HostByte}
 use Rattle.demands.specs.Run.{Ran, run}
 
 -- ---- the computed ones: host bytes from tables and a line, what is sent, and tables and line after them

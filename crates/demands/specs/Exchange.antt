@@ -9,19 +9,19 @@ use mathlib.Core.Bool.{Bool, true, false, not, _&&_, _||_}
 use mathlib.Core.List.{List, [], _∷_, _++_, map}
 use lib.ListN.{length, getD}
 use lib.Dec.{T, eqb}
-use Rattle.link.specs.Words.{if_then_else_, isEmpty, every, areBytes}
-use Rattle.link.specs.declared.record.Link.{Link}
-use Rattle.link.specs.Frame.{acknowledgement, dataFrame, longestMessage}
-use Rattle.link.specs.Record.{Line, lineOf, linkOf, hostControl, serverControl, inRange}
-use Rattle.link.specs.Rules.{cleared}
-use Rattle.link.specs.Delivery.{Delivery, sound, isSound, arrives, Possible}
-use Rattle.services.specs.Table.{Tables, wellFormed}
-use Rattle.services.specs.Service.{carriedOut}
-use Rattle.server.specs.declared.event.Event.{Event}
-use Rattle.server.specs.declared.event.Event.the-variants.{HostByte, IdleMark}
-use Rattle.server.specs.declared.reply.Reply.{Reply}
-use Rattle.server.specs.declared.reply.Reply.the-variants.{Refused, Accepted}
-use Rattle.server.specs.Call.{Done, quiet, happens, call}
+use Rattle.words.specs.Words.{if_then_else_, isEmpty, every, areBytes}
+use Rattle.ft12.specs.declared.record.Link.{Link}
+use Rattle.ft12.specs.Frame.{acknowledgement, dataFrame, longestMessage}
+use Rattle.ft12.specs.Record.{Line, lineOf, linkOf, hostControl, serverControl, inRange}
+use Rattle.ft12.specs.Rules.{cleared}
+use Rattle.ft12.specs.Delivery.{Delivery, sound, isSound, arrives, Possible}
+use Rattle.baos.specs.Table.{Tables, wellFormed}
+use Rattle.baos.specs.Service.{carriedOut}
+use Rattle.calls.specs.declared.event.Event.{Event}
+use Rattle.calls.specs.declared.event.Event.the-variants.{HostByte, IdleMark}
+use Rattle.calls.specs.declared.reply.Reply.{Reply}
+use Rattle.calls.specs.declared.reply.Reply.the-variants.{Refused, Accepted}
+use Rattle.calls.specs.Call.{Done, quiet, happens, call}
 use Rattle.demands.specs.Run.{Ran, sentOf, before}
 
 -- ---- events in turn where no call is refused, over tables and line; no value lent beside them

@@ -5,8 +5,8 @@ use mathlib.Core.Bool.{Bool, true, false, _&&_}
 use mathlib.Core.List.{List, [], _∷_}
 use lib.ListN.{length, getD, take, drop}
 use lib.Dec.{leb, eqb}
-use Rattle.link.specs.Words.{if_then_else_}
-use Rattle.link.specs.Frame.{checksum}
+use Rattle.words.specs.Words.{if_then_else_}
+use Rattle.ft12.specs.Frame.{checksum}
 
 -- an acknowledgement; a fixed frame and its C; a data frame of the server, its count bit (true where it is odd) and its message; a data frame that is not the
 -- server's; bytes that are none of these

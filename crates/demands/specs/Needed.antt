@@ -5,14 +5,14 @@ use mathlib.Core.Bool.{true, false}
 use mathlib.Core.List.{List, [], _∷_, _++_, map}
 use lib.ListN.{length, replicate}
 use lib.Dec.{T}
-use Rattle.link.specs.Words.{areBytes}
-use Rattle.link.specs.declared.record.Link.{Link}
-use Rattle.link.specs.Frame.{checksum, dataFrame, longestMessage}
-use Rattle.link.specs.Record.{linkOf, inRange}
-use Rattle.link.specs.Delivery.{Delivery, changed, lost, arrives}
-use Rattle.services.specs.Table.{Tables, wellFormed}
-use Rattle.server.specs.declared.event.Event.{Event}
-use Rattle.server.specs.declared.event.Event.the-variants.{HostByte}
+use Rattle.words.specs.Words.{areBytes}
+use Rattle.ft12.specs.declared.record.Link.{Link}
+use Rattle.ft12.specs.Frame.{checksum, dataFrame, longestMessage}
+use Rattle.ft12.specs.Record.{linkOf, inRange}
+use Rattle.ft12.specs.Delivery.{Delivery, changed, lost, arrives}
+use Rattle.baos.specs.Table.{Tables, wellFormed}
+use Rattle.calls.specs.declared.event.Event.{Event}
+use Rattle.calls.specs.declared.event.Event.the-variants.{HostByte}
 use Rattle.demands.specs.Example.{lineAt, item1, ask1, answer1, datapoint5, set5, answer3}
 use Rattle.demands.specs.Exchange.{Lent, Start, Request, requestFrame, EachPossible, someSound, calls, thenIdle, delivery, Once, Demand3}
 

@@ -8,13 +8,13 @@ use mathlib.Core.Bool.{false}
 use mathlib.Core.List.{List}
 use lib.ListN.{length, take, drop}
 use lib.Dec.{T}
-use Rattle.link.specs.declared.record.Link.{Link}
-use Rattle.link.specs.Record.{lineOf, inRange}
-use Rattle.services.specs.Table.{Tables, wellFormed}
-use Rattle.server.specs.declared.event.Event.{Event}
-use Rattle.server.specs.declared.reply.Reply.the-variants.{Refused, Accepted}
-use Rattle.server.specs.Event.{busOk}
-use Rattle.server.specs.Call.{happens, call}
+use Rattle.ft12.specs.declared.record.Link.{Link}
+use Rattle.ft12.specs.Record.{lineOf, inRange}
+use Rattle.baos.specs.Table.{Tables, wellFormed}
+use Rattle.calls.specs.declared.event.Event.{Event}
+use Rattle.calls.specs.declared.reply.Reply.the-variants.{Refused, Accepted}
+use Rattle.calls.specs.Event.{busOk}
+use Rattle.calls.specs.Call.{happens, call}
 
 -- the table of refusals: what is wrong where number n stands
 pub data Wrong (e : Event) (v : List ℕ) (t : Tables) (k : Link) (out : List ℕ) (n : ℕ) : Type 0 where

@@ -2,12 +2,12 @@
 use Prim.Native.Nat.{ℕ}
 use mathlib.Core.List.{List, [], _∷_, _++_}
 use lib.ListN.{take}
-use Rattle.link.specs.declared.record.Link.{Link}
-use Rattle.services.specs.Table.{Tables}
-use Rattle.server.specs.declared.event.Event.{Event}
-use Rattle.server.specs.declared.reply.Reply.{Reply}
-use Rattle.server.specs.declared.reply.Reply.the-variants.{Refused, Accepted}
-use Rattle.server.specs.Call.{call}
+use Rattle.ft12.specs.declared.record.Link.{Link}
+use Rattle.baos.specs.Table.{Tables}
+use Rattle.calls.specs.declared.event.Event.{Event}
+use Rattle.calls.specs.declared.reply.Reply.{Reply}
+use Rattle.calls.specs.declared.reply.Reply.the-variants.{Refused, Accepted}
+use Rattle.calls.specs.Call.{call}
 
 -- what a run of calls sent, and the tables and the link record after it
 pub record Ran : Type 0 where

@@ -5,13 +5,13 @@ use mathlib.Core.Path.{_≡_}
 use mathlib.Core.Bool.{Bool}
 use mathlib.Core.List.{List, [], _∷_, _++_}
 use lib.ListN.{length}
-use Rattle.link.specs.declared.record.Link.{Link}
-use Rattle.link.specs.Frame.{acknowledgement, fixedFrame, dataFrame, longestMessage}
-use Rattle.link.specs.Record.{Line, lineOf, serverControl}
-use Rattle.link.specs.Delivery.{ReadsAs}
-use Rattle.services.specs.Table.{Tables}
-use Rattle.server.specs.declared.event.Event.{Event}
-use Rattle.server.specs.Call.{refusal, call}
+use Rattle.ft12.specs.declared.record.Link.{Link}
+use Rattle.ft12.specs.Frame.{acknowledgement, fixedFrame, dataFrame, longestMessage}
+use Rattle.ft12.specs.Record.{Line, lineOf, serverControl}
+use Rattle.ft12.specs.Delivery.{ReadsAs}
+use Rattle.baos.specs.Table.{Tables}
+use Rattle.calls.specs.declared.event.Event.{Event}
+use Rattle.calls.specs.Call.{refusal, call}
 use Rattle.demands.specs.Run.{sentOf}
 use Rattle.demands.specs.Host.{heard-acknowledgement, heard-fixed, heard-message, hostReads}
 

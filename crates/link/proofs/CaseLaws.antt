@@ -4,11 +4,11 @@ use mathlib.Core.Path.{_≡_, refl}
 use mathlib.Core.Bool.{Bool, true, false, not}
 use lib.Dec.{eqb}
 use borrow.Author.Tests.{eq-eqb, ne-eqb}
-use Rattle.link.specs.declared.rules.Heard.the-variants.{Gathered, Dropped, Ignored, Acknowledged, Reset, Repeat, Request}
-use Rattle.link.specs.declared.rules.Bits.{Bits}
-use Rattle.link.specs.Words.{if_then_else_}
-use Rattle.link.specs.Record.{hostControl}
-use Rattle.link.specs.Rules.{atStart, startDropping, gathering, cleared, expecting, caseOfFixed, caseOfData, onHeard, bitsOf, BitsAfter}
+use Rattle.ft12.specs.declared.rules.Heard.the-variants.{Gathered, Dropped, Ignored, Acknowledged, Reset, Repeat, Request}
+use Rattle.ft12.specs.declared.rules.Bits.{Bits}
+use Rattle.words.specs.Words.{if_then_else_}
+use Rattle.ft12.specs.Record.{hostControl}
+use Rattle.ft12.specs.Rules.{atStart, startDropping, gathering, cleared, expecting, caseOfFixed, caseOfData, onHeard, bitsOf, BitsAfter}
 
 pub fixed-reset : (c : ℕ) → c ≡ 0x40 → Reset ≡ caseOfFixed c
 unfolding caseOfFixed

@@ -1,17 +1,1 @@
-pub mod Types
-pub mod WordLaws
-pub mod ByteLaws
-pub mod ReceiverLaws
-pub mod JudgedLaws
-pub mod FrameLaws
-pub mod BeginningLaws
-pub mod BuildLaws
-pub mod RecordLaws
-pub mod RulesLaws
 pub mod CaseLaws
-pub mod RangeLaws
-pub mod PlaceLaws
-pub mod EventLaws
-pub mod RequestLaws
-pub mod HearingLaws
-pub mod DeliveryLaws

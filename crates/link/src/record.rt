@@ -1,31 +1,13 @@
-// The link record and the test that it is in range.
+// The test that the link record is in range.
 ghost use mathlib.Core.Path.{_≡_};
 ghost use mathlib.Core.Bool.{_&&_};
 ghost use lib.ListN.{length, take};
-ghost use Rattle.link.specs.Words.{isPadded};
-ghost use Rattle.link.specs.Record.{serverControl, receiverOk, outstandingOk, inRange};
-use crate::frame::is_whole;
-use crate::receiver::is_beginning;
-use crate::words::are_zero;
-
-// The link record, lent by the serial loop. A bit is true where it is odd.
-#[repr(C)]
-pub struct Link {
-    // The bytes of the frame that is being received, and how many they are.
-    pub receiver: [u8; 260],
-    pub received: u16,
-    // Whether the receiver drops what comes, up to the next idle mark.
-    pub dropping: bool,
-    // The count bit of the next request that is carried out.
-    pub expected: bool,
-    // The count bit of the next data frame that the server sends, or of the outstanding one.
-    pub send: bool,
-    // The bytes of the frame that waits for its acknowledgement, and how many they are: none where nothing is outstanding.
-    pub outstanding: [u8; 261],
-    pub held: u16,
-    // How often the outstanding frame was sent again.
-    pub resends: u8,
-}
+ghost use Rattle.words.specs.Words.{isPadded};
+ghost use Rattle.ft12.specs.Record.{serverControl, receiverOk, outstandingOk, inRange};
+use frames::frame::is_whole;
+use frames::receiver::is_beginning;
+use ft12::record::Link;
+use words::bytes::are_zero;
 
 // F3 or D3.
 pub fn server_control(odd: bool) -> u8

@@ -4,43 +4,20 @@ ghost use mathlib.Core.List.{_++_};
 ghost use Prim.Native.Nat.{_+_, _≤_};
 ghost use lib.ListN.{length, take, drop, replicate};
 ghost use lib.Dec.{T};
-ghost use Rattle.link.specs.Words.{put};
-ghost use Rattle.link.specs.Record.{linkWith, lineOf, linkOf, inRange, hostControl};
-ghost use Rattle.link.specs.Rules.{BitsAfter, caseOfAcknowledgement, caseOfFixed, caseOfData, caseOf, onIdleMark};
-ghost use Rattle.link.specs.Promise.{HostByteHeard, AckWaited, MessageTaken};
-use crate::frame::frame_in_place;
-use crate::frame::put_fixed_frame;
-use crate::receiver::Judgement;
-use crate::receiver::judge_at;
-use crate::record::Link;
+ghost use Rattle.words.specs.Words.{put};
+ghost use Rattle.ft12.specs.Record.{linkWith, lineOf, linkOf, inRange, hostControl};
+ghost use Rattle.ft12.specs.Rules.{BitsAfter, caseOfAcknowledgement, caseOfFixed, caseOfData, caseOf, onIdleMark};
+ghost use Rattle.ft12.specs.Promise.{HostByteHeard, AckWaited, MessageTaken};
 use crate::record::server_control;
-use crate::words::blank;
-use crate::words::put_bytes;
-
-// What a host byte is to the link.
-pub enum Heard {
-    // A byte of a frame that is not yet whole.
-    Gathered,
-    // Damage, or a byte behind it.
-    Dropped,
-    // A whole frame, or an acknowledgement, that asks for nothing.
-    Ignored,
-    // The acknowledgement of the outstanding frame.
-    Acknowledged,
-    // The reset request.
-    Reset,
-    // A data frame with the other count bit.
-    Repeat,
-    // A data frame with the expected count bit and this L, nothing outstanding.
-    Request(u8),
-}
-
-// The two count bits and the count of resends.
-pub struct Bits {
-    pub expected: bool,
-    pub send: bool,
-    pub resends: u8,
-}
+use frames::frame::frame_in_place;
+use frames::frame::put_fixed_frame;
+use frames::receiver::judge_at;
+use ft12::receiver::Judgement;
+use ft12::record::Link;
+use ft12::rules::Bits;
+use ft12::rules::Heard;
+use words::bytes::blank;
+use words::bytes::put_bytes;
 
 // 73 or 53.
 fn host_control(odd: bool) -> u8

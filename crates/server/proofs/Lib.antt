@@ -1,9 +1,1 @@
-pub mod CallLaws
-pub mod Types
-pub mod BusLaws
-pub mod RefusalLaws
-pub mod OutputLaws
-pub mod PollLaws
-pub mod HostByteLaws
 pub mod MessageParts
-pub mod CallJoins

@@ -20,9 +20,9 @@ use denote.Struct.Members.{Member, partsAt}
 use Rattle.walks.proofs.Data.{Mut, ShrS}
 use Rattle.walks.proofs.Fields.{opened-part, closed-part, Again, parts-out, parts-in}
 use Rattle.walks.proofs.Parts.{RangeKept, shares-range, range-back}
-use Rattle.link.specs.declared.record.Link.{Link}
-use Rattle.link.proofs.Types.{byteD, linkD, receiverR, members, lawfuls}
-use Rattle.link.proofs.record.Link as L
+use Rattle.ft12.specs.declared.record.Link.{Link}
+use Rattle.ft12.proofs.Types.{byteD, linkD, receiverR, members, lawfuls}
+use Rattle.ft12.proofs.record.Link as L
 
 -- the fields behind the receiver's bytes
 abbrev others : List Member → List Member

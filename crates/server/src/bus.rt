@@ -3,20 +3,20 @@ ghost use mathlib.Core.Path.{_≡_};
 ghost use mathlib.Core.Bool.{true, _&&_};
 ghost use mathlib.Core.List.{[], _∷_};
 ghost use lib.Dec.{T, eqb};
-ghost use Rattle.services.specs.Datapoint.{datapointId, datapointOk};
-ghost use Rattle.services.specs.Table.{tableOk};
-ghost use Rattle.server.specs.Promise.{takes, taken, BusEventTaken};
-use crate::event::Event;
+ghost use Rattle.baos.specs.Datapoint.{datapointId, datapointOk};
+ghost use Rattle.baos.specs.Table.{tableOk};
+ghost use Rattle.calls.specs.Promise.{takes, taken, BusEventTaken};
 use crate::event::status_of;
-use crate::reply::Reply;
-use services::datapoint::Datapoint;
-use services::datapoint::bus_byte;
-use services::datapoint::bus_value;
-use services::datapoint::is_value;
-use services::datapoint::outcome_of;
-use services::table::datapoint_at;
-use services::table::datapoint_place;
-use services::table::put_datapoint_at;
+use baos::datapoint::Datapoint;
+use calls::event::Event;
+use calls::reply::Reply;
+use records::datapoint::bus_byte;
+use records::datapoint::bus_value;
+use records::datapoint::is_value;
+use records::datapoint::outcome_of;
+use tables::table::datapoint_at;
+use tables::table::datapoint_place;
+use tables::table::put_datapoint_at;
 
 // Whether this is the record of that ID, and takes the event.
 fn takes_event(event: Event, id: u16, value: &[u8], d: Datapoint) -> bool

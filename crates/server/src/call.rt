@@ -1,18 +1,18 @@
 // The server's call: an event in, bytes to send out.
-ghost use Rattle.services.specs.Table.{tablesOf};
-ghost use Rattle.server.specs.Call.{call};
-ghost use Rattle.server.specs.Promise.{Leaves};
+ghost use Rattle.baos.specs.Table.{tablesOf};
+ghost use Rattle.calls.specs.Call.{call};
+ghost use Rattle.calls.specs.Promise.{Leaves};
 use crate::bus::on_bus_event;
-use crate::event::Event;
 use crate::host_byte::on_host_byte;
 use crate::poll::on_poll;
 use crate::refusal::refusal_of;
-use crate::reply::Reply;
-use link::record::Link;
+use baos::datapoint::Datapoint;
+use baos::item::Item;
+use calls::event::Event;
+use calls::reply::Reply;
+use ft12::record::Link;
 use link::rules::ack_wait_over;
 use link::rules::idle_mark;
-use services::datapoint::Datapoint;
-use services::item::Item;
 
 // One event. Checks what is lent in every call: the refusals' numbers, the lowest first; then what the event does. Answers the refusal's number, with nothing
 // altered, or how many bytes of the output are to be sent. The value is that of a bus value event; other events ignore it.

@@ -1,23 +1,7 @@
-// The six things that happen.
+// What an outcome leaves of the state byte.
 ghost use mathlib.Core.Path.{_≡_};
-ghost use Rattle.server.specs.Event.{statusOf};
-
-// What becomes of a transmission on the bus.
-pub enum Outcome {
-    Sent,
-    Failed,
-    InProgress,
-}
-
-// The six things that happen. The value of a bus value is lent beside it.
-pub enum Event {
-    HostByte(u8),
-    IdleMark,
-    AckWaitOver,
-    Poll,
-    BusValue(u16),
-    TransmissionOutcome(u16, Outcome),
-}
+ghost use Rattle.calls.specs.Event.{statusOf};
+use calls::event::Outcome;
 
 // The transmission status that an outcome leaves: 00, 01 or 10.
 pub fn status_of(outcome: Outcome) -> u8

@@ -1,8 +1,7 @@
 // The server: one call takes an event and answers with the bytes to send.
-mod bus;
+pub mod bus;
 pub mod call;
 pub mod event;
-mod host_byte;
-mod poll;
-mod refusal;
-pub mod reply;
+pub mod host_byte;
+pub mod poll;
+pub mod refusal;

@@ -4,15 +4,15 @@ ghost use mathlib.Core.Bool.{true};
 ghost use Prim.Native.Nat.{_≤_};
 ghost use lib.ListN.{length};
 ghost use lib.Dec.{T};
-ghost use Rattle.link.specs.Record.{lineOf, inRange};
-ghost use Rattle.services.specs.Datapoint.{datapointId, datapointOk};
-ghost use Rattle.services.specs.Table.{datapointsOnly, tableOk};
-ghost use Rattle.server.specs.Call.{accepted, onPoll};
-ghost use Rattle.server.specs.Promise.{Leaves};
-use crate::reply::Reply;
-use link::record::Link;
+ghost use Rattle.ft12.specs.Record.{lineOf, inRange};
+ghost use Rattle.baos.specs.Datapoint.{datapointId, datapointOk};
+ghost use Rattle.baos.specs.Table.{datapointsOnly, tableOk};
+ghost use Rattle.calls.specs.Call.{accepted, onPoll};
+ghost use Rattle.calls.specs.Promise.{Leaves};
+use baos::datapoint::Datapoint;
+use calls::reply::Reply;
+use ft12::record::Link;
 use link::rules::take_message;
-use services::datapoint::Datapoint;
 use services::indication::indicate;
 
 // A poll. With nothing outstanding, the indication is built in the output behind the room for its frame's head, and framed there.

@@ -1,13 +1,13 @@
 // The refusals that do not look at the event.
 ghost use mathlib.Core.Path.{_≡_};
-ghost use Rattle.services.specs.Table.{tablesOf};
-ghost use Rattle.server.specs.Promise.{lentRefusal};
-use link::record::Link;
+ghost use Rattle.baos.specs.Table.{tablesOf};
+ghost use Rattle.calls.specs.Promise.{lentRefusal};
+use baos::datapoint::Datapoint;
+use baos::item::Item;
+use ft12::record::Link;
 use link::record::in_range;
-use services::datapoint::Datapoint;
-use services::item::Item;
-use services::table::datapoints_well_formed;
-use services::table::items_well_formed;
+use tables::table::datapoints_well_formed;
+use tables::table::items_well_formed;
 
 // 1 where a table is not well formed, 2 where the link record is not in range, 3 where the output has no room for 262 bytes; 0 where none is given.
 pub fn refusal_of(

@@ -4,23 +4,18 @@ ghost use mathlib.Core.Bool.{true, not};
 ghost use Prim.Native.Nat.{_+_, _-_, _≤_};
 ghost use lib.ListN.{length};
 ghost use lib.Dec.{leb};
-ghost use Rattle.link.specs.Words.{put};
-ghost use Rattle.services.specs.Datapoint.{datapointId, datapointOk};
-ghost use Rattle.services.specs.Table.{datapointsOnly, tableOk};
-ghost use Rattle.services.specs.Get.{roomForEntries};
-ghost use Rattle.services.specs.Gather.{entriesTold};
-ghost use Rattle.services.specs.Indication.{needs, choices, reported, afterReport, indication};
-use crate::datapoint::Datapoint;
-use crate::datapoint::put_value;
-use crate::datapoint::reported;
-use crate::datapoint::size_of;
-use crate::message::put_indication_head;
-
-// How many datapoints an indication carries, and where their entries end.
-pub struct Told {
-    pub count: u16,
-    pub end: usize,
-}
+ghost use Rattle.words.specs.Words.{put};
+ghost use Rattle.baos.specs.Datapoint.{datapointId, datapointOk};
+ghost use Rattle.baos.specs.Table.{datapointsOnly, tableOk};
+ghost use Rattle.baos.specs.Get.{roomForEntries};
+ghost use Rattle.baos.specs.Inner.Gather.{entriesTold};
+ghost use Rattle.baos.specs.Indication.{needs, choices, reported, afterReport, indication};
+use baos::datapoint::Datapoint;
+use baos::inner::Told;
+use messages::message::put_indication_head;
+use records::datapoint::put_value;
+use records::datapoint::reported;
+use records::datapoint::size_of;
 
 // Whether a marked datapoint has to wait: its entry does not fit between `end` and `most`.
 fn waits(d: Datapoint, end: usize, most: usize) -> bool

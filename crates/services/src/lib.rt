@@ -1,11 +1,3 @@
-// The tables that the module holds and the services that read and set them.
-pub mod datapoint;
-mod gather;
-mod get;
+// A message carried out, and the indication.
 pub mod indication;
-pub mod item;
-mod mask;
-mod message;
 pub mod service;
-mod set;
-pub mod table;

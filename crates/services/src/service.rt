@@ -3,21 +3,21 @@ ghost use mathlib.Core.Path.{_≡_};
 ghost use mathlib.Core.Bool.{true};
 ghost use Prim.Native.Nat.{_+_, _≤_};
 ghost use lib.ListN.{length};
-ghost use Rattle.link.specs.Words.{put};
-ghost use Rattle.services.specs.Datapoint.{datapointId, datapointOk};
-ghost use Rattle.services.specs.Item.{itemId, itemOk};
-ghost use Rattle.services.specs.Table.{tablesOf, tableOk};
-ghost use Rattle.services.specs.Service.{unanswered, carriedOut};
-use crate::datapoint::Datapoint;
-use crate::get::get_datapoints;
-use crate::get::get_items;
-use crate::get::get_parameters;
-use crate::item::Item;
-use crate::message::put_coded;
-use crate::message::start_of;
-use crate::message::sub_service_of;
-use crate::set::set_datapoints;
-use crate::set::set_items;
+ghost use Rattle.words.specs.Words.{put};
+ghost use Rattle.baos.specs.Datapoint.{datapointId, datapointOk};
+ghost use Rattle.baos.specs.Item.{itemId, itemOk};
+ghost use Rattle.baos.specs.Table.{tablesOf, tableOk};
+ghost use Rattle.baos.specs.Service.{unanswered, carriedOut};
+use baos::datapoint::Datapoint;
+use baos::item::Item;
+use gets::get::get_datapoints;
+use gets::get::get_items;
+use gets::get::get_parameters;
+use messages::message::put_coded;
+use messages::message::start_of;
+use messages::message::sub_service_of;
+use sets::set::set_datapoints;
+use sets::set::set_items;
 
 // Whether the message gets no answer.
 pub fn is_unanswered(m: &[u8]) -> bool

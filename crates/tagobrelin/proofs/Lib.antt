@@ -1,4 +1,1 @@
-pub mod NumberLaws
-pub mod SentLaws
-pub mod ExportedLaws
 pub mod Numbered

@@ -1,15 +1,15 @@
 // What firmware links.
 ghost use mathlib.Core.Path.{_≡_};
-ghost use Rattle.link.specs.Record.{linkOf};
-ghost use Rattle.services.specs.Table.{tablesOf};
-ghost use Rattle.tagobrelin.specs.Exported.{calledBy, Gives, freshLine};
+ghost use Rattle.ft12.specs.Record.{linkOf};
+ghost use Rattle.baos.specs.Table.{tablesOf};
+ghost use Rattle.calls.specs.Exported.{calledBy, Gives, freshLine};
 use crate::numbers::event_of;
 use crate::numbers::is_event;
 use crate::numbers::number_of;
-use link::record::Link;
+use baos::datapoint::Datapoint;
+use baos::item::Item;
+use ft12::record::Link;
 use server::call::call;
-use services::datapoint::Datapoint;
-use services::item::Item;
 
 // One event, by numbers. Answers how many bytes of the output are to be sent, or a number below 0, with nothing altered.
 #[no_mangle]

@@ -1,11 +1,11 @@
 // Events and replies as the numbers that firmware gives and gets.
 ghost use mathlib.Core.Path.{_≡_};
 ghost use Prim.Native.Nat.{_<_, _^_};
-ghost use Rattle.server.specs.Reply.{sentCount};
-ghost use Rattle.tagobrelin.specs.Numbers.{isEvent, outcomeOf, eventOf, numberOf};
-use server::event::Event;
-use server::event::Outcome;
-use server::reply::Reply;
+ghost use Rattle.calls.specs.Reply.{sentCount};
+ghost use Rattle.calls.specs.Numbers.{isEvent, outcomeOf, eventOf, numberOf};
+use calls::event::Event;
+use calls::event::Outcome;
+use calls::reply::Reply;
 
 // Whether the numbers name an event.
 pub fn is_event(event: u8, outcome: u8) -> bool

@@ -1,5 +1,5 @@
 use borrow.Author.Needs.{needs}
-use Rattle.link.specs.Record.{linkOf}
+use Rattle.ft12.specs.Record.{linkOf}
 use Rattle.cases.specs.Bench.{idleLink}
 use Rattle.cases.proofs.bench.idle_link.Statement.{statement}
 use Rattle.cases.proofs.bench.idle_link.Tie as tie

@@ -4,8 +4,8 @@ use mathlib.Core.Path.{_≡_, ap, sym, _∙_}
 use native.Mathlib.Omega.{arith}
 use lib.ListN.{length, take}
 use lib.Seq.{take-all}
-use Rattle.link.specs.Frame.{checksum}
-use Rattle.link.proofs.ByteLaws.{checksum-none, checksum-next}
+use Rattle.ft12.specs.Frame.{checksum}
+use Rattle.ft12.proofs.ChecksumLaws.{checksum-none, checksum-next}
 use Rattle.cases.proofs.frame.checksum.Statement.{statement}
 use Rattle.cases.proofs.frame.checksum.Tie as tie
 

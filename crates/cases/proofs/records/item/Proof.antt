@@ -1,6 +1,6 @@
 use borrow.Author.Needs.{needs}
 use mathlib.Core.Path.{_∙_}
-use Rattle.services.proofs.EntryLaws.{put-zeros}
+use Rattle.baos.proofs.EntryLaws.{put-zeros}
 use Rattle.cases.specs.Records.{itemOf}
 use Rattle.cases.proofs.records.item.Statement.{statement}
 use Rattle.cases.proofs.records.item.Tie as tie

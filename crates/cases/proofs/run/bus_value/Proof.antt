@@ -1,6 +1,6 @@
 use borrow.Author.Needs.{needs}
 use mathlib.Core.Path.{ap, _∙_}
-use Rattle.server.specs.declared.event.Event.the-variants.{BusValue}
+use Rattle.calls.specs.declared.event.Event.the-variants.{BusValue}
 use Rattle.cases.specs.Run.{happened, busValued}
 use Rattle.cases.proofs.run.bus_value.Statement.{statement}
 use Rattle.cases.proofs.run.bus_value.Tie as tie

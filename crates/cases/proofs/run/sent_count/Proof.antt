@@ -1,5 +1,5 @@
 use borrow.Author.Needs.{needs}
-use Rattle.server.specs.Reply.{sentCount}
+use Rattle.calls.specs.Reply.{sentCount}
 use Rattle.cases.proofs.run.sent_count.Statement.{statement}
 use Rattle.cases.proofs.run.sent_count.Tie as tie
 

@@ -1,6 +1,6 @@
 use borrow.Author.Needs.{needs}
 use mathlib.Core.Path.{ap}
-use Rattle.services.specs.declared.datapoint.Datapoint.{Datapoint}
+use Rattle.baos.specs.declared.datapoint.Datapoint.{Datapoint}
 use Rattle.cases.proofs.SameLaws.{not-true, not-false, refuted, failed, left-to, datapoint-same}
 use Rattle.cases.proofs.same.same_datapoint.Statement.{statement}
 use Rattle.cases.proofs.same.same_datapoint.Tie as tie

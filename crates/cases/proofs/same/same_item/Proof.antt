@@ -1,6 +1,6 @@
 use borrow.Author.Needs.{needs}
 use mathlib.Core.Path.{ap}
-use Rattle.services.specs.declared.item.Item.{Item}
+use Rattle.baos.specs.declared.item.Item.{Item}
 use Rattle.cases.proofs.SameLaws.{not-true, not-false, refuted, failed, left-to, item-same}
 use Rattle.cases.proofs.same.same_item.Statement.{statement}
 use Rattle.cases.proofs.same.same_item.Tie as tie

@@ -40,17 +40,17 @@ use denote.Triple.Spec.{tripleOf}
 use denote.Triple.Statement.{Contract, Triple}
 use denote.Triple.Table.{entered, cited}
 use denote.Triple.Walked.{needs}
-use Rattle.link.specs.declared.record.Link.{Link}
-use Rattle.link.proofs.Types.{linkD, byteD, sizeD}
-use Rattle.link.proofs.record.Link as L
-use Rattle.services.specs.Table.{Tables as ServerTables, tablesOf as tablesLent}
-use Rattle.services.proofs.Types.{datapointD, itemD}
-use Rattle.services.proofs.datapoint.Datapoint as P
-use Rattle.services.proofs.item.Item as I
-use Rattle.server.specs.declared.event.Event.{Event}
-use Rattle.server.specs.Call.{Called, call}
-use Rattle.server.proofs.Types.{replyD, eventD}
-use Rattle.server.proofs.CallLaws.{reply-told}
+use Rattle.ft12.specs.declared.record.Link.{Link}
+use Rattle.ft12.proofs.Types.{linkD, byteD, sizeD}
+use Rattle.ft12.proofs.record.Link as L
+use Rattle.baos.specs.Table.{Tables as ServerTables, tablesOf as tablesLent}
+use Rattle.baos.proofs.Types.{datapointD, itemD}
+use Rattle.baos.proofs.datapoint.Datapoint as P
+use Rattle.baos.proofs.item.Item as I
+use Rattle.calls.specs.declared.event.Event.{Event}
+use Rattle.calls.specs.Call.{Called, call}
+use Rattle.calls.proofs.Types.{replyD, eventD}
+use Rattle.calls.proofs.CallLaws.{reply-told}
 use Rattle.cases.specs.declared.bench.Bench.{Bench}
 use Rattle.cases.specs.Bench.{Within}
 use Rattle.cases.specs.Step.{stepped, called, tablesIn}

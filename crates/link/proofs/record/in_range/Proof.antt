@@ -35,12 +35,12 @@ use denote.Triple.Spec.{tripleOf}
 use denote.Triple.Statement.{Contract, Triple}
 use denote.Triple.Table.{entered, cited}
 use denote.Triple.Walked.{needs}
-use Rattle.link.specs.declared.record.Link.{Link}
-use Rattle.link.specs.Record.{inRange}
-use Rattle.link.proofs.RecordLaws.{range-parts}
-use Rattle.link.proofs.Types.{byteD, linkD, receiverR, outstandingR, members, lawfuls}
-use Rattle.link.proofs.record.Link as L
-use Rattle.link.proofs.record.Link.Laws as L′
+use Rattle.ft12.specs.declared.record.Link.{Link}
+use Rattle.ft12.specs.Record.{inRange}
+use Rattle.ft12.proofs.RecordLaws.{range-parts}
+use Rattle.ft12.proofs.Types.{byteD, linkD, receiverR, outstandingR, members, lawfuls}
+use Rattle.ft12.proofs.record.Link as L
+use Rattle.ft12.proofs.record.Link.Laws as L′
 use Rattle.link.proofs.record.are_parts_in_range as g
 use Rattle.link.proofs.record.are_parts_in_range.Symbol as g-def
 use Rattle.link.proofs.record.are_parts_in_range.Symbol.{name as #link·record·are-parts-in-range}

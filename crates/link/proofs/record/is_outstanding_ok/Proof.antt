@@ -2,18 +2,18 @@ use mathlib.Core.Path.{_≡_, refl, sym, _∙_, ap}
 use native.Mathlib.Omega.{arith}
 use lib.ListN.{length, take, drop, length-take}
 use Prim.Native.Nat.{ℕ}
-use Rattle.link.specs.Words.{areZero}
-use Rattle.link.specs.Frame.{isWhole}
-use Rattle.link.proofs.WordLaws.{rest-whole}
-use Rattle.link.proofs.RangeLaws.{too-long, not-zero, padded-then, holds-none, holds-whole, holds-long}
+use Rattle.words.specs.Words.{areZero}
+use Rattle.ft12.specs.Frame.{isWhole}
+use Rattle.words.proofs.WordLaws.{rest-whole}
+use Rattle.ft12.proofs.RangeLaws.{too-long, not-zero, padded-then, holds-none, holds-whole, holds-long}
 use borrow.Author.Needs.{needs}
 use Rattle.link.proofs.record.is_outstanding_ok.Statement.{statement}
 use Rattle.link.proofs.record.is_outstanding_ok.Tie as tie
 use Rattle.link.proofs.record.is_outstanding_ok.Reads as reads
 use Rattle.link.proofs.record.is_outstanding_ok.Lts as lts
-use Rattle.link.proofs.frame.is_whole.Reads as is-whole-reads
+use Rattle.frames.proofs.frame.is_whole.Reads as is-whole-reads
 use Rattle.link.proofs.record.server_control.Reads as server-control-reads
-use Rattle.link.proofs.words.are_zero.Reads as are-zero-reads
+use Rattle.words.proofs.bytes.are_zero.Reads as are-zero-reads
 
 returns : tie.Need-returns
 returns c =

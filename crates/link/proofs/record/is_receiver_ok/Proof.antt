@@ -1,17 +1,17 @@
 use mathlib.Core.Path.{_≡_, refl, sym, _∙_, ap}
 use native.Mathlib.Omega.{arith}
 use lib.ListN.{length, take, drop, length-take}
-use Rattle.link.specs.Words.{areZero}
-use Rattle.link.specs.Record.{receiverOk}
-use Rattle.link.proofs.WordLaws.{rest-whole}
-use Rattle.link.proofs.RangeLaws.{too-long, not-zero, padded-then, receiver-drops, receiver-gathers}
+use Rattle.words.specs.Words.{areZero}
+use Rattle.ft12.specs.Record.{receiverOk}
+use Rattle.words.proofs.WordLaws.{rest-whole}
+use Rattle.ft12.proofs.RangeLaws.{too-long, not-zero, padded-then, receiver-drops, receiver-gathers}
 use borrow.Author.Needs.{needs}
 use Rattle.link.proofs.record.is_receiver_ok.Statement.{statement}
 use Rattle.link.proofs.record.is_receiver_ok.Tie as tie
 use Rattle.link.proofs.record.is_receiver_ok.Reads as reads
 use Rattle.link.proofs.record.is_receiver_ok.Lts as lts
-use Rattle.link.proofs.receiver.is_beginning.Reads as is-beginning-reads
-use Rattle.link.proofs.words.are_zero.Reads as are-zero-reads
+use Rattle.frames.proofs.receiver.is_beginning.Reads as is-beginning-reads
+use Rattle.words.proofs.bytes.are_zero.Reads as are-zero-reads
 
 returns : tie.Need-returns
 returns c =

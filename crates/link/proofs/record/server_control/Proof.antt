@@ -1,5 +1,5 @@
 use mathlib.Core.Path.{_≡_, refl, sym, _∙_, ap}
-use Rattle.link.specs.Record.{serverControl}
+use Rattle.ft12.specs.Record.{serverControl}
 use Rattle.link.proofs.record.server_control.Statement.{statement}
 use Rattle.link.proofs.record.server_control.Tie as tie
 use Rattle.link.proofs.record.server_control.Reads as reads

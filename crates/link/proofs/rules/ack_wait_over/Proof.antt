@@ -39,15 +39,15 @@ use denote.Triple.Spec.{tripleOf}
 use denote.Triple.Statement.{Contract, Triple}
 use denote.Triple.Table.{entered, cited}
 use denote.Triple.Walked.{needs}
-use Rattle.link.specs.declared.record.Link.{Link}
-use Rattle.link.proofs.Types.{byteD, sizeD, linkD, heardD, receiverR, outstandingR, members, lawfuls}
-use Rattle.link.specs.Record.{linkWith, lineOf, linkOf, inRange}
+use Rattle.ft12.specs.declared.record.Link.{Link}
+use Rattle.ft12.proofs.Types.{byteD, sizeD, linkD, heardD, receiverR, outstandingR, members, lawfuls}
+use Rattle.ft12.specs.Record.{linkWith, lineOf, linkOf, inRange}
 use denote.Plain.{UInt, Boolean}
 use denote.Struct.Members.{partsAt}
-use Rattle.link.proofs.record.Link as L
-use Rattle.link.specs.Words.{put}
-use Rattle.link.specs.Rules.{onAckWaitOver}
-use Rattle.link.specs.Promise.{AckWaited}
+use Rattle.ft12.proofs.record.Link as L
+use Rattle.words.specs.Words.{put}
+use Rattle.ft12.specs.Rules.{onAckWaitOver}
+use Rattle.ft12.specs.Promise.{AckWaited}
 use Rattle.link.proofs.rules.ack_wait_over_at as ack-wait-over-at
 use Rattle.link.proofs.rules.ack_wait_over_at.Symbol as ack-wait-over-at-def
 use Rattle.link.proofs.rules.ack_wait_over_at.Symbol.{name as #link·rules·ack-wait-over-at}

@@ -1,7 +1,7 @@
-use Rattle.link.proofs.EventLaws.{waited-none, waited-again, waited-over}
-use Rattle.link.proofs.PlaceLaws.{held-fits, outstanding-places}
-use Rattle.link.specs.declared.record.Link.{Link}
-use Rattle.link.specs.Record.{linkWith}
+use Rattle.ft12.proofs.EventLaws.{waited-none, waited-again, waited-over}
+use Rattle.ft12.proofs.PlaceLaws.{held-fits, outstanding-places}
+use Rattle.ft12.specs.declared.record.Link.{Link}
+use Rattle.ft12.specs.Record.{linkWith}
 use native.Mathlib.Omega.{arith}
 use mathlib.Core.Path.{_≡_, refl, sym, _∙_, ap}
 use borrow.Author.Needs.{needs}
@@ -9,7 +9,7 @@ use Rattle.link.proofs.rules.ack_wait_over_at.Statement.{statement}
 use Rattle.link.proofs.rules.ack_wait_over_at.Tie as tie
 use Rattle.link.proofs.rules.ack_wait_over_at.Reads as reads
 use Rattle.link.proofs.rules.ack_wait_over_at.Lts as lts
-use Rattle.link.proofs.frame.put_fixed_frame.Reads as put-fixed-frame-reads
+use Rattle.frames.proofs.frame.put_fixed_frame.Reads as put-fixed-frame-reads
 use Rattle.link.proofs.rules.clear_outstanding.Reads as clear-outstanding-reads
 use Rattle.link.proofs.rules.put_first.Reads as put-first-reads
 

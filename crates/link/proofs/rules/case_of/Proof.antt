@@ -1,4 +1,4 @@
-use Rattle.link.specs.Rules.{caseOf}
+use Rattle.ft12.specs.Rules.{caseOf}
 use mathlib.Core.Path.{_≡_, refl, sym, _∙_, ap}
 use borrow.Author.Needs.{needs}
 use Rattle.link.proofs.rules.case_of.Statement.{statement}

@@ -1,4 +1,4 @@
-use Rattle.link.specs.Rules.{caseOfAcknowledgement}
+use Rattle.ft12.specs.Rules.{caseOfAcknowledgement}
 use mathlib.Core.Path.{_≡_, refl, sym, _∙_, ap}
 use Rattle.link.proofs.rules.case_of_acknowledgement.Statement.{statement}
 use Rattle.link.proofs.rules.case_of_acknowledgement.Tie as tie

@@ -33,14 +33,14 @@ use denote.Triple.Spec.{tripleOf}
 use denote.Triple.Statement.{Contract, Triple}
 use denote.Triple.Table.{entered, cited}
 use denote.Triple.Walked.{needs}
-use Rattle.link.specs.declared.record.Link.{Link}
-use Rattle.link.proofs.Types.{byteD, sizeD, linkD, heardD, receiverR, outstandingR, members, lawfuls}
+use Rattle.ft12.specs.declared.record.Link.{Link}
+use Rattle.ft12.proofs.Types.{byteD, sizeD, linkD, heardD, receiverR, outstandingR, members, lawfuls}
 use lib.Dec.{T}
-use Rattle.link.specs.Record.{linkWith, lineOf, linkOf, inRange}
-use Rattle.link.specs.declared.rules.Heard.{Heard}
-use Rattle.link.specs.Rules.{heardAt, afterHostByte}
-use Rattle.link.specs.Promise.{HostByteHeard}
-use Rattle.link.proofs.record.Link as L
+use Rattle.ft12.specs.Record.{linkWith, lineOf, linkOf, inRange}
+use Rattle.ft12.specs.declared.rules.Heard.{Heard}
+use Rattle.ft12.specs.Rules.{heardAt, afterHostByte}
+use Rattle.ft12.specs.Promise.{HostByteHeard}
+use Rattle.ft12.proofs.record.Link as L
 use Rattle.link.proofs.rules.host_byte_at as g
 use Rattle.link.proofs.rules.host_byte_at.Symbol as g-def
 use Rattle.link.proofs.rules.host_byte_at.Symbol.{name as #link·rules·host-byte-at}

@@ -1,16 +1,16 @@
 use mathlib.Core.Path.{_≡_, refl, sym, _∙_, ap}
 use native.Mathlib.Omega.{arith}
-use Rattle.link.specs.declared.record.Link.{Link}
-use Rattle.link.specs.Record.{linkWith}
-use Rattle.link.specs.declared.rules.Heard.the-variants.{Gathered, Dropped, Ignored, Acknowledged, Reset, Repeat, Request}
-use Rattle.link.proofs.PlaceLaws.{received-fits, held-fits, receiver-places, gathered-begins, heard-dropping, place-drops, place-gathered, place-dropped, place-ignored, place-repeat, place-acknowledged, place-reset, place-request, found-as, bits-found}
-use Rattle.link.proofs.RulesLaws.{gathered-is-more}
+use Rattle.ft12.specs.declared.record.Link.{Link}
+use Rattle.ft12.specs.Record.{linkWith}
+use Rattle.ft12.specs.declared.rules.Heard.the-variants.{Gathered, Dropped, Ignored, Acknowledged, Reset, Repeat, Request}
+use Rattle.ft12.proofs.PlaceLaws.{received-fits, held-fits, receiver-places, gathered-begins, heard-dropping, place-drops, place-gathered, place-dropped, place-ignored, place-repeat, place-acknowledged, place-reset, place-request, found-as, bits-found}
+use Rattle.ft12.proofs.RulesLaws.{gathered-is-more}
 use borrow.Author.Needs.{needs}
 use Rattle.link.proofs.rules.host_byte_at.Statement.{statement}
 use Rattle.link.proofs.rules.host_byte_at.Tie as tie
 use Rattle.link.proofs.rules.host_byte_at.Reads as reads
 use Rattle.link.proofs.rules.host_byte_at.Lts as lts
-use Rattle.link.proofs.receiver.judge_at.Reads as judge-at-reads
+use Rattle.frames.proofs.receiver.judge_at.Reads as judge-at-reads
 use Rattle.link.proofs.rules.bits_after.Reads as bits-after-reads
 use Rattle.link.proofs.rules.case_of.Reads as case-of-reads
 use Rattle.link.proofs.rules.clear_outstanding.Reads as clear-outstanding-reads

@@ -1,4 +1,4 @@
-use Rattle.link.specs.Record.{hostControl}
+use Rattle.ft12.specs.Record.{hostControl}
 use mathlib.Core.Path.{_≡_, refl, sym, _∙_, ap}
 use Rattle.link.proofs.rules.host_control.Statement.{statement}
 use Rattle.link.proofs.rules.host_control.Tie as tie

@@ -38,13 +38,13 @@ use denote.Triple.Spec.{tripleOf}
 use denote.Triple.Statement.{Contract, Triple}
 use denote.Triple.Table.{entered, cited}
 use denote.Triple.Walked.{needs}
-use Rattle.link.specs.declared.record.Link.{Link}
-use Rattle.link.proofs.Types.{byteD, sizeD, linkD, heardD, receiverR, outstandingR, members, lawfuls}
-use Rattle.link.specs.Record.{linkWith, lineOf, linkOf, inRange}
+use Rattle.ft12.specs.declared.record.Link.{Link}
+use Rattle.ft12.proofs.Types.{byteD, sizeD, linkD, heardD, receiverR, outstandingR, members, lawfuls}
+use Rattle.ft12.specs.Record.{linkWith, lineOf, linkOf, inRange}
 use denote.Plain.{UInt, Boolean}
 use denote.Struct.Members.{partsAt}
-use Rattle.link.proofs.record.Link as L
-use Rattle.link.specs.Rules.{onIdleMark}
+use Rattle.ft12.proofs.record.Link as L
+use Rattle.ft12.specs.Rules.{onIdleMark}
 use Rattle.link.proofs.rules.idle_mark_at as idle-mark-at
 use Rattle.link.proofs.rules.idle_mark_at.Symbol as idle-mark-at-def
 use Rattle.link.proofs.rules.idle_mark_at.Symbol.{name as #link·rules·idle-mark-at}

@@ -1,7 +1,7 @@
-use Rattle.link.specs.declared.record.Link.{Link}
-use Rattle.link.specs.Record.{linkWith}
-use Rattle.link.proofs.EventLaws.{place-idle}
-use Rattle.link.proofs.PlaceLaws.{received-fits}
+use Rattle.ft12.specs.declared.record.Link.{Link}
+use Rattle.ft12.specs.Record.{linkWith}
+use Rattle.ft12.proofs.EventLaws.{place-idle}
+use Rattle.ft12.proofs.PlaceLaws.{received-fits}
 use Rattle.link.proofs.rules.idle_mark_at.Statement.{statement}
 use Rattle.link.proofs.rules.idle_mark_at.Tie as tie
 use Rattle.link.proofs.rules.idle_mark_at.Reads as reads

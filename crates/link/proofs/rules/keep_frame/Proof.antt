@@ -1,4 +1,4 @@
-use Rattle.link.specs.Words.{put}
+use Rattle.words.specs.Words.{put}
 use mathlib.Core.List.{List}
 use lib.ListN.{take, drop}
 use Prim.Native.Nat.{ℕ, _+_, _-_}
@@ -9,7 +9,7 @@ use Rattle.link.proofs.rules.keep_frame.Statement.{statement}
 use Rattle.link.proofs.rules.keep_frame.Tie as tie
 use Rattle.link.proofs.rules.keep_frame.Reads as reads
 use Rattle.link.proofs.rules.keep_frame.Lts as lts
-use Rattle.link.proofs.words.put_bytes.Reads as put-bytes-reads
+use Rattle.words.proofs.bytes.put_bytes.Reads as put-bytes-reads
 
 add-end : tie.Need-add-end
 add-end c = search needs

@@ -1,6 +1,6 @@
-use Rattle.link.proofs.EventLaws.{taken-none, taken-long, taken-waits, taken-framed}
-use Rattle.link.specs.declared.record.Link.{Link}
-use Rattle.link.specs.Record.{linkWith}
+use Rattle.ft12.proofs.EventLaws.{taken-none, taken-long, taken-waits, taken-framed}
+use Rattle.ft12.specs.declared.record.Link.{Link}
+use Rattle.ft12.specs.Record.{linkWith}
 use native.Mathlib.Omega.{arith}
 use mathlib.Core.Path.{_≡_, refl, sym, _∙_, ap}
 use borrow.Author.Needs.{needs}
@@ -8,7 +8,7 @@ use Rattle.link.proofs.rules.message_at.Statement.{statement}
 use Rattle.link.proofs.rules.message_at.Tie as tie
 use Rattle.link.proofs.rules.message_at.Reads as reads
 use Rattle.link.proofs.rules.message_at.Lts as lts
-use Rattle.link.proofs.frame.frame_in_place.Reads as frame-in-place-reads
+use Rattle.frames.proofs.frame.frame_in_place.Reads as frame-in-place-reads
 use Rattle.link.proofs.record.server_control.Reads as server-control-reads
 use Rattle.link.proofs.rules.keep_frame.Reads as keep-frame-reads
 

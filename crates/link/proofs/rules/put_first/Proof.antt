@@ -5,7 +5,7 @@ use Rattle.link.proofs.rules.put_first.Statement.{statement}
 use Rattle.link.proofs.rules.put_first.Tie as tie
 use Rattle.link.proofs.rules.put_first.Reads as reads
 use Rattle.link.proofs.rules.put_first.Lts as lts
-use Rattle.link.proofs.words.put_bytes.Reads as put-bytes-reads
+use Rattle.words.proofs.bytes.put_bytes.Reads as put-bytes-reads
 
 slice-aggregate-put-bytes : tie.Need-slice-aggregate-put-bytes
 slice-aggregate-put-bytes c = simp length-take (omega arith)

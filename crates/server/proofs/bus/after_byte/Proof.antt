@@ -1,9 +1,9 @@
 use Prim.Native.Nat.{ℕ, _≤_}
 use mathlib.Core.Path.{sym, subst, ap, _∙_}
-use Rattle.services.specs.Datapoint.{outcome}
+use Rattle.baos.specs.Datapoint.{outcome}
 use borrow.Author.Needs.{needs}
-use Rattle.server.specs.Promise.{taken}
-use Rattle.server.proofs.BusLaws.{status-fits}
+use Rattle.calls.specs.Promise.{taken}
+use Rattle.calls.proofs.BusLaws.{status-fits}
 use Rattle.server.proofs.bus.after_byte.Statement.{statement}
 use Rattle.server.proofs.bus.after_byte.Tie as tie
 

@@ -1,12 +1,12 @@
 use Prim.Native.Nat.{ℕ, _≤_}
 use mathlib.Core.Path.{sym, subst, ap, _∙_}
-use Rattle.services.specs.Datapoint.{outcome}
+use Rattle.baos.specs.Datapoint.{outcome}
 use lib.Dec.{T}
 use borrow.Author.Needs.{needs}
 use denote.Ref.{now}
-use Rattle.server.specs.declared.event.Event.{Event}
-use Rattle.server.specs.Promise.{takes, taken}
-use Rattle.server.proofs.BusLaws.{taken-fits, status-fits}
+use Rattle.calls.specs.declared.event.Event.{Event}
+use Rattle.calls.specs.Promise.{takes, taken}
+use Rattle.calls.proofs.BusLaws.{taken-fits, status-fits}
 use Rattle.server.proofs.bus.after_event.Statement.{statement}
 use Rattle.server.proofs.bus.after_event.Tie as tie
 

@@ -36,26 +36,26 @@ use denote.Triple.Spec.{tripleOf}
 use denote.Triple.Statement.{Contract, Triple}
 use denote.Triple.Table.{entered, cited}
 use denote.Triple.Walked.{needs}
-use Rattle.services.specs.declared.datapoint.Datapoint.{Datapoint}
-use Rattle.services.specs.Datapoint.{datapointId, datapointOk, zeroDatapoint}
-use Rattle.services.specs.Table.{tableOk, place}
-use Rattle.services.proofs.Types.{datapointD, byteD, idD, placeD}
-use Rattle.server.specs.declared.event.Event.{Event}
-use Rattle.server.specs.declared.reply.Reply.{Reply}
-use Rattle.server.specs.declared.reply.Reply.the-variants.{Refused, Accepted}
-use Rattle.server.specs.Promise.{taken, BusEventTaken}
-use Rattle.server.proofs.Types.{eventD, replyD}
-use Rattle.server.proofs.BusLaws.{takesAt, few, has-byte, in-order, takes-there, refused-nowhere, refused-here, accepted-here, takes-byte, accepted-byte}
-use Rattle.server.proofs.reply.Reply as R
-use Rattle.server.proofs.reply.Reply.Laws as R′
-use Rattle.services.proofs.table.datapoint_place as datapoint-place
-use Rattle.services.proofs.table.datapoint_place.Symbol as datapoint-place-def
-use Rattle.services.proofs.table.datapoint_place.Symbol.{name as #services·table·datapoint-place}
-use Rattle.services.proofs.table.datapoint_place.Met as datapoint-place-thm
-use Rattle.services.proofs.table.datapoint_at as datapoint-at
-use Rattle.services.proofs.table.datapoint_at.Symbol as datapoint-at-def
-use Rattle.services.proofs.table.datapoint_at.Symbol.{name as #services·table·datapoint-at}
-use Rattle.services.proofs.table.datapoint_at.Met as datapoint-at-thm
+use Rattle.baos.specs.declared.datapoint.Datapoint.{Datapoint}
+use Rattle.baos.specs.Datapoint.{datapointId, datapointOk, zeroDatapoint}
+use Rattle.baos.specs.Table.{tableOk, place}
+use Rattle.baos.proofs.Types.{datapointD, byteD, idD, placeD}
+use Rattle.calls.specs.declared.event.Event.{Event}
+use Rattle.calls.specs.declared.reply.Reply.{Reply}
+use Rattle.calls.specs.declared.reply.Reply.the-variants.{Refused, Accepted}
+use Rattle.calls.specs.Promise.{taken, BusEventTaken}
+use Rattle.calls.proofs.Types.{eventD, replyD}
+use Rattle.calls.proofs.BusLaws.{takesAt, few, has-byte, in-order, takes-there, refused-nowhere, refused-here, accepted-here, takes-byte, accepted-byte}
+use Rattle.calls.proofs.reply.Reply as R
+use Rattle.calls.proofs.reply.Reply.Laws as R′
+use Rattle.tables.proofs.table.datapoint_place as datapoint-place
+use Rattle.tables.proofs.table.datapoint_place.Symbol as datapoint-place-def
+use Rattle.tables.proofs.table.datapoint_place.Symbol.{name as #tables·table·datapoint-place}
+use Rattle.tables.proofs.table.datapoint_place.Met as datapoint-place-thm
+use Rattle.tables.proofs.table.datapoint_at as datapoint-at
+use Rattle.tables.proofs.table.datapoint_at.Symbol as datapoint-at-def
+use Rattle.tables.proofs.table.datapoint_at.Symbol.{name as #tables·table·datapoint-at}
+use Rattle.tables.proofs.table.datapoint_at.Met as datapoint-at-thm
 use Rattle.server.proofs.bus.takes_event as takes-event
 use Rattle.server.proofs.bus.takes_event.Symbol as takes-event-def
 use Rattle.server.proofs.bus.takes_event.Symbol.{name as #server·bus·takes-event}
@@ -68,10 +68,10 @@ use Rattle.server.proofs.bus.after_byte as after-byte
 use Rattle.server.proofs.bus.after_byte.Symbol as after-byte-def
 use Rattle.server.proofs.bus.after_byte.Symbol.{name as #server·bus·after-byte}
 use Rattle.server.proofs.bus.after_byte.Met as after-byte-thm
-use Rattle.services.proofs.table.put_datapoint_at as put-datapoint-at
-use Rattle.services.proofs.table.put_datapoint_at.Symbol as put-datapoint-at-def
-use Rattle.services.proofs.table.put_datapoint_at.Symbol.{name as #services·table·put-datapoint-at}
-use Rattle.services.proofs.table.put_datapoint_at.Met as put-datapoint-at-thm
+use Rattle.tables.proofs.table.put_datapoint_at as put-datapoint-at
+use Rattle.tables.proofs.table.put_datapoint_at.Symbol as put-datapoint-at-def
+use Rattle.tables.proofs.table.put_datapoint_at.Symbol.{name as #tables·table·put-datapoint-at}
+use Rattle.tables.proofs.table.put_datapoint_at.Met as put-datapoint-at-thm
 use Rattle.server.proofs.bus.on_bus_event.Key.{name as #server·bus·on-bus-event}
 use Rattle.server.proofs.bus.on_bus_event as f
 use Rattle.server.proofs.bus.on_bus_event.Statement as stated
@@ -109,12 +109,12 @@ accepted-0 : Good replyD (Accepted 0)
 accepted-0 = EL.owes R.the-type R′.the-laws (Accepted 0) ((refl, lit< tt), tt)
 
 module _ {M : Type 1} (𝓤 : URA M) (H : Heap 𝓤) (A : Atoms 𝓤) (W : Given 𝓤 H A) (mem : Memory → SProp 𝓤) (run : Routine → Fun 𝓤) (𝓣 : Tables 𝓤 H)
-    (known-datapoint-place : Triple 𝓤 (𝓣 .C #services·table·datapoint-place) (C-datapoint-place 𝓤 H A mem run))
-    (known-datapoint-at : Triple 𝓤 (𝓣 .C #services·table·datapoint-at) (C-datapoint-at 𝓤 H A mem run))
+    (known-datapoint-place : Triple 𝓤 (𝓣 .C #tables·table·datapoint-place) (C-datapoint-place 𝓤 H A mem run))
+    (known-datapoint-at : Triple 𝓤 (𝓣 .C #tables·table·datapoint-at) (C-datapoint-at 𝓤 H A mem run))
     (known-takes-event : Triple 𝓤 (𝓣 .C #server·bus·takes-event) (C-takes-event 𝓤 H A mem run))
     (known-after-event : Triple 𝓤 (𝓣 .C #server·bus·after-event) (C-after-event 𝓤 H A mem run))
     (known-after-byte : Triple 𝓤 (𝓣 .C #server·bus·after-byte) (C-after-byte 𝓤 H A mem run))
-    (known-put-datapoint-at : Triple 𝓤 (𝓣 .C #services·table·put-datapoint-at) (C-put-datapoint-at 𝓤 H A mem run))
+    (known-put-datapoint-at : Triple 𝓤 (𝓣 .C #tables·table·put-datapoint-at) (C-put-datapoint-at 𝓤 H A mem run))
     (κ0 κ1 : Lft) (q0 q1 : Share) (event : Event) (id : ℕ) (value : RefT (List ℕ)) (datapoints : RefT (List Datapoint)) (event-ok : Good eventD event) (id-ok : Good idD id) (value-room : Room (byteD .row) (length (value .now))) (datapoints-room : Room (datapointD .row) (length (datapoints .now)))
     (ok : tableOk 1000 datapointId datapointOk (datapoints .now) ≡ true) where
   abbrev x : Event × (ℕ × (RefT (List ℕ) × (RefT (List Datapoint) × Unit {0})))
@@ -242,10 +242,10 @@ on-bus-event-spec 𝓤 H 𝓜 𝓖 𝓡 =
     entered 𝓤 H (tripleOf 𝓤 H (𝓖 .A) f.signature (f.spec 𝓤 H (𝓖 .A) (𝓜 .mem) (𝓡 .run)))
     (tables 𝓤 H 𝓜 𝓡 code.env .C) (tables 𝓤 H 𝓜 𝓡 code.env .Λ) #server·bus·on-bus-event code.function (code.unfolded 𝓤 H 𝓜 𝓡)
     (meets-by 2 𝓤 H (𝓖 .A) W ps replyD (f.clauses 𝓤 H (𝓖 .A) (𝓜 .mem) (𝓡 .run)) 𝓣 code.function (λ κs qs a _ are. needs 𝓤 _ _ (λ ok. walk 𝓤 H (𝓖 .A) W (𝓜 .mem) (𝓡 .run) 𝓣
-    (cited 𝓤 H (C-datapoint-place 𝓤 H (𝓖 .A) (𝓜 .mem) (𝓡 .run)) 𝓜 𝓡 code.env #services·table·datapoint-place datapoint-place-def.routine code.calls-services·table·datapoint-place (datapoint-place-thm.met 𝓤 H 𝓜 𝓖 𝓡))
-    (cited 𝓤 H (C-datapoint-at 𝓤 H (𝓖 .A) (𝓜 .mem) (𝓡 .run)) 𝓜 𝓡 code.env #services·table·datapoint-at datapoint-at-def.routine code.calls-services·table·datapoint-at (datapoint-at-thm.met 𝓤 H 𝓜 𝓖 𝓡))
+    (cited 𝓤 H (C-datapoint-place 𝓤 H (𝓖 .A) (𝓜 .mem) (𝓡 .run)) 𝓜 𝓡 code.env #tables·table·datapoint-place datapoint-place-def.routine code.calls-tables·table·datapoint-place (datapoint-place-thm.met 𝓤 H 𝓜 𝓖 𝓡))
+    (cited 𝓤 H (C-datapoint-at 𝓤 H (𝓖 .A) (𝓜 .mem) (𝓡 .run)) 𝓜 𝓡 code.env #tables·table·datapoint-at datapoint-at-def.routine code.calls-tables·table·datapoint-at (datapoint-at-thm.met 𝓤 H 𝓜 𝓖 𝓡))
     (cited 𝓤 H (C-takes-event 𝓤 H (𝓖 .A) (𝓜 .mem) (𝓡 .run)) 𝓜 𝓡 code.env #server·bus·takes-event takes-event-def.routine code.calls-server·bus·takes-event (takes-event-thm.met 𝓤 H 𝓜 𝓖 𝓡))
     (cited 𝓤 H (C-after-event 𝓤 H (𝓖 .A) (𝓜 .mem) (𝓡 .run)) 𝓜 𝓡 code.env #server·bus·after-event after-event-def.routine code.calls-server·bus·after-event (after-event-thm.met 𝓤 H 𝓜 𝓖 𝓡))
     (cited 𝓤 H (C-after-byte 𝓤 H (𝓖 .A) (𝓜 .mem) (𝓡 .run)) 𝓜 𝓡 code.env #server·bus·after-byte after-byte-def.routine code.calls-server·bus·after-byte (after-byte-thm.met 𝓤 H 𝓜 𝓖 𝓡))
-    (cited 𝓤 H (C-put-datapoint-at 𝓤 H (𝓖 .A) (𝓜 .mem) (𝓡 .run)) 𝓜 𝓡 code.env #services·table·put-datapoint-at put-datapoint-at-def.routine code.calls-services·table·put-datapoint-at (put-datapoint-at-thm.met 𝓤 H 𝓜 𝓖 𝓡))
+    (cited 𝓤 H (C-put-datapoint-at 𝓤 H (𝓖 .A) (𝓜 .mem) (𝓡 .run)) 𝓜 𝓡 code.env #tables·table·put-datapoint-at put-datapoint-at-def.routine code.calls-tables·table·put-datapoint-at (put-datapoint-at-thm.met 𝓤 H 𝓜 𝓖 𝓡))
     (κs .0) (κs .1 .0) (qs .0) (qs .1 .0) (a .0) (a .1 .0) (a .1 .1 .0) (a .1 .1 .1 .0) (are .0) (are .1 .0) (are .1 .1 .0 .0 .1) (are .1 .1 .1 .0 .0 .1) ok)))

@@ -3,9 +3,9 @@ use mathlib.Core.Bool.{true}
 use native.Mathlib.Omega.{arith}
 use borrow.Author.Needs.{needs}
 use denote.Ref.{now}
-use Rattle.services.specs.Datapoint.{isValue}
-use Rattle.server.specs.Promise.{takes}
-use Rattle.server.proofs.BusLaws.{other-id, same-id}
+use Rattle.baos.specs.Datapoint.{isValue}
+use Rattle.calls.specs.Promise.{takes}
+use Rattle.calls.proofs.BusLaws.{other-id, same-id}
 use Rattle.server.proofs.bus.takes_event.Statement.{statement}
 use Rattle.server.proofs.bus.takes_event.Tie as tie
 

@@ -35,33 +35,33 @@ use denote.Enum.Laws as EL
 use denote.Triple.Spec.{tripleOf}
 use denote.Triple.Statement.{Contract, Triple}
 use denote.Triple.Table.{entered, cited}
-use Rattle.link.specs.Words.{if_then_else_}
-use Rattle.link.specs.Record.{lineOf, linkOf, inRange}
-use Rattle.link.specs.Rules.{onHostByte, onIdleMark, onAckWaitOver}
-use Rattle.link.specs.Promise.{AckWaited}
-use Rattle.link.proofs.WordLaws.{true-T}
-use Rattle.services.specs.Datapoint.{datapointId, datapointOk}
-use Rattle.services.specs.Table.{Tables as LentTables, tablesOf as lentTables, datapointsOnly, wellFormed, tableOk, found}
-use Rattle.server.specs.Call.{Called, accepted, onMoved, onPoll}
-use Rattle.server.specs.Promise.{Leaves, lentRefusal, foundTakes, BusEventTaken}
-use Rattle.server.proofs.CallLaws.{reply-told}
-use Rattle.server.proofs.CallJoins.{Lent, lent-passed, lent-datapoints, same-event, leaves-refused, leaves-host-byte, leaves-idle-mark, leaves-ack-wait, leaves-poll, leaves-bus-value, leaves-outcome}
-use Rattle.server.proofs.reply.Reply as R
-use Rattle.server.proofs.reply.Reply.Laws as R′
-use Rattle.server.proofs.event.Event as E
-use Rattle.server.proofs.event.Event.Laws as E′
+use Rattle.words.specs.Words.{if_then_else_}
+use Rattle.ft12.specs.Record.{lineOf, linkOf, inRange}
+use Rattle.ft12.specs.Rules.{onHostByte, onIdleMark, onAckWaitOver}
+use Rattle.ft12.specs.Promise.{AckWaited}
+use Rattle.words.proofs.WordLaws.{true-T}
+use Rattle.baos.specs.Datapoint.{datapointId, datapointOk}
+use Rattle.baos.specs.Table.{Tables as LentTables, tablesOf as lentTables, datapointsOnly, wellFormed, tableOk, found}
+use Rattle.calls.specs.Call.{Called, accepted, onMoved, onPoll}
+use Rattle.calls.specs.Promise.{Leaves, lentRefusal, foundTakes, BusEventTaken}
+use Rattle.calls.proofs.CallLaws.{reply-told}
+use Rattle.calls.proofs.CallJoins.{Lent, lent-passed, lent-datapoints, same-event, leaves-refused, leaves-host-byte, leaves-idle-mark, leaves-ack-wait, leaves-poll, leaves-bus-value, leaves-outcome}
+use Rattle.calls.proofs.reply.Reply as R
+use Rattle.calls.proofs.reply.Reply.Laws as R′
+use Rattle.calls.proofs.event.Event as E
+use Rattle.calls.proofs.event.Event.Laws as E′
 use Rattle.server.proofs.call.call.Code.Mir as part
-use Rattle.link.specs.declared.record.Link.{Link}
-use Rattle.services.specs.declared.datapoint.Datapoint.{Datapoint}
-use Rattle.services.specs.declared.item.Item.{Item}
-use Rattle.server.specs.declared.event.Event.{Event}
-use Rattle.server.specs.declared.event.Event.the-variants.{HostByte, IdleMark, AckWaitOver, Poll, BusValue, TransmissionOutcome}
-use Rattle.server.specs.declared.event.Outcome.{Outcome}
-use Rattle.server.specs.declared.reply.Reply.{Reply}
-use Rattle.server.specs.declared.reply.Reply.the-variants.{Refused, Accepted}
-use Rattle.link.proofs.Types.{sizeD, linkD}
-use Rattle.services.proofs.Types.{datapointD, itemD, byteD, idD}
-use Rattle.server.proofs.Types.{replyD, eventD}
+use Rattle.ft12.specs.declared.record.Link.{Link}
+use Rattle.baos.specs.declared.datapoint.Datapoint.{Datapoint}
+use Rattle.baos.specs.declared.item.Item.{Item}
+use Rattle.calls.specs.declared.event.Event.{Event}
+use Rattle.calls.specs.declared.event.Event.the-variants.{HostByte, IdleMark, AckWaitOver, Poll, BusValue, TransmissionOutcome}
+use Rattle.calls.specs.declared.event.Outcome.{Outcome}
+use Rattle.calls.specs.declared.reply.Reply.{Reply}
+use Rattle.calls.specs.declared.reply.Reply.the-variants.{Refused, Accepted}
+use Rattle.ft12.proofs.Types.{sizeD, linkD}
+use Rattle.baos.proofs.Types.{datapointD, itemD, byteD, idD}
+use Rattle.calls.proofs.Types.{replyD, eventD}
 use Rattle.server.proofs.refusal.refusal_of as refusal-of
 use Rattle.server.proofs.refusal.refusal_of.Symbol as refusal-of-def
 use Rattle.server.proofs.refusal.refusal_of.Symbol.{name as #server·refusal·refusal-of}

@@ -1,5 +1,5 @@
 use borrow.Author.Needs.{needs}
-use Rattle.server.specs.Event.{statusOf}
+use Rattle.calls.specs.Event.{statusOf}
 use Rattle.server.proofs.event.status_of.Statement.{statement}
 use Rattle.server.proofs.event.status_of.Tie as tie
 

@@ -1,12 +1,12 @@
 use mathlib.Core.Path.{refl}
-use Rattle.link.proofs.EventLaws.{put-none}
-use Rattle.server.specs.Promise.{acknowledgementOf}
+use Rattle.ft12.proofs.EventLaws.{put-none}
+use Rattle.calls.specs.Promise.{acknowledgementOf}
 use borrow.Author.Needs.{needs}
 use Rattle.server.proofs.host_byte.acknowledge.Statement.{statement}
 use Rattle.server.proofs.host_byte.acknowledge.Tie as tie
 use Rattle.server.proofs.host_byte.acknowledge.Reads as reads
 use Rattle.server.proofs.host_byte.acknowledge.Lts as lts
-use Rattle.link.proofs.frame.put_acknowledgement.Reads as put-acknowledgement-reads
+use Rattle.frames.proofs.frame.put_acknowledgement.Reads as put-acknowledgement-reads
 
 enum-told : tie.Need-enum-told
 enum-told c = search needs

@@ -1,4 +1,4 @@
-use Rattle.server.specs.Promise.{messageEnd}
+use Rattle.calls.specs.Promise.{messageEnd}
 use borrow.Author.Needs.{needs}
 use Rattle.server.proofs.host_byte.message_end.Statement.{statement}
 use Rattle.server.proofs.host_byte.message_end.Tie as tie

@@ -38,24 +38,24 @@ use denote.Triple.Walked.{needs}
 use borrow.Author.Tests.{eqb-false}
 use lib.Dec.{lit<}
 use denote.Enum.Laws as EL
-use Rattle.link.specs.declared.record.Link.{Link}
-use Rattle.link.specs.declared.rules.Heard.{Heard}
-use Rattle.link.specs.Words.{put}
-use Rattle.link.specs.Record.{lineOf, linkOf, inRange}
-use Rattle.link.specs.Rules.{Moved, heardAt, afterHostByte}
-use Rattle.link.proofs.Types.{byteD, sizeD, linkD, heardD}
-use Rattle.link.proofs.RequestLaws.{host-byte-range, idle-mark-range}
-use Rattle.services.specs.declared.datapoint.Datapoint.{Datapoint}
-use Rattle.services.specs.declared.item.Item.{Item}
-use Rattle.services.specs.Table.{wellFormed, tablesOf as tablesWith}
-use Rattle.services.specs.Message.{Served}
-use Rattle.services.proofs.Types.{datapointD, itemD}
-use Rattle.server.specs.declared.reply.Reply.the-variants.{Accepted}
-use Rattle.server.specs.Promise.{acknowledgementOf}
-use Rattle.server.proofs.reply.Reply as R
-use Rattle.server.proofs.reply.Reply.Laws as R′
-use Rattle.server.proofs.Types.{replyD}
-use Rattle.server.proofs.HostByteLaws.{no-request, taken-short, endAt, asks, carries, clearedLink, acknowledgedOut, answeredOut, readBack, takenBack, answered-room, carry-needs, request-bounds, request-answered}
+use Rattle.ft12.specs.declared.record.Link.{Link}
+use Rattle.ft12.specs.declared.rules.Heard.{Heard}
+use Rattle.words.specs.Words.{put}
+use Rattle.ft12.specs.Record.{lineOf, linkOf, inRange}
+use Rattle.ft12.specs.Rules.{Moved, heardAt, afterHostByte}
+use Rattle.ft12.proofs.Types.{byteD, sizeD, linkD, heardD}
+use Rattle.ft12.proofs.RequestLaws.{host-byte-range, idle-mark-range}
+use Rattle.baos.specs.declared.datapoint.Datapoint.{Datapoint}
+use Rattle.baos.specs.declared.item.Item.{Item}
+use Rattle.baos.specs.Table.{wellFormed, tablesOf as tablesWith}
+use Rattle.baos.specs.Message.{Served}
+use Rattle.baos.proofs.Types.{datapointD, itemD}
+use Rattle.calls.specs.declared.reply.Reply.the-variants.{Accepted}
+use Rattle.calls.specs.Promise.{acknowledgementOf}
+use Rattle.calls.proofs.reply.Reply as R
+use Rattle.calls.proofs.reply.Reply.Laws as R′
+use Rattle.calls.proofs.Types.{replyD}
+use Rattle.calls.proofs.HostByteLaws.{no-request, taken-short, endAt, asks, carries, clearedLink, acknowledgedOut, answeredOut, readBack, takenBack, answered-room, carry-needs, request-bounds, request-answered}
 use Rattle.server.proofs.MessageParts.{lends-message, message-back}
 use Rattle.link.proofs.rules.host_byte as host-byte
 use Rattle.link.proofs.rules.host_byte.Symbol as host-byte-def

@@ -38,24 +38,24 @@ use denote.Triple.Walked.{needs}
 use lib.Dec.{lit<}
 use denote.Struct.Laws as LL
 use denote.Enum.Laws as EL
-use Rattle.link.specs.declared.record.Link.{Link}
-use Rattle.link.specs.Words.{put}
-use Rattle.link.specs.Record.{lineOf, linkOf, inRange}
-use Rattle.link.specs.Rules.{Moved, onMessage}
-use Rattle.link.proofs.record.Link as L
-use Rattle.link.proofs.record.Link.Laws as L′
-use Rattle.link.proofs.Types.{byteD, sizeD, linkD}
-use Rattle.services.specs.declared.datapoint.Datapoint.{Datapoint}
-use Rattle.services.specs.Datapoint.{datapointId, datapointOk}
-use Rattle.services.specs.Table.{datapointsOnly, tableOk}
-use Rattle.services.specs.Message.{Served}
-use Rattle.services.specs.Indication.{indication}
-use Rattle.services.proofs.Types.{datapointD}
-use Rattle.server.specs.declared.reply.Reply.the-variants.{Accepted}
-use Rattle.server.proofs.reply.Reply as R
-use Rattle.server.proofs.reply.Reply.Laws as R′
-use Rattle.server.proofs.Types.{replyD}
-use Rattle.server.proofs.PollLaws.{poll-waits, poll-says}
+use Rattle.ft12.specs.declared.record.Link.{Link}
+use Rattle.words.specs.Words.{put}
+use Rattle.ft12.specs.Record.{lineOf, linkOf, inRange}
+use Rattle.ft12.specs.Rules.{Moved, onMessage}
+use Rattle.ft12.proofs.record.Link as L
+use Rattle.ft12.proofs.record.Link.Laws as L′
+use Rattle.ft12.proofs.Types.{byteD, sizeD, linkD}
+use Rattle.baos.specs.declared.datapoint.Datapoint.{Datapoint}
+use Rattle.baos.specs.Datapoint.{datapointId, datapointOk}
+use Rattle.baos.specs.Table.{datapointsOnly, tableOk}
+use Rattle.baos.specs.Message.{Served}
+use Rattle.baos.specs.Indication.{indication}
+use Rattle.baos.proofs.Types.{datapointD}
+use Rattle.calls.specs.declared.reply.Reply.the-variants.{Accepted}
+use Rattle.calls.proofs.reply.Reply as R
+use Rattle.calls.proofs.reply.Reply.Laws as R′
+use Rattle.calls.proofs.Types.{replyD}
+use Rattle.calls.proofs.PollLaws.{poll-waits, poll-says}
 use Rattle.services.proofs.indication.indicate as indicate
 use Rattle.services.proofs.indication.indicate.Symbol as indicate-def
 use Rattle.services.proofs.indication.indicate.Symbol.{name as #services·indication·indicate}

@@ -28,24 +28,24 @@ use denote.Triple.Spec.{tripleOf}
 use denote.Triple.Statement.{Contract, Triple}
 use denote.Triple.Table.{entered, cited}
 use lib.Dec.{lit<}
-use Rattle.link.specs.declared.record.Link.{Link}
-use Rattle.link.specs.Record.{inRange}
-use Rattle.link.proofs.Types.{byteD, sizeD, linkD}
-use Rattle.services.specs.declared.datapoint.Datapoint.{Datapoint}
-use Rattle.services.specs.declared.item.Item.{Item}
-use Rattle.services.specs.Datapoint.{datapointId, datapointOk}
-use Rattle.services.specs.Item.{itemId, itemOk}
-use Rattle.services.specs.Table.{tableOk}
-use Rattle.services.proofs.Types.{datapointD, itemD}
-use Rattle.server.proofs.RefusalLaws.{lent-datapoints, lent-items, lent-parameters, lent-link, lent-room, lent-none}
-use Rattle.services.proofs.table.datapoints_well_formed as datapoints-well-formed
-use Rattle.services.proofs.table.datapoints_well_formed.Symbol as datapoints-well-formed-def
-use Rattle.services.proofs.table.datapoints_well_formed.Symbol.{name as #services·table·datapoints-well-formed}
-use Rattle.services.proofs.table.datapoints_well_formed.Met as datapoints-well-formed-thm
-use Rattle.services.proofs.table.items_well_formed as items-well-formed
-use Rattle.services.proofs.table.items_well_formed.Symbol as items-well-formed-def
-use Rattle.services.proofs.table.items_well_formed.Symbol.{name as #services·table·items-well-formed}
-use Rattle.services.proofs.table.items_well_formed.Met as items-well-formed-thm
+use Rattle.ft12.specs.declared.record.Link.{Link}
+use Rattle.ft12.specs.Record.{inRange}
+use Rattle.ft12.proofs.Types.{byteD, sizeD, linkD}
+use Rattle.baos.specs.declared.datapoint.Datapoint.{Datapoint}
+use Rattle.baos.specs.declared.item.Item.{Item}
+use Rattle.baos.specs.Datapoint.{datapointId, datapointOk}
+use Rattle.baos.specs.Item.{itemId, itemOk}
+use Rattle.baos.specs.Table.{tableOk}
+use Rattle.baos.proofs.Types.{datapointD, itemD}
+use Rattle.calls.proofs.RefusalLaws.{lent-datapoints, lent-items, lent-parameters, lent-link, lent-room, lent-none}
+use Rattle.tables.proofs.table.datapoints_well_formed as datapoints-well-formed
+use Rattle.tables.proofs.table.datapoints_well_formed.Symbol as datapoints-well-formed-def
+use Rattle.tables.proofs.table.datapoints_well_formed.Symbol.{name as #tables·table·datapoints-well-formed}
+use Rattle.tables.proofs.table.datapoints_well_formed.Met as datapoints-well-formed-thm
+use Rattle.tables.proofs.table.items_well_formed as items-well-formed
+use Rattle.tables.proofs.table.items_well_formed.Symbol as items-well-formed-def
+use Rattle.tables.proofs.table.items_well_formed.Symbol.{name as #tables·table·items-well-formed}
+use Rattle.tables.proofs.table.items_well_formed.Met as items-well-formed-thm
 use Rattle.link.proofs.record.in_range as in-range
 use Rattle.link.proofs.record.in_range.Symbol as in-range-def
 use Rattle.link.proofs.record.in_range.Symbol.{name as #link·record·in-range}
@@ -68,7 +68,7 @@ abbrev C-in-range : {M : Type 1} (𝓤 : URA M) (H : Heap 𝓤) (A : Atoms 𝓤)
 C-in-range 𝓤 H A mem run = tripleOf 𝓤 H A in-range.signature (in-range.spec 𝓤 H A mem run)
 
 module _ {M : Type 1} (𝓤 : URA M) (H : Heap 𝓤) (A : Atoms 𝓤) (W : Given 𝓤 H A) (mem : Memory → SProp 𝓤) (run : Routine → Fun 𝓤) (𝓣 : Tables 𝓤 H)
-    (known-datapoints-well-formed : Triple 𝓤 (𝓣 .C #services·table·datapoints-well-formed) (C-datapoints-well-formed 𝓤 H A mem run)) (known-items-well-formed : Triple 𝓤 (𝓣 .C #services·table·items-well-formed) (C-items-well-formed 𝓤 H A mem run)) (known-in-range : Triple 𝓤 (𝓣 .C #link·record·in-range) (C-in-range 𝓤 H A mem run))
+    (known-datapoints-well-formed : Triple 𝓤 (𝓣 .C #tables·table·datapoints-well-formed) (C-datapoints-well-formed 𝓤 H A mem run)) (known-items-well-formed : Triple 𝓤 (𝓣 .C #tables·table·items-well-formed) (C-items-well-formed 𝓤 H A mem run)) (known-in-range : Triple 𝓤 (𝓣 .C #link·record·in-range) (C-in-range 𝓤 H A mem run))
     (κ0 κ1 κ2 κ3 : Lft) (q0 q1 q2 q3 : Share) (datapoints : RefT (List Datapoint)) (items : RefT (List Item)) (parameters : RefT (List ℕ)) (link : RefT Link) (places : ℕ) (datapoints-room : Room (datapointD .row) (length (datapoints .now))) (items-room : Room (itemD .row) (length (items .now))) (parameters-room : Room (byteD .row) (length (parameters .now))) (places-ok : Good sizeD places) where
   abbrev x : RefT (List Datapoint) × (RefT (List Item) × (RefT (List ℕ) × (RefT Link × (ℕ × Unit {0}))))
   x = (datapoints, (items, (parameters, (link, (places, tt)))))
@@ -161,7 +161,7 @@ refusal-of-spec 𝓤 H 𝓜 𝓖 𝓡 =
     entered 𝓤 H (tripleOf 𝓤 H (𝓖 .A) f.signature (f.spec 𝓤 H (𝓖 .A) (𝓜 .mem) (𝓡 .run)))
     (tables 𝓤 H 𝓜 𝓡 code.env .C) (tables 𝓤 H 𝓜 𝓡 code.env .Λ) #server·refusal·refusal-of code.function (code.unfolded 𝓤 H 𝓜 𝓡)
     (meets-by 4 𝓤 H (𝓖 .A) W ps byteD (f.clauses 𝓤 H (𝓖 .A) (𝓜 .mem) (𝓡 .run)) 𝓣 code.function (λ κs qs a _ are. via 𝓤 _ (fst∗ 𝓤 _ (emp 𝓤)) (walk 𝓤 H (𝓖 .A) W (𝓜 .mem) (𝓡 .run) 𝓣
-    (cited 𝓤 H (C-datapoints-well-formed 𝓤 H (𝓖 .A) (𝓜 .mem) (𝓡 .run)) 𝓜 𝓡 code.env #services·table·datapoints-well-formed datapoints-well-formed-def.routine code.calls-services·table·datapoints-well-formed (datapoints-well-formed-thm.met 𝓤 H 𝓜 𝓖 𝓡))
-    (cited 𝓤 H (C-items-well-formed 𝓤 H (𝓖 .A) (𝓜 .mem) (𝓡 .run)) 𝓜 𝓡 code.env #services·table·items-well-formed items-well-formed-def.routine code.calls-services·table·items-well-formed (items-well-formed-thm.met 𝓤 H 𝓜 𝓖 𝓡))
+    (cited 𝓤 H (C-datapoints-well-formed 𝓤 H (𝓖 .A) (𝓜 .mem) (𝓡 .run)) 𝓜 𝓡 code.env #tables·table·datapoints-well-formed datapoints-well-formed-def.routine code.calls-tables·table·datapoints-well-formed (datapoints-well-formed-thm.met 𝓤 H 𝓜 𝓖 𝓡))
+    (cited 𝓤 H (C-items-well-formed 𝓤 H (𝓖 .A) (𝓜 .mem) (𝓡 .run)) 𝓜 𝓡 code.env #tables·table·items-well-formed items-well-formed-def.routine code.calls-tables·table·items-well-formed (items-well-formed-thm.met 𝓤 H 𝓜 𝓖 𝓡))
     (cited 𝓤 H (C-in-range 𝓤 H (𝓖 .A) (𝓜 .mem) (𝓡 .run)) 𝓜 𝓡 code.env #link·record·in-range in-range-def.routine code.calls-link·record·in-range (in-range-thm.met 𝓤 H 𝓜 𝓖 𝓡))
     (κs .0) (κs .1 .0) (κs .1 .1 .0) (κs .1 .1 .1 .0) (qs .0) (qs .1 .0) (qs .1 .1 .0) (qs .1 .1 .1 .0) (a .0) (a .1 .0) (a .1 .1 .0) (a .1 .1 .1 .0) (a .1 .1 .1 .1 .0) (are .0 .0 .1) (are .1 .0 .0 .1) (are .1 .1 .0 .0 .1) (are .1 .1 .1 .1 .0))))

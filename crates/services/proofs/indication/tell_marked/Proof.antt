@@ -39,27 +39,27 @@ use denote.Triple.Spec.{tripleOf}
 use denote.Triple.Statement.{Triple}
 use denote.Triple.Table.{entered, cited}
 use denote.Triple.Walked.{needs}
-use Rattle.link.specs.Words.{put}
-use Rattle.services.specs.declared.datapoint.Datapoint.{Datapoint}
-use Rattle.services.specs.declared.indication.Told.{Told}
-use Rattle.services.specs.Datapoint.{datapointId, datapointOk, withMark, handedOut, zeroDatapoint}
-use Rattle.services.specs.Get.{valueEntry}
-use Rattle.services.specs.Indication.{needs as needsOf}
-use Rattle.services.specs.Table.{tableOk}
-use Rattle.services.proofs.Types.{datapointD, toldD, told-good, byteD, placeD, datapoint-offset-fits, fits-next}
-use Rattle.services.proofs.IndicationLaws.{Telling, Finished, telling-begins, telling-done, telling-code, telling-waits, telling-other, telling-room, telling-next}
+use Rattle.words.specs.Words.{put}
+use Rattle.baos.specs.declared.datapoint.Datapoint.{Datapoint}
+use Rattle.baos.specs.declared.inner.Told.{Told}
+use Rattle.baos.specs.Datapoint.{datapointId, datapointOk, withMark, handedOut, zeroDatapoint}
+use Rattle.baos.specs.Get.{valueEntry}
+use Rattle.baos.specs.Indication.{needs as needsOf}
+use Rattle.baos.specs.Table.{tableOk}
+use Rattle.baos.proofs.Types.{datapointD, toldD, told-good, byteD, placeD, datapoint-offset-fits, fits-next}
+use Rattle.baos.proofs.IndicationLaws.{Telling, Finished, telling-begins, telling-done, telling-code, telling-waits, telling-other, telling-room, telling-next}
 use Rattle.services.proofs.indication.waits as waits
 use Rattle.services.proofs.indication.waits.Symbol as waits-def
 use Rattle.services.proofs.indication.waits.Symbol.{name as #services·indication·waits}
 use Rattle.services.proofs.indication.waits.Met as waits-thm
-use Rattle.services.proofs.datapoint.put_value as put-value
-use Rattle.services.proofs.datapoint.put_value.Symbol as put-value-def
-use Rattle.services.proofs.datapoint.put_value.Symbol.{name as #services·datapoint·put-value}
-use Rattle.services.proofs.datapoint.put_value.Met as put-value-thm
-use Rattle.services.proofs.datapoint.reported as reported
-use Rattle.services.proofs.datapoint.reported.Symbol as reported-def
-use Rattle.services.proofs.datapoint.reported.Symbol.{name as #services·datapoint·reported}
-use Rattle.services.proofs.datapoint.reported.Met as reported-thm
+use Rattle.records.proofs.datapoint.put_value as put-value
+use Rattle.records.proofs.datapoint.put_value.Symbol as put-value-def
+use Rattle.records.proofs.datapoint.put_value.Symbol.{name as #records·datapoint·put-value}
+use Rattle.records.proofs.datapoint.put_value.Met as put-value-thm
+use Rattle.records.proofs.datapoint.reported as reported
+use Rattle.records.proofs.datapoint.reported.Symbol as reported-def
+use Rattle.records.proofs.datapoint.reported.Symbol.{name as #records·datapoint·reported}
+use Rattle.records.proofs.datapoint.reported.Met as reported-thm
 use Rattle.services.proofs.indication.tell_marked.Key.{name as #services·indication·tell-marked}
 use Rattle.services.proofs.indication.tell_marked as f
 use Rattle.services.proofs.indication.tell_marked.Statement as stated
@@ -75,8 +75,8 @@ loc j = 40 - 2 * j
 
 record Known {M : Type 1} (𝓤 : URA M) (H : Heap 𝓤) (A : Atoms 𝓤) (mem : Memory → SProp 𝓤) (run : Routine → Fun 𝓤) (C : Calls 𝓤 H) : Type 1 where
   pub waits : Triple 𝓤 (C #services·indication·waits) (tripleOf 𝓤 H A waits.signature (waits.spec 𝓤 H A mem run))
-  pub put-value : Triple 𝓤 (C #services·datapoint·put-value) (tripleOf 𝓤 H A put-value.signature (put-value.spec 𝓤 H A mem run))
-  pub reported : Triple 𝓤 (C #services·datapoint·reported) (tripleOf 𝓤 H A reported.signature (reported.spec 𝓤 H A mem run))
+  pub put-value : Triple 𝓤 (C #records·datapoint·put-value) (tripleOf 𝓤 H A put-value.signature (put-value.spec 𝓤 H A mem run))
+  pub reported : Triple 𝓤 (C #records·datapoint·reported) (tripleOf 𝓤 H A reported.signature (reported.spec 𝓤 H A mem run))
 
 module _ {M : Type 1} (𝓤 : URA M) (H : Heap 𝓤) (A : Atoms 𝓤) (W : Given 𝓤 H A) (mem : Memory → SProp 𝓤) (run : Routine → Fun 𝓤) (𝓣 : Tables 𝓤 H) (known : Known 𝓤 H A mem run (𝓣 .C))
     (κ κ′ : Lft) (q q′ : Share) (p : RefT (List Datapoint)) (p′ : RefT (List ℕ)) (at : ℕ) (gn : Room (datapointD .row) (length (p .now))) (gm : Room (byteD .row) (length (p′ .now))) (at-ok : Good placeD at)
@@ -281,7 +281,7 @@ tell-marked-spec 𝓤 H 𝓜 𝓖 𝓡 =
     (meets-by 2 𝓤 H (𝓖 .A) W ps toldD (f.clauses 𝓤 H (𝓖 .A) (𝓜 .mem) (𝓡 .run)) 𝓣 code.function (λ κs qs a _ are. needs 𝓤 _ _ (λ ok. walk 𝓤 H (𝓖 .A) W (𝓜 .mem) (𝓡 .run) 𝓣
     record {
       waits = cited 𝓤 H (tripleOf 𝓤 H (𝓖 .A) waits.signature (waits.spec 𝓤 H (𝓖 .A) (𝓜 .mem) (𝓡 .run))) 𝓜 𝓡 code.env #services·indication·waits waits-def.routine code.calls-services·indication·waits (waits-thm.met 𝓤 H 𝓜 𝓖 𝓡);
-      put-value = cited 𝓤 H (tripleOf 𝓤 H (𝓖 .A) put-value.signature (put-value.spec 𝓤 H (𝓖 .A) (𝓜 .mem) (𝓡 .run))) 𝓜 𝓡 code.env #services·datapoint·put-value put-value-def.routine code.calls-services·datapoint·put-value (put-value-thm.met 𝓤 H 𝓜 𝓖 𝓡);
-      reported = cited 𝓤 H (tripleOf 𝓤 H (𝓖 .A) reported.signature (reported.spec 𝓤 H (𝓖 .A) (𝓜 .mem) (𝓡 .run))) 𝓜 𝓡 code.env #services·datapoint·reported reported-def.routine code.calls-services·datapoint·reported (reported-thm.met 𝓤 H 𝓜 𝓖 𝓡);
+      put-value = cited 𝓤 H (tripleOf 𝓤 H (𝓖 .A) put-value.signature (put-value.spec 𝓤 H (𝓖 .A) (𝓜 .mem) (𝓡 .run))) 𝓜 𝓡 code.env #records·datapoint·put-value put-value-def.routine code.calls-records·datapoint·put-value (put-value-thm.met 𝓤 H 𝓜 𝓖 𝓡);
+      reported = cited 𝓤 H (tripleOf 𝓤 H (𝓖 .A) reported.signature (reported.spec 𝓤 H (𝓖 .A) (𝓜 .mem) (𝓡 .run))) 𝓜 𝓡 code.env #records·datapoint·reported reported-def.routine code.calls-records·datapoint·reported (reported-thm.met 𝓤 H 𝓜 𝓖 𝓡);
     }
     (κs .0) (κs .1 .0) (qs .0) (qs .1 .0) (a .0) (a .1 .0) (a .1 .1 .0) (are .0 .0 .1) (are .1 .0 .0 .1) (are .1 .1 .0) (ok .0) (ok .1))))

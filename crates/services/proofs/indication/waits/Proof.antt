@@ -3,9 +3,9 @@ use Prim.Native.Nat.{_-_}
 use native.Mathlib.Omega.{arith}
 use lib.ListN.{length}
 use borrow.Author.Needs.{needs}
-use Rattle.services.proofs.DatapointLaws.{size-fits}
-use Rattle.services.proofs.IndicationLaws.{waits-is}
-use Rattle.services.proofs.datapoint.size_of.Reads as size-of-reads
+use Rattle.baos.proofs.DatapointLaws.{size-fits}
+use Rattle.baos.proofs.IndicationLaws.{waits-is}
+use Rattle.records.proofs.datapoint.size_of.Reads as size-of-reads
 use Rattle.services.proofs.indication.waits.Statement.{statement}
 use Rattle.services.proofs.indication.waits.Tie as tie
 

@@ -33,56 +33,56 @@ use denote.Triple.Spec.{tripleOf}
 use denote.Triple.Statement.{Contract, Triple}
 use denote.Triple.Table.{entered, cited}
 use denote.Triple.Walked.{needs}
-use Rattle.link.specs.Words.{put}
-use Rattle.services.specs.declared.datapoint.Datapoint.{Datapoint}
-use Rattle.services.specs.declared.item.Item.{Item}
-use Rattle.services.specs.Table.{datapointsOnly, itemsOnly, parametersOnly, tableOk}
-use Rattle.services.specs.Datapoint.{datapointId, datapointOk}
-use Rattle.services.specs.Item.{itemId, itemOk}
-use Rattle.services.specs.Message.{subService, startOf, coded}
-use Rattle.services.specs.Get.{getServerItem, getParameterByte}
-use Rattle.services.specs.Set.{setServerItem, setDatapointValue}
-use Rattle.services.specs.Gather.{getDatapoints}
-use Rattle.services.specs.Service.{unanswered}
-use Rattle.services.proofs.Types.{datapointD, itemD, byteD, idD, placeD}
+use Rattle.words.specs.Words.{put}
+use Rattle.baos.specs.declared.datapoint.Datapoint.{Datapoint}
+use Rattle.baos.specs.declared.item.Item.{Item}
+use Rattle.baos.specs.Table.{datapointsOnly, itemsOnly, parametersOnly, tableOk}
+use Rattle.baos.specs.Datapoint.{datapointId, datapointOk}
+use Rattle.baos.specs.Item.{itemId, itemOk}
+use Rattle.baos.specs.Message.{subService, startOf, coded}
+use Rattle.baos.specs.Get.{getServerItem, getParameterByte}
+use Rattle.baos.specs.Set.{setServerItem, setDatapointValue}
+use Rattle.baos.specs.Inner.Gather.{getDatapoints}
+use Rattle.baos.specs.Service.{unanswered}
+use Rattle.baos.proofs.Types.{datapointD, itemD, byteD, idD, placeD}
 use lib.Dec.{lit<}
-use Rattle.services.proofs.CarryJoins.{carry-nothing, carry-long, carry-sub, carry-get-items, carry-set-items, carry-descriptions, carry-values, carry-set-values, carry-parameters, carry-unknown}
+use Rattle.baos.proofs.CarryJoins.{carry-nothing, carry-long, carry-sub, carry-get-items, carry-set-items, carry-descriptions, carry-values, carry-set-values, carry-parameters, carry-unknown}
 use Rattle.services.proofs.service.is_unanswered as is-unanswered
 use Rattle.services.proofs.service.is_unanswered.Symbol as is-unanswered-def
 use Rattle.services.proofs.service.is_unanswered.Symbol.{name as #services·service·is-unanswered}
 use Rattle.services.proofs.service.is_unanswered.Met as is-unanswered-thm
-use Rattle.services.proofs.message.sub_service_of as sub-service-of
-use Rattle.services.proofs.message.sub_service_of.Symbol as sub-service-of-def
-use Rattle.services.proofs.message.sub_service_of.Symbol.{name as #services·message·sub-service-of}
-use Rattle.services.proofs.message.sub_service_of.Met as sub-service-of-thm
-use Rattle.services.proofs.get.get_items as get-items
-use Rattle.services.proofs.get.get_items.Symbol as get-items-def
-use Rattle.services.proofs.get.get_items.Symbol.{name as #services·get·get-items}
-use Rattle.services.proofs.get.get_items.Met as get-items-thm
-use Rattle.services.proofs.set.set_items as set-items
-use Rattle.services.proofs.set.set_items.Symbol as set-items-def
-use Rattle.services.proofs.set.set_items.Symbol.{name as #services·set·set-items}
-use Rattle.services.proofs.set.set_items.Met as set-items-thm
-use Rattle.services.proofs.get.get_datapoints as get-datapoints
-use Rattle.services.proofs.get.get_datapoints.Symbol as get-datapoints-def
-use Rattle.services.proofs.get.get_datapoints.Symbol.{name as #services·get·get-datapoints}
-use Rattle.services.proofs.get.get_datapoints.Met as get-datapoints-thm
-use Rattle.services.proofs.set.set_datapoints as set-datapoints
-use Rattle.services.proofs.set.set_datapoints.Symbol as set-datapoints-def
-use Rattle.services.proofs.set.set_datapoints.Symbol.{name as #services·set·set-datapoints}
-use Rattle.services.proofs.set.set_datapoints.Met as set-datapoints-thm
-use Rattle.services.proofs.get.get_parameters as get-parameters
-use Rattle.services.proofs.get.get_parameters.Symbol as get-parameters-def
-use Rattle.services.proofs.get.get_parameters.Symbol.{name as #services·get·get-parameters}
-use Rattle.services.proofs.get.get_parameters.Met as get-parameters-thm
-use Rattle.services.proofs.message.start_of as start-of
-use Rattle.services.proofs.message.start_of.Symbol as start-of-def
-use Rattle.services.proofs.message.start_of.Symbol.{name as #services·message·start-of}
-use Rattle.services.proofs.message.start_of.Met as start-of-thm
-use Rattle.services.proofs.message.put_coded as put-coded
-use Rattle.services.proofs.message.put_coded.Symbol as put-coded-def
-use Rattle.services.proofs.message.put_coded.Symbol.{name as #services·message·put-coded}
-use Rattle.services.proofs.message.put_coded.Met as put-coded-thm
+use Rattle.messages.proofs.message.sub_service_of as sub-service-of
+use Rattle.messages.proofs.message.sub_service_of.Symbol as sub-service-of-def
+use Rattle.messages.proofs.message.sub_service_of.Symbol.{name as #messages·message·sub-service-of}
+use Rattle.messages.proofs.message.sub_service_of.Met as sub-service-of-thm
+use Rattle.gets.proofs.get.get_items as get-items
+use Rattle.gets.proofs.get.get_items.Symbol as get-items-def
+use Rattle.gets.proofs.get.get_items.Symbol.{name as #gets·get·get-items}
+use Rattle.gets.proofs.get.get_items.Met as get-items-thm
+use Rattle.sets.proofs.set.set_items as set-items
+use Rattle.sets.proofs.set.set_items.Symbol as set-items-def
+use Rattle.sets.proofs.set.set_items.Symbol.{name as #sets·set·set-items}
+use Rattle.sets.proofs.set.set_items.Met as set-items-thm
+use Rattle.gets.proofs.get.get_datapoints as get-datapoints
+use Rattle.gets.proofs.get.get_datapoints.Symbol as get-datapoints-def
+use Rattle.gets.proofs.get.get_datapoints.Symbol.{name as #gets·get·get-datapoints}
+use Rattle.gets.proofs.get.get_datapoints.Met as get-datapoints-thm
+use Rattle.sets.proofs.set.set_datapoints as set-datapoints
+use Rattle.sets.proofs.set.set_datapoints.Symbol as set-datapoints-def
+use Rattle.sets.proofs.set.set_datapoints.Symbol.{name as #sets·set·set-datapoints}
+use Rattle.sets.proofs.set.set_datapoints.Met as set-datapoints-thm
+use Rattle.gets.proofs.get.get_parameters as get-parameters
+use Rattle.gets.proofs.get.get_parameters.Symbol as get-parameters-def
+use Rattle.gets.proofs.get.get_parameters.Symbol.{name as #gets·get·get-parameters}
+use Rattle.gets.proofs.get.get_parameters.Met as get-parameters-thm
+use Rattle.messages.proofs.message.start_of as start-of
+use Rattle.messages.proofs.message.start_of.Symbol as start-of-def
+use Rattle.messages.proofs.message.start_of.Symbol.{name as #messages·message·start-of}
+use Rattle.messages.proofs.message.start_of.Met as start-of-thm
+use Rattle.messages.proofs.message.put_coded as put-coded
+use Rattle.messages.proofs.message.put_coded.Symbol as put-coded-def
+use Rattle.messages.proofs.message.put_coded.Symbol.{name as #messages·message·put-coded}
+use Rattle.messages.proofs.message.put_coded.Met as put-coded-thm
 use Rattle.services.proofs.service.carry_out.Key.{name as #services·service·carry-out}
 use Rattle.services.proofs.service.carry_out as f
 use Rattle.services.proofs.service.carry_out.Statement as stated
@@ -119,7 +119,7 @@ abbrev C-put-coded : {M : Type 1} (𝓤 : URA M) (H : Heap 𝓤) (A : Atoms 𝓤
 C-put-coded 𝓤 H A mem run = tripleOf 𝓤 H A put-coded.signature (put-coded.spec 𝓤 H A mem run)
 
 module _ {M : Type 1} (𝓤 : URA M) (H : Heap 𝓤) (A : Atoms 𝓤) (W : Given 𝓤 H A) (mem : Memory → SProp 𝓤) (run : Routine → Fun 𝓤) (𝓣 : Tables 𝓤 H)
-    (known-is-unanswered : Triple 𝓤 (𝓣 .C #services·service·is-unanswered) (C-is-unanswered 𝓤 H A mem run)) (known-sub-service-of : Triple 𝓤 (𝓣 .C #services·message·sub-service-of) (C-sub-service-of 𝓤 H A mem run)) (known-get-items : Triple 𝓤 (𝓣 .C #services·get·get-items) (C-get-items 𝓤 H A mem run)) (known-set-items : Triple 𝓤 (𝓣 .C #services·set·set-items) (C-set-items 𝓤 H A mem run)) (known-get-datapoints : Triple 𝓤 (𝓣 .C #services·get·get-datapoints) (C-get-datapoints 𝓤 H A mem run)) (known-set-datapoints : Triple 𝓤 (𝓣 .C #services·set·set-datapoints) (C-set-datapoints 𝓤 H A mem run)) (known-get-parameters : Triple 𝓤 (𝓣 .C #services·get·get-parameters) (C-get-parameters 𝓤 H A mem run)) (known-start-of : Triple 𝓤 (𝓣 .C #services·message·start-of) (C-start-of 𝓤 H A mem run)) (known-put-coded : Triple 𝓤 (𝓣 .C #services·message·put-coded) (C-put-coded 𝓤 H A mem run))
+    (known-is-unanswered : Triple 𝓤 (𝓣 .C #services·service·is-unanswered) (C-is-unanswered 𝓤 H A mem run)) (known-sub-service-of : Triple 𝓤 (𝓣 .C #messages·message·sub-service-of) (C-sub-service-of 𝓤 H A mem run)) (known-get-items : Triple 𝓤 (𝓣 .C #gets·get·get-items) (C-get-items 𝓤 H A mem run)) (known-set-items : Triple 𝓤 (𝓣 .C #sets·set·set-items) (C-set-items 𝓤 H A mem run)) (known-get-datapoints : Triple 𝓤 (𝓣 .C #gets·get·get-datapoints) (C-get-datapoints 𝓤 H A mem run)) (known-set-datapoints : Triple 𝓤 (𝓣 .C #sets·set·set-datapoints) (C-set-datapoints 𝓤 H A mem run)) (known-get-parameters : Triple 𝓤 (𝓣 .C #gets·get·get-parameters) (C-get-parameters 𝓤 H A mem run)) (known-start-of : Triple 𝓤 (𝓣 .C #messages·message·start-of) (C-start-of 𝓤 H A mem run)) (known-put-coded : Triple 𝓤 (𝓣 .C #messages·message·put-coded) (C-put-coded 𝓤 H A mem run))
     (κ0 κ1 κ2 κ3 κ4 : Lft) (q0 q1 q2 q3 q4 : Share) (datapoints : RefT (List Datapoint)) (items : RefT (List Item)) (parameters : RefT (List ℕ)) (m : RefT (List ℕ)) (out : RefT (List ℕ)) (at : ℕ) (datapoints-room : Room (datapointD .row) (length (datapoints .now))) (items-room : Room (itemD .row) (length (items .now))) (parameters-room : Room (byteD .row) (length (parameters .now))) (m-room : Room (byteD .row) (length (m .now))) (out-room : Room (byteD .row) (length (out .now))) (at-ok : Good placeD at) (ok : (tableOk 1000 datapointId datapointOk (datapoints .now) ≡ true) × (tableOk 64 itemId itemOk (items .now) ≡ true) × (length (parameters .now) ≤ 255) × (at + 254 ≤ length (out .now)) × (length (m .now) ≤ 254)) where
   abbrev x : RefT (List Datapoint) × (RefT (List Item) × (RefT (List ℕ) × (RefT (List ℕ) × (RefT (List ℕ) × (ℕ × Unit {0})))))
   x = (datapoints, (items, (parameters, (m, (out, (at, tt))))))
@@ -335,12 +335,12 @@ carry-out-spec 𝓤 H 𝓜 𝓖 𝓡 =
     (tables 𝓤 H 𝓜 𝓡 code.env .C) (tables 𝓤 H 𝓜 𝓡 code.env .Λ) #services·service·carry-out code.function (code.unfolded 𝓤 H 𝓜 𝓡)
     (meets-by 5 𝓤 H (𝓖 .A) W ps placeD (f.clauses 𝓤 H (𝓖 .A) (𝓜 .mem) (𝓡 .run)) 𝓣 code.function (λ κs qs a _ are. needs 𝓤 _ _ (λ ok. walk 𝓤 H (𝓖 .A) W (𝓜 .mem) (𝓡 .run) 𝓣
     (cited 𝓤 H (C-is-unanswered 𝓤 H (𝓖 .A) (𝓜 .mem) (𝓡 .run)) 𝓜 𝓡 code.env #services·service·is-unanswered is-unanswered-def.routine code.calls-services·service·is-unanswered (is-unanswered-thm.met 𝓤 H 𝓜 𝓖 𝓡))
-    (cited 𝓤 H (C-sub-service-of 𝓤 H (𝓖 .A) (𝓜 .mem) (𝓡 .run)) 𝓜 𝓡 code.env #services·message·sub-service-of sub-service-of-def.routine code.calls-services·message·sub-service-of (sub-service-of-thm.met 𝓤 H 𝓜 𝓖 𝓡))
-    (cited 𝓤 H (C-get-items 𝓤 H (𝓖 .A) (𝓜 .mem) (𝓡 .run)) 𝓜 𝓡 code.env #services·get·get-items get-items-def.routine code.calls-services·get·get-items (get-items-thm.met 𝓤 H 𝓜 𝓖 𝓡))
-    (cited 𝓤 H (C-set-items 𝓤 H (𝓖 .A) (𝓜 .mem) (𝓡 .run)) 𝓜 𝓡 code.env #services·set·set-items set-items-def.routine code.calls-services·set·set-items (set-items-thm.met 𝓤 H 𝓜 𝓖 𝓡))
-    (cited 𝓤 H (C-get-datapoints 𝓤 H (𝓖 .A) (𝓜 .mem) (𝓡 .run)) 𝓜 𝓡 code.env #services·get·get-datapoints get-datapoints-def.routine code.calls-services·get·get-datapoints (get-datapoints-thm.met 𝓤 H 𝓜 𝓖 𝓡))
-    (cited 𝓤 H (C-set-datapoints 𝓤 H (𝓖 .A) (𝓜 .mem) (𝓡 .run)) 𝓜 𝓡 code.env #services·set·set-datapoints set-datapoints-def.routine code.calls-services·set·set-datapoints (set-datapoints-thm.met 𝓤 H 𝓜 𝓖 𝓡))
-    (cited 𝓤 H (C-get-parameters 𝓤 H (𝓖 .A) (𝓜 .mem) (𝓡 .run)) 𝓜 𝓡 code.env #services·get·get-parameters get-parameters-def.routine code.calls-services·get·get-parameters (get-parameters-thm.met 𝓤 H 𝓜 𝓖 𝓡))
-    (cited 𝓤 H (C-start-of 𝓤 H (𝓖 .A) (𝓜 .mem) (𝓡 .run)) 𝓜 𝓡 code.env #services·message·start-of start-of-def.routine code.calls-services·message·start-of (start-of-thm.met 𝓤 H 𝓜 𝓖 𝓡))
-    (cited 𝓤 H (C-put-coded 𝓤 H (𝓖 .A) (𝓜 .mem) (𝓡 .run)) 𝓜 𝓡 code.env #services·message·put-coded put-coded-def.routine code.calls-services·message·put-coded (put-coded-thm.met 𝓤 H 𝓜 𝓖 𝓡))
+    (cited 𝓤 H (C-sub-service-of 𝓤 H (𝓖 .A) (𝓜 .mem) (𝓡 .run)) 𝓜 𝓡 code.env #messages·message·sub-service-of sub-service-of-def.routine code.calls-messages·message·sub-service-of (sub-service-of-thm.met 𝓤 H 𝓜 𝓖 𝓡))
+    (cited 𝓤 H (C-get-items 𝓤 H (𝓖 .A) (𝓜 .mem) (𝓡 .run)) 𝓜 𝓡 code.env #gets·get·get-items get-items-def.routine code.calls-gets·get·get-items (get-items-thm.met 𝓤 H 𝓜 𝓖 𝓡))
+    (cited 𝓤 H (C-set-items 𝓤 H (𝓖 .A) (𝓜 .mem) (𝓡 .run)) 𝓜 𝓡 code.env #sets·set·set-items set-items-def.routine code.calls-sets·set·set-items (set-items-thm.met 𝓤 H 𝓜 𝓖 𝓡))
+    (cited 𝓤 H (C-get-datapoints 𝓤 H (𝓖 .A) (𝓜 .mem) (𝓡 .run)) 𝓜 𝓡 code.env #gets·get·get-datapoints get-datapoints-def.routine code.calls-gets·get·get-datapoints (get-datapoints-thm.met 𝓤 H 𝓜 𝓖 𝓡))
+    (cited 𝓤 H (C-set-datapoints 𝓤 H (𝓖 .A) (𝓜 .mem) (𝓡 .run)) 𝓜 𝓡 code.env #sets·set·set-datapoints set-datapoints-def.routine code.calls-sets·set·set-datapoints (set-datapoints-thm.met 𝓤 H 𝓜 𝓖 𝓡))
+    (cited 𝓤 H (C-get-parameters 𝓤 H (𝓖 .A) (𝓜 .mem) (𝓡 .run)) 𝓜 𝓡 code.env #gets·get·get-parameters get-parameters-def.routine code.calls-gets·get·get-parameters (get-parameters-thm.met 𝓤 H 𝓜 𝓖 𝓡))
+    (cited 𝓤 H (C-start-of 𝓤 H (𝓖 .A) (𝓜 .mem) (𝓡 .run)) 𝓜 𝓡 code.env #messages·message·start-of start-of-def.routine code.calls-messages·message·start-of (start-of-thm.met 𝓤 H 𝓜 𝓖 𝓡))
+    (cited 𝓤 H (C-put-coded 𝓤 H (𝓖 .A) (𝓜 .mem) (𝓡 .run)) 𝓜 𝓡 code.env #messages·message·put-coded put-coded-def.routine code.calls-messages·message·put-coded (put-coded-thm.met 𝓤 H 𝓜 𝓖 𝓡))
     (κs .0) (κs .1 .0) (κs .1 .1 .0) (κs .1 .1 .1 .0) (κs .1 .1 .1 .1 .0) (qs .0) (qs .1 .0) (qs .1 .1 .0) (qs .1 .1 .1 .0) (qs .1 .1 .1 .1 .0) (a .0) (a .1 .0) (a .1 .1 .0) (a .1 .1 .1 .0) (a .1 .1 .1 .1 .0) (a .1 .1 .1 .1 .1 .0) (are .0 .0 .1) (are .1 .0 .0 .1) (are .1 .1 .0 .0 .1) (are .1 .1 .1 .0 .0 .1) (are .1 .1 .1 .1 .0 .0 .1) (are .1 .1 .1 .1 .1 .0) ok)))

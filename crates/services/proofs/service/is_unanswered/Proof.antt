@@ -2,8 +2,8 @@ use native.Mathlib.Omega.{arith}
 use lib.ListN.{length, getD}
 use borrow.Author.Needs.{needs}
 use borrow.Author.Tests.{lt-ltb, le-ltb, eq-eqb, ne-eqb}
-use Rattle.services.specs.Message.{mainService, subService}
-use Rattle.services.specs.Service.{unanswered}
+use Rattle.baos.specs.Message.{mainService, subService}
+use Rattle.baos.specs.Service.{unanswered}
 use Rattle.services.proofs.service.is_unanswered.Statement.{statement}
 use Rattle.services.proofs.service.is_unanswered.Tie as tie
 

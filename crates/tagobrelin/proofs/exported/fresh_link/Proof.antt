@@ -1,7 +1,7 @@
 -- By computing.
 use mathlib.Core.Path.{refl}
-use Rattle.link.specs.Record.{linkOf}
-use Rattle.tagobrelin.specs.Exported.{freshLine}
+use Rattle.ft12.specs.Record.{linkOf}
+use Rattle.calls.specs.Exported.{freshLine}
 use Rattle.tagobrelin.proofs.exported.fresh_link.Statement.{statement}
 use Rattle.tagobrelin.proofs.exported.fresh_link.Tie as tie
 

@@ -41,22 +41,22 @@ use denote.Triple.Statement.{Contract, Triple}
 use denote.Triple.Table.{entered, cited}
 use denote.Triple.Walked.{needs}
 use lib.IntN.{ℤ}
-use Rattle.link.specs.declared.record.Link.{Link}
-use Rattle.link.specs.Record.{linkOf}
-use Rattle.link.proofs.Types.{linkD}
-use Rattle.services.specs.declared.datapoint.Datapoint.{Datapoint}
-use Rattle.services.specs.declared.item.Item.{Item}
-use Rattle.services.specs.Table.{Tables as ServerTables, tablesOf as tables-of}
-use Rattle.services.proofs.Types.{datapointD, itemD, byteD, idD}
+use Rattle.ft12.specs.declared.record.Link.{Link}
+use Rattle.ft12.specs.Record.{linkOf}
+use Rattle.ft12.proofs.Types.{linkD}
+use Rattle.baos.specs.declared.datapoint.Datapoint.{Datapoint}
+use Rattle.baos.specs.declared.item.Item.{Item}
+use Rattle.baos.specs.Table.{Tables as ServerTables, tablesOf as tables-of}
+use Rattle.baos.proofs.Types.{datapointD, itemD, byteD, idD}
 use lib.Dec.{lit<}
 use types.Run.{neg-lit}
-use Rattle.server.specs.declared.event.Event.{Event}
-use Rattle.server.specs.Call.{Called, call as called}
-use Rattle.server.proofs.CallLaws.{reply-told}
-use Rattle.server.proofs.Types.{eventD, replyD}
-use Rattle.tagobrelin.specs.Numbers.{isEvent, eventOf, numberOf, noEvent}
+use Rattle.calls.specs.declared.event.Event.{Event}
+use Rattle.calls.specs.Call.{Called, call as called}
+use Rattle.calls.proofs.CallLaws.{reply-told}
+use Rattle.calls.proofs.Types.{eventD, replyD}
+use Rattle.calls.specs.Numbers.{isEvent, eventOf, numberOf, noEvent}
 use Rattle.tagobrelin.proofs.Numbered.{numberD}
-use Rattle.tagobrelin.proofs.ExportedLaws.{no-event, an-event, count-fits}
+use Rattle.calls.proofs.ExportedLaws.{no-event, an-event, count-fits}
 use Rattle.tagobrelin.proofs.numbers.is_event as is-event
 use Rattle.tagobrelin.proofs.numbers.is_event.Symbol as is-event-def
 use Rattle.tagobrelin.proofs.numbers.is_event.Symbol.{name as #tagobrelin·numbers·is-event}

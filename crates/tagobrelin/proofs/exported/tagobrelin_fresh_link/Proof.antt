@@ -39,14 +39,14 @@ use denote.Triple.Statement.{Contract, Triple}
 use denote.Triple.Table.{entered, cited}
 use denote.Triple.Walked.{needs}
 use lib.IntN.{ℤ}
-use Rattle.link.specs.declared.record.Link.{Link}
-use Rattle.link.specs.Record.{linkOf}
-use Rattle.link.proofs.Types.{linkD}
-use Rattle.services.specs.declared.datapoint.Datapoint.{Datapoint}
-use Rattle.services.specs.declared.item.Item.{Item}
-use Rattle.services.specs.Table.{Tables as ServerTables, tablesOf as tables-of}
-use Rattle.services.proofs.Types.{datapointD, itemD, byteD, idD}
-use Rattle.tagobrelin.specs.Exported.{freshLine}
+use Rattle.ft12.specs.declared.record.Link.{Link}
+use Rattle.ft12.specs.Record.{linkOf}
+use Rattle.ft12.proofs.Types.{linkD}
+use Rattle.baos.specs.declared.datapoint.Datapoint.{Datapoint}
+use Rattle.baos.specs.declared.item.Item.{Item}
+use Rattle.baos.specs.Table.{Tables as ServerTables, tablesOf as tables-of}
+use Rattle.baos.proofs.Types.{datapointD, itemD, byteD, idD}
+use Rattle.calls.specs.Exported.{freshLine}
 use Rattle.tagobrelin.proofs.exported.fresh_link as fresh-link
 use Rattle.tagobrelin.proofs.exported.fresh_link.Symbol as fresh-link-def
 use Rattle.tagobrelin.proofs.exported.fresh_link.Symbol.{name as #tagobrelin·exported·fresh-link}

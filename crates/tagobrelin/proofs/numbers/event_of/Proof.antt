@@ -1,7 +1,7 @@
 -- Each number by its law.
 use mathlib.Core.Path.{sym, ap, _∙_}
-use Rattle.server.specs.declared.event.Event.the-variants.{TransmissionOutcome}
-use Rattle.tagobrelin.proofs.NumberLaws.{first, second, third, fourth, fifth, sixth}
+use Rattle.calls.specs.declared.event.Event.the-variants.{TransmissionOutcome}
+use Rattle.calls.proofs.NumberLaws.{first, second, third, fourth, fifth, sixth}
 use borrow.Author.Needs.{needs}
 use Rattle.tagobrelin.proofs.numbers.event_of.Statement.{statement}
 use Rattle.tagobrelin.proofs.numbers.event_of.Tie as tie

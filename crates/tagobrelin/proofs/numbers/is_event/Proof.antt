@@ -1,6 +1,6 @@
 -- Each test as the definition has it: the laws of isEvent.
 use mathlib.Core.Path.{sym}
-use Rattle.tagobrelin.proofs.NumberLaws.{is-sixth, is-none, is-other}
+use Rattle.calls.proofs.NumberLaws.{is-sixth, is-none, is-other}
 use Rattle.tagobrelin.proofs.numbers.is_event.Statement.{statement}
 use Rattle.tagobrelin.proofs.numbers.is_event.Tie as tie
 

@@ -1,7 +1,7 @@
 -- Both numbers fit 32 bits: a refusal is a byte, and what is required of the count.
 use mathlib.Core.Path.{sym, ap, _∙_}
-use Rattle.tagobrelin.specs.Numbers.{numberOf}
-use Rattle.tagobrelin.proofs.NumberLaws.{fits-minus, is-minus, fits-plus, is-plus, count-small}
+use Rattle.calls.specs.Numbers.{numberOf}
+use Rattle.calls.proofs.NumberLaws.{fits-minus, is-minus, fits-plus, is-plus, count-small}
 use native.Mathlib.Omega.{arith}
 use borrow.Author.Needs.{needs}
 use Rattle.tagobrelin.proofs.numbers.number_of.Statement.{statement}

@@ -1,7 +1,7 @@
 -- The first two by computing, the last by a law.
 use mathlib.Core.Path.{sym, ap}
-use Rattle.tagobrelin.specs.Numbers.{outcomeOf}
-use Rattle.tagobrelin.proofs.NumberLaws.{last-outcome}
+use Rattle.calls.specs.Numbers.{outcomeOf}
+use Rattle.calls.proofs.NumberLaws.{last-outcome}
 use Rattle.tagobrelin.proofs.numbers.outcome_of.Statement.{statement}
 use Rattle.tagobrelin.proofs.numbers.outcome_of.Tie as tie
 

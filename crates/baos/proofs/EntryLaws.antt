@@ -1,0 +1,101 @@
+-- A law for each answer of the code of a set entry; values kept in a record's memory.
+use Prim.Native.Nat.{ℕ, zero, suc, _+_, _-_, _/_, _%_, _≤_, _<_}
+use mathlib.Core.Path.{_≡_, refl, _∙_, ap}
+use mathlib.Core.Bool.{true, false}
+use mathlib.Core.List.{List, [], _∷_, _++_}
+use native.Mathlib.Omega.{arith}
+use lib.ListN.{length, getD, take, drop, replicate}
+use lib.Seq.{sets, length-take-le, take-suc}
+use borrow.Author.Tests.{lt-ltb, le-ltb, eq-eqb, ne-eqb}
+use Rattle.words.specs.Words.{pad, put, isEmpty}
+use Rattle.words.proofs.ByteLaws.{put-sets, put-put}
+use Rattle.baos.specs.declared.datapoint.Datapoint.{Datapoint}
+use Rattle.baos.specs.declared.item.Item.{Item}
+use Rattle.baos.specs.Datapoint.{sizeOf, valueOf, unusedBitsOk}
+use Rattle.baos.specs.Get.{valueEntry}
+use Rattle.baos.specs.Set.{itemCode, datapointCode}
+
+-- ---- a value in memory that was 0
+drop-zeros : (k n : ℕ) → drop {A = ℕ} k (replicate n 0) ≡ replicate (n - k) 0
+drop-zeros zero n = ap {B = List ℕ} (λ (i : ℕ). replicate i 0) {x = n} {y = n - 0} (omega arith)
+drop-zeros (suc k) zero = ap {B = List ℕ} (λ (i : ℕ). replicate i 0) {x = 0} {y = 0 - suc k} (omega arith)
+drop-zeros (suc k) (suc n) = drop-zeros k n ∙ ap {B = List ℕ} (λ (i : ℕ). replicate i 0) {x = n - k} {y = suc n - suc k} (omega arith)
+
+pub put-zeros : (n : ℕ) (v : List ℕ) → put (replicate n 0) 0 v ≡ pad n v
+unfolding put
+put-zeros n v = ap (λ (k : ℕ). v ++ drop k (replicate n 0)) {x = 0 + length v} {y = length v} (omega arith) ∙ ap (λ (r : List ℕ). v ++ r) (drop-zeros (length v) n)
+
+-- ---- codes
+is-empty : (v : List ℕ) → length v ≡ 0 → isEmpty v ≡ true
+is-empty [] e = refl
+is-empty (x ∷ v) e = absurd (omega arith)
+
+not-empty : (v : List ℕ) → (length v ≡ 0 → ⊥) → isEmpty v ≡ false
+not-empty [] n = absurd (n refl)
+not-empty (x ∷ v) n = refl
+
+module _ (d : Datapoint) (c : ℕ) (v : List ℕ) where
+  pub code-of-command : 5 < c → datapointCode d c v ≡ 8
+  unfolding datapointCode
+  code-of-command h = simp (lt-ltb 5 c h)
+
+  pub code-of-none-1 : c ≡ 1 → length v ≡ 0 → datapointCode d c v ≡ 9
+  unfolding datapointCode
+  code-of-none-1 e n = rw e (simp (is-empty v n))
+
+  pub code-of-none-3 : c ≡ 3 → length v ≡ 0 → datapointCode d c v ≡ 9
+  unfolding datapointCode
+  code-of-none-3 e n = rw e (simp (is-empty v n))
+
+  pub code-of-none : c ≤ 5 → (c ≡ 1 → ⊥) → (c ≡ 3 → ⊥) → length v ≡ 0 → datapointCode d c v ≡ 0
+  unfolding datapointCode
+  code-of-none h n1 n3 n = simp (le-ltb 5 c h, is-empty v n, ne-eqb c 1 n1, ne-eqb c 3 n3)
+
+  pub code-of-size : c ≤ 5 → (length v ≡ 0 → ⊥) → (length v ≡ sizeOf (d .typecode) → ⊥) → datapointCode d c v ≡ 9
+  unfolding datapointCode
+  code-of-size h n k = simp (le-ltb 5 c h, not-empty v n, ne-eqb (length v) (sizeOf (d .typecode)) k)
+
+  pub code-of-bits : c ≤ 5 → (length v ≡ 0 → ⊥) → length v ≡ sizeOf (d .typecode) → unusedBitsOk (d .typecode) v ≡ false → datapointCode d c v ≡ 8
+  unfolding datapointCode
+  code-of-bits h n k u = simp (le-ltb 5 c h, not-empty v n, eq-eqb (length v) (sizeOf (d .typecode)) k, u)
+
+  pub code-of-value : c ≤ 5 → (length v ≡ 0 → ⊥) → length v ≡ sizeOf (d .typecode) → unusedBitsOk (d .typecode) v ≡ true → datapointCode d c v ≡ 0
+  unfolding datapointCode
+  code-of-value h n k u = simp (le-ltb 5 c h, not-empty v n, eq-eqb (length v) (sizeOf (d .typecode)) k, u)
+
+module _ (i : Item) (v : List ℕ) where
+  pub code-of-fixed : i .writable ≡ false → itemCode i v ≡ 4
+  unfolding itemCode
+  code-of-fixed e = simp e
+
+  pub code-of-data : i .writable ≡ true → length v ≡ i .size → itemCode i v ≡ 0
+  unfolding itemCode
+  code-of-data e k = simp (e, eq-eqb (length v) (i .size) k)
+
+  pub code-of-length : i .writable ≡ true → (length v ≡ i .size → ⊥) → itemCode i v ≡ 9
+  unfolding itemCode
+  code-of-length e k = simp (e, ne-eqb (length v) (i .size) k)
+
+-- ---- entries
+-- bytes stored one by one, and the used bytes of an array behind them, are one write
+pub put-behind : (l : List ℕ) (at k : ℕ) (vs a : List ℕ) → k ≡ at + length vs → at + length vs + length a ≤ length l → put (sets l at vs) k a ≡ put l at (vs ++ a)
+put-behind l at k vs a e m = ap (λ (r : List ℕ). put r k a) (put-sets vs l at (omega (arith, m))) ∙ put-put l at k vs a e m
+
+pub put-entry : (l : List ℕ) (at k n : ℕ) (vs a : List ℕ) → k ≡ at + length vs → n ≤ length a → at + length vs + n ≤ length l → put (sets l at vs) k (take n a) ≡ put l at (vs ++ take n a)
+put-entry l at k n vs a e h m = put-behind l at k vs (take n a) e (omega (arith, m, length-take-le n a h))
+
+-- a value of one byte, as codes 0 to 7 have: its entry has five bytes
+first-of : (n x : ℕ) (ys : List ℕ) (k : ℕ) → k < n → getD (replicate n x ++ ys) k 0 ≡ x
+first-of zero x ys k h = absurd (omega arith)
+first-of (suc n) x ys zero h = refl
+first-of (suc n) x ys (suc k) h = first-of n x ys k (omega arith)
+
+pub one-byte : (typecode : ℕ) → typecode < 8 → sizeOf typecode ≡ 1
+unfolding sizeOf
+one-byte typecode h = first-of 8 1 (2 ∷ 3 ∷ 4 ∷ 6 ∷ 8 ∷ 10 ∷ 14 ∷ []) typecode h
+
+pub one-byte-entry : (d : Datapoint) → d .typecode < 8 → length (d .value) ≡ 14 → valueEntry d .bytes ≡ d .id / 256 ∷ d .id % 256 ∷ d .state ∷ 1 ∷ getD (d .value) 0 0 ∷ []
+unfolding valueEntry valueOf
+one-byte-entry d h l =
+    ap (λ (n : ℕ). d .id / 256 ∷ d .id % 256 ∷ d .state ∷ n ∷ take n (d .value)) (one-byte (d .typecode) h)
+    ∙ ap (λ (r : List ℕ). d .id / 256 ∷ d .id % 256 ∷ d .state ∷ 1 ∷ r) (take-suc (d .value) 0 0 (omega arith))

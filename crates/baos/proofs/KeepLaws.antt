@@ -1,0 +1,261 @@
+-- Well-formed tables stay well formed, whatever message is carried out and whatever is indicated.
+use Prim.Native.Nat.{ℕ, zero, suc, _+_, _-_, _≤_, _<_}
+use mathlib.Core.Path.{_≡_, refl, sym, _∙_, ap}
+use mathlib.Core.Bool.{Bool, true, false, not, _&&_, _||_}
+use mathlib.Core.List.{List, [], _∷_, _++_, map}
+use native.Mathlib.Omega.{arith}
+use lib.ListN.{length, getD, take, drop}
+use lib.Dec.{T, leb, ltb, eqb, eqb→eq}
+use borrow.Author.Tests.{eqb-true, eqb-false}
+use Rattle.words.specs.Words.{if_then_else_, isEmpty, every}
+use Rattle.words.proofs.WordLaws.{left, right, both, parts3, join3, true-T, T-true, every-imp, every-true}
+use Rattle.baos.specs.declared.datapoint.Datapoint.{Datapoint}
+use Rattle.baos.specs.declared.item.Item.{Item}
+use Rattle.baos.specs.Datapoint.{datapointId, datapointOk, sizeOf, unusedBitsOk, isValue, withState, withMark, handedOut, commanded}
+use Rattle.baos.specs.Item.{itemId, itemOk, withBytes}
+use Rattle.baos.specs.Table.{Tables, rising, tableOk, wellFormed, found}
+use Rattle.baos.specs.Message.{mainService, subService, startOf, numberOf, filterOf, coded, Finding, fine, bad, Served, answerOf, afterOf, served}
+use Rattle.baos.specs.Get.{roomForEntries, getting, getServerItem, getDatapointDescription, asked, handingOut, getDatapointValue, getParameterByte}
+use Rattle.baos.specs.Set.{SetEntry, firstItemEntry, firstDatapointEntry, fills, setEntries, itemCode, datapointCode, judgedItem, judgedDatapoint, firstBad, setFinding, applied, setting, setItem, setServerItem, setDatapoint, setDatapointValue}
+use Rattle.baos.specs.Service.{service, unanswered, carriedOut}
+use Rattle.baos.specs.Indication.{goes, roomAfter, Choice, choices, reported, afterReport, indicationOf, indication}
+use Rattle.baos.proofs.TableLaws
+use Rattle.baos.proofs.DatapointLaws
+
+-- ---- the three tables
+pub record Parts (t : Tables) : Type 0 where
+  pub datapoints : T (tableOk 1000 datapointId datapointOk (t .datapoints))
+  pub items : T (tableOk 64 itemId itemOk (t .items))
+  pub parameters : T (leb (length (t .parameters)) 255)
+
+pub parts : (t : Tables) → T (wellFormed t) → Parts t
+unfolding wellFormed
+parts t w =
+    let p = parts3 (tableOk 1000 datapointId datapointOk (t .datapoints)) (tableOk 64 itemId itemOk (t .items)) (leb (length (t .parameters)) 255) w in
+    record { datapoints = p .0; items = p .1; parameters = p .2 }
+
+pub whole : (t : Tables) → Parts t → T (wellFormed t)
+unfolding wellFormed
+whole t p =
+    join3 (tableOk 1000 datapointId datapointOk (t .datapoints)) (tableOk 64 itemId itemOk (t .items)) (leb (length (t .parameters)) 255)
+    (p .datapoints) (p .items) (p .parameters)
+
+-- other datapoints, the rest as it was
+pub with-datapoints : (t : Tables) (ds : List Datapoint) → T (wellFormed t) → T (tableOk 1000 datapointId datapointOk ds) → T (wellFormed (record { datapoints = ds; items = t .items; parameters = t .parameters }))
+with-datapoints t ds w d = whole _ (record { datapoints = d; items = parts t w .items; parameters = parts t w .parameters })
+
+after-keeps : (f : Finding) (t t′ : Tables) → T (wellFormed t) → (f ≡ fine → T (wellFormed t′)) → T (wellFormed (afterOf f t t′))
+unfolding afterOf
+after-keeps fine t t′ w k = k refl
+after-keeps (bad n c) t t′ w k = w
+
+-- ---- values handed out
+handed-out-same : (d : Datapoint) → datapointId (handedOut d) ≡ datapointId d
+unfolding handedOut withState
+handed-out-same d = refl
+
+out-keeps : (m : List ℕ) (t : Tables) → T (wellFormed t) → T (wellFormed (handingOut m t))
+unfolding handingOut
+out-keeps m t w =
+    with-datapoints t _ w
+    (TableLaws.table-map datapointId 1000 datapointOk (λ (d : Datapoint). true) (λ (d : Datapoint). if asked m d then handedOut d else d) ids oks (t .datapoints) (every-true (t .datapoints)) (parts t w .datapoints))
+  where
+    ids : (d : Datapoint) → datapointId (if asked m d then handedOut d else d) ≡ datapointId d
+    ids d = go (asked m d) refl
+      where
+        go : (u : Bool) → asked m d ≡ u → datapointId (if asked m d then handedOut d else d) ≡ datapointId d
+        go true e = simp e (handed-out-same d)
+        go false e = simp e
+
+    oks : (d : Datapoint) → T true → T (datapointOk d) → T (datapointOk (if asked m d then handedOut d else d))
+    oks d x o = go (asked m d) refl
+      where
+        go : (u : Bool) → asked m d ≡ u → T (datapointOk (if asked m d then handedOut d else d))
+        go true e = simp e (DatapointLaws.handed-out-ok d o)
+        go false e = simp e o
+
+-- ---- sets: where no entry is bad, each was judged 0
+none-bad : (judge : SetEntry → ℕ) (os : List SetEntry) → firstBad judge os ≡ fine → T (every (λ o. eqb (judge o) 0) os)
+unfolding firstBad
+none-bad judge [] e = tt
+none-bad judge (o ∷ os) e = go (eqb (judge o) 0) refl (none-bad judge os)
+  where
+    go : (u : Bool) → eqb (judge o) 0 ≡ u → (firstBad judge os ≡ fine → T (every (λ p. eqb (judge p) 0) os)) → T (every (λ p. eqb (judge p) 0) (o ∷ os))
+    go true d r = simp d (r (simp d at e))
+    go false d r = let z : _≡_ {A = ℕ} 0 1 = cc (simp d at e) in absurd (omega arith)
+
+set-keeps : (h : ℕ) (first : List ℕ → SetEntry) (judge : SetEntry → ℕ) (done : List SetEntry → Tables) (t : Tables) (m : List ℕ) → T (wellFormed t)
+    → ((os : List SetEntry) → T (every (λ o. eqb (judge o) 0) os) → T (wellFormed (done os))) → T (wellFormed (setting h first judge done t m .after))
+unfolding setting served
+set-keeps h first judge done t m w g = after-keeps (setFinding h first judge m) t (done os) w (λ e. g os (fits e))
+  where
+    os : List SetEntry
+    os = setEntries first h (numberOf m) (drop 6 m)
+
+    never : (id code : ℕ) → bad id code ≡ fine → ⊥
+    never id code e = let z : _≡_ {A = ℕ} 0 1 = cc in omega arith
+
+    fits : setFinding h first judge m ≡ fine → T (every (λ o. eqb (judge o) 0) os)
+    fits e = unfold setFinding in go (fills h (numberOf m) (drop 6 m)) (eqb (numberOf m) 0) refl refl (unfold setFinding in e)
+      where
+        go : (u v : Bool) → fills h (numberOf m) (drop 6 m) ≡ u → eqb (numberOf m) 0 ≡ v
+            → (if not (fills h (numberOf m) (drop 6 m)) then bad (startOf m) 10 else if eqb (numberOf m) 0 then bad (startOf m) 6 else firstBad judge os) ≡ fine
+            → T (every (λ o. eqb (judge o) 0) os)
+        go false v a b d = absurd (never (startOf m) 10 (simp a at d))
+        go true true a b d = absurd (never (startOf m) 6 (simp (a, b) at d))
+        go true false a b d = none-bad judge os (simp (a, b) at d)
+
+-- ---- items
+itemFits : SetEntry → Item → Bool
+itemFits o i = eqb (length (o .value)) (i .size)
+
+item-judged : (o : SetEntry) (i : Item) → T (eqb (judgedItem (i ∷ []) o) 0) → T (itemFits o i)
+unfolding judgedItem itemCode itemFits
+item-judged o i t = go (i .writable) (eqb (length (o .value)) (i .size)) refl refl
+  where
+    go : (u v : Bool) → i .writable ≡ u → eqb (length (o .value)) (i .size) ≡ v → T (itemFits o i)
+    go u true e d = simp d tt
+    go true false e d = absurd (simp (e, d) at t)
+    go false false e d = absurd (simp e at t)
+
+item-ok : (o : SetEntry) (i : Item) → T (itemFits o i) → T (itemOk i) → T (itemOk (setItem o i))
+unfolding setItem itemFits
+item-ok o i f t = DatapointLaws.bytes-ok (o .value) i (eqb→eq (length (o .value)) (i .size) f) t
+
+items-keep : (t : Tables) (m : List ℕ) → T (wellFormed t) → T (wellFormed (setServerItem t m .after))
+unfolding setServerItem
+items-keep t m w =
+    set-keeps 3 firstItemEntry (λ o. judgedItem (found itemId (o .id) (t .items)) o) _ t m w
+    (λ os j. whole _ (record {
+      datapoints = parts t w .datapoints;
+      parameters = parts t w .parameters;
+      items =
+          TableLaws.applied-ok itemId 64 itemOk itemFits setItem (λ o i. unfold setItem withBytes in refl) (λ o p i. unfold itemFits setItem withBytes in refl) item-ok os (t .items)
+          (every-imp _ (λ o. every (TableLaws.at itemId (o .id) (itemFits o)) (t .items))
+          (λ o k. TableLaws.found-fits itemId (o .id) (itemFits o) (λ xs. eqb (judgedItem xs o) 0) (item-judged o) 0 (t .items) (TableLaws.ids-rise itemId 64 itemOk (t .items) (parts t w .items)) k) os j)
+          (parts t w .items);
+    }))
+
+-- ---- datapoints
+datapointFits : SetEntry → Datapoint → Bool
+datapointFits o d = if DatapointLaws.takesValue (o .command) then isValue (d .typecode) (o .value) else true
+
+datapoint-judged : (o : SetEntry) (d : Datapoint) → T (eqb (judgedDatapoint (d ∷ []) o) 0) → T (datapointFits o d)
+unfolding judgedDatapoint datapointCode datapointFits DatapointLaws.takesValue isValue
+datapoint-judged o d t =
+    go (eqb (o .command) 1 || eqb (o .command) 3) (ltb 5 (o .command)) (isEmpty (o .value)) (eqb (length (o .value)) (sizeOf (d .typecode))) (unusedBitsOk (d .typecode) (o .value)) refl refl refl refl refl
+  where
+    go : (a b c e f : Bool) → (eqb (o .command) 1 || eqb (o .command) 3) ≡ a → ltb 5 (o .command) ≡ b → isEmpty (o .value) ≡ c → eqb (length (o .value)) (sizeOf (d .typecode)) ≡ e → unusedBitsOk (d .typecode) (o .value) ≡ f → T (datapointFits o d)
+    go false b c e f p1 p2 p3 p4 p5 = simp p1 tt
+    go true true c e f p1 p2 p3 p4 p5 = absurd (simp p2 at t)
+    go true false true e f p1 p2 p3 p4 p5 = absurd (simp (p2, p3, p1) at t)
+    go true false false false f p1 p2 p3 p4 p5 = absurd (simp (p2, p3, p4) at t)
+    go true false false true false p1 p2 p3 p4 p5 = absurd (simp (p2, p3, p4, p5) at t)
+    go true false false true true p1 p2 p3 p4 p5 = simp (p1, p4, p5) tt
+
+datapoint-ok : (o : SetEntry) (d : Datapoint) → T (datapointFits o d) → T (datapointOk d) → T (datapointOk (setDatapoint o d))
+unfolding setDatapoint datapointFits
+datapoint-ok o d f t = DatapointLaws.command-ok (o .command) (o .value) d (λ v. simp (T-true (DatapointLaws.takesValue (o .command)) v) at f) t
+
+datapoint-id : (o : SetEntry) (d : Datapoint) → datapointId (setDatapoint o d) ≡ datapointId d
+unfolding setDatapoint
+datapoint-id o d = DatapointLaws.command-same (o .command) (o .value) d .id
+
+datapoint-fits : (o p : SetEntry) (d : Datapoint) → datapointFits p (setDatapoint o d) ≡ datapointFits p d
+unfolding datapointFits setDatapoint
+datapoint-fits o p d = simp (DatapointLaws.command-same (o .command) (o .value) d .typecode)
+
+values-keep : (t : Tables) (m : List ℕ) → T (wellFormed t) → T (wellFormed (setDatapointValue t m .after))
+unfolding setDatapointValue
+values-keep t m w =
+    set-keeps 4 firstDatapointEntry (λ o. judgedDatapoint (found datapointId (o .id) (t .datapoints)) o) _ t m w
+    (λ os j. with-datapoints t _ w
+    (TableLaws.applied-ok datapointId 1000 datapointOk datapointFits setDatapoint datapoint-id datapoint-fits datapoint-ok os (t .datapoints)
+    (every-imp _ (λ o. every (TableLaws.at datapointId (o .id) (datapointFits o)) (t .datapoints))
+    (λ o k. TableLaws.found-fits datapointId (o .id) (datapointFits o) (λ xs. eqb (judgedDatapoint xs o) 0) (datapoint-judged o) 0 (t .datapoints) (TableLaws.ids-rise datapointId 1000 datapointOk (t .datapoints) (parts t w .datapoints)) k) os j)
+    (parts t w .datapoints)))
+
+-- ---- every message
+service-keeps : (t : Tables) (m : List ℕ) → T (wellFormed t) → T (wellFormed (service t m .after))
+unfolding service getServerItem getDatapointDescription getDatapointValue getParameterByte getting served
+service-keeps t m w = go (eqb (subService m) 1) (eqb (subService m) 2) (eqb (subService m) 3) (eqb (subService m) 5) (eqb (subService m) 6) (eqb (subService m) 7) refl refl refl refl refl refl
+  where
+    go : (a b c d e f : Bool) → eqb (subService m) 1 ≡ a → eqb (subService m) 2 ≡ b → eqb (subService m) 3 ≡ c → eqb (subService m) 5 ≡ d → eqb (subService m) 6 ≡ e → eqb (subService m) 7 ≡ f → T (wellFormed (service t m .after))
+    go true b c d e f e1 e2 e3 e5 e6 e7 = simp e1 (after-keeps _ t t w (λ p. w))
+    go false true c d e f e1 e2 e3 e5 e6 e7 = simp (e1, e2) (items-keep t m w)
+    go false false true d e f e1 e2 e3 e5 e6 e7 = simp (e1, e2, e3) (after-keeps _ t t w (λ p. w))
+    go false false false true e f e1 e2 e3 e5 e6 e7 = simp (e1, e2, e3, e5) (after-keeps _ t _ w (λ p. out-keeps m t w))
+    go false false false false true f e1 e2 e3 e5 e6 e7 = simp (e1, e2, e3, e5, e6) (values-keep t m w)
+    go false false false false false true e1 e2 e3 e5 e6 e7 = simp (e1, e2, e3, e5, e6, e7) (after-keeps _ t t w (λ p. w))
+    go false false false false false false e1 e2 e3 e5 e6 e7 = simp (e1, e2, e3, e5, e6, e7) w
+
+pub carried-out-keeps : (t : Tables) (m : List ℕ) → T (wellFormed t) → T (wellFormed (carriedOut t m .after))
+unfolding carriedOut
+carried-out-keeps t m w = go (unanswered m) refl
+  where
+    go : (u : Bool) → unanswered m ≡ u → T (wellFormed (carriedOut t m .after))
+    go true e = simp e w
+    go false e = simp e (service-keeps t m w)
+
+-- ---- the indication
+told : Choice → Datapoint
+told c = if c .carried then withMark false (handedOut (c .datapoint)) else c .datapoint
+
+told-id : (c : Choice) → datapointId (told c) ≡ datapointId (c .datapoint)
+unfolding told
+told-id c = go (c .carried) refl
+  where
+    go : (u : Bool) → c .carried ≡ u → datapointId (told c) ≡ datapointId (c .datapoint)
+    go true e = unfold withMark handedOut withState in simp (e, told)
+    go false e = simp (e, told)
+
+told-ok : (c : Choice) → T (datapointOk (c .datapoint)) → T (datapointOk (told c))
+unfolding told
+told-ok c t = go (c .carried) refl
+  where
+    go : (u : Bool) → c .carried ≡ u → T (datapointOk (told c))
+    go true e = simp (e, told) (DatapointLaws.mark-ok false (handedOut (c .datapoint)) (DatapointLaws.handed-out-ok (c .datapoint) t))
+    go false e = simp (e, told) t
+
+report-ids : (room : ℕ) (ds : List Datapoint) → map datapointId (afterReport (choices room ds)) ≡ map datapointId ds
+unfolding afterReport choices told
+report-ids room [] = refl
+report-ids room (d ∷ ds) = let e = told-id (record { datapoint = d; carried = goes room d }) in let r = report-ids (roomAfter room d) ds in λ i. e i ∷ r i
+
+pub report-length : (room : ℕ) (ds : List Datapoint) → length (afterReport (choices room ds)) ≡ length ds
+unfolding afterReport choices
+report-length room [] = refl
+report-length room (d ∷ ds) = ap suc (report-length (roomAfter room d) ds)
+
+report-every : (room : ℕ) (ds : List Datapoint) → T (every datapointOk ds) → T (every datapointOk (afterReport (choices room ds)))
+unfolding afterReport choices told
+report-every room [] t = tt
+report-every room (d ∷ ds) t =
+    both (datapointOk (told (record { datapoint = d; carried = goes room d }))) (every datapointOk (afterReport (choices (roomAfter room d) ds)))
+    (told-ok (record { datapoint = d; carried = goes room d }) (left (datapointOk d) (every datapointOk ds) t))
+    (report-every (roomAfter room d) ds (right (datapointOk d) (every datapointOk ds) t))
+
+report-ok : (room : ℕ) (ds : List Datapoint) → T (tableOk 1000 datapointId datapointOk ds) → T (tableOk 1000 datapointId datapointOk (afterReport (choices room ds)))
+unfolding tableOk
+report-ok room ds t =
+    let p = parts3 (leb (length ds) 1000) (rising 0 (map datapointId ds)) (every datapointOk ds) t in
+    rw (report-ids room ds, report-length room ds)
+    (join3 (leb (length ds) 1000) (rising 0 (map datapointId ds)) (every datapointOk (afterReport (choices room ds))) (p .0) (p .1) (report-every room ds (p .2)))
+
+pub indication-keeps : (t : Tables) → T (wellFormed t) → T (wellFormed (indication t .after))
+unfolding indication
+indication-keeps t w = with-datapoints t _ w (report-ok _ (t .datapoints) (parts t w .datapoints))
+
+-- "with [..] some mark set [..]. Otherwise nothing"
+unmarked-stay : (room : ℕ) (ds : List Datapoint) → T (every (λ (d : Datapoint). not (d .mark)) ds) → (reported (choices room ds) ≡ []) × (afterReport (choices room ds) ≡ ds)
+unfolding reported afterReport choices goes roomAfter
+unmarked-stay room [] t = (refl, refl)
+unmarked-stay room (d ∷ ds) t = go (d .mark) refl (unmarked-stay room ds (right (not (d .mark)) (every (λ (x : Datapoint). not (x .mark)) ds) t))
+  where
+    go : (u : Bool) → d .mark ≡ u → (reported (choices room ds) ≡ []) × (afterReport (choices room ds) ≡ ds) → (reported (choices room (d ∷ ds)) ≡ []) × (afterReport (choices room (d ∷ ds)) ≡ d ∷ ds)
+    go true e r = absurd (simp e at (left (not (d .mark)) (every (λ (x : Datapoint). not (x .mark)) ds) t))
+    go false e r = (simp (e, r .0), simp (e, r .1))
+
+pub unmarked-silent : (t : Tables) → T (every (λ (d : Datapoint). not (d .mark)) (t .datapoints)) → indication t ≡ record { says = []; after = t }
+unfolding indication
+unmarked-silent t h = let r = unmarked-stay roomForEntries (t .datapoints) h in unfold indicationOf in rw (r .0, r .1)

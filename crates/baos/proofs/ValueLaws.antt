@@ -1,0 +1,85 @@
+-- Laws of a value by its type code: its size, the limit of its first byte, its test.
+use Prim.Native.Nat.{ℕ, zero, suc, _+_, _^_, _≤_, _<_}
+use mathlib.Core.Path.{_≡_, refl, sym, subst}
+use mathlib.Core.Bool.{Bool, true, false, _&&_}
+use mathlib.Core.Logic.{_⊎_, inl, inr}
+use mathlib.Core.List.{List, [], _∷_}
+use native.Mathlib.Omega.{arith}
+use native.Mathlib.Nat.{not-suc-le-zero, eq-or-lt-of-le, lt-irrefl}
+use lib.ListN.{length, getD}
+use lib.Dec.{T, ltb, eqb, eqb→eq}
+use lib.Pow.{pow-pos}
+use borrow.Author.Tests.{lt-ltb, le-ltb, eq-eqb, ne-eqb, ltb-true, ltb-false}
+use Rattle.words.specs.Words.{if_then_else_}
+use Rattle.words.proofs.WordLaws.{left, right}
+use Rattle.baos.specs.Datapoint.{sizeOf, limitOf, unusedBitsOk, isValue}
+
+-- ---- what a match tells
+-- what its last arm knows, where the arms before it are the numbers from a on, n of them
+abbrev pub Others : ℕ → ℕ → ℕ → Type 0
+Others a zero k = Unit
+Others a (suc n) k = Others a n k × (k ≡ a + n → ⊥)
+
+pub beyond : (a n k : ℕ) → a ≤ k → Others a n k → a + n ≤ k
+beyond a zero k h o = omega arith
+beyond a (suc n) k h o = elim (eq-or-lt-of-le (beyond a n k h (o .0))) [ inl e ↦ absurd (o .1 (sym e)) | inr u ↦ omega (arith, u) ]
+
+pub exhausted : (a n k : ℕ) → a ≤ k → Others a (suc n) k → k ≤ a + n → ⊥
+exhausted a n k h o m = let b = beyond a (suc n) k h o in lt-irrefl k (omega arith)
+
+-- ---- a fact of each number below n, computed once
+abbrev pub upto : (ℕ → Bool) → ℕ → Bool
+upto f zero = true
+upto f (suc n) = f n && upto f n
+
+at-or-below : (a b : ℕ) → a < suc b → (a < b) ⊎ (a ≡ b)
+at-or-below a b l = by-test (ltb a b) refl
+  where
+    by-test : (y : Bool) → ltb a b ≡ y → (a < b) ⊎ (a ≡ b)
+    by-test true e = inl (ltb-true a b e)
+    by-test false e = inr (omega (arith, ltb-false a b e))
+
+pub tested : (f : ℕ → Bool) (n k : ℕ) → T (upto f n) → k < n → T (f k)
+tested f zero k t l = absurd (not-suc-le-zero l)
+tested f (suc n) k t l = elim (at-or-below k n l) [ inl u ↦ tested f n k (right (f n) (upto f n) t) u | inr e ↦ subst (λ (x : ℕ). T (f x)) (sym e) (left (f n) (upto f n) t) ]
+
+-- ---- the size
+past-end : (xs : List ℕ) (k : ℕ) → length xs ≤ k → getD xs k 0 ≡ 0
+past-end [] k h = refl
+past-end (x ∷ xs) zero h = absurd (not-suc-le-zero h)
+past-end (x ∷ xs) (suc k) h = past-end xs k (omega arith)
+
+pub size-of-bits : (k : ℕ) → k < 8 → sizeOf k ≡ 1
+unfolding sizeOf
+size-of-bits k h = eqb→eq (sizeOf k) 1 (tested (λ k. eqb (sizeOf k) 1) 8 k tt h)
+
+pub size-of-none : (k : ℕ) → 15 ≤ k → sizeOf k ≡ 0
+unfolding sizeOf
+size-of-none k h = past-end (1 ∷ 1 ∷ 1 ∷ 1 ∷ 1 ∷ 1 ∷ 1 ∷ 1 ∷ 2 ∷ 3 ∷ 4 ∷ 6 ∷ 8 ∷ 10 ∷ 14 ∷ []) k h
+
+-- ---- the limit
+pub limit-of-whole : (k : ℕ) → 7 ≤ k → limitOf k ≡ 256
+unfolding limitOf
+limit-of-whole k h = simp (le-ltb k 7 h)
+
+limit-positive : (k : ℕ) → 0 < limitOf k
+unfolding limitOf
+limit-positive k = go (ltb k 7)
+  where
+    go : (b : Bool) → 0 < (if b then 2 ^ (k + 1) else 256)
+    go true = pow-pos (k + 1)
+    go false = omega arith
+
+-- ---- the test
+pub none-unused : (k : ℕ) (v : List ℕ) → length v ≡ 0 → unusedBitsOk k v ≡ true
+unfolding unusedBitsOk
+none-unused k [] e = lt-ltb 0 (limitOf k) (limit-positive k)
+none-unused k (x ∷ v) e = absurd (omega arith)
+
+pub value-sized : (k : ℕ) (v : List ℕ) → length v ≡ sizeOf k → isValue k v ≡ unusedBitsOk k v
+unfolding isValue
+value-sized k v e = simp (eq-eqb (length v) (sizeOf k) e)
+
+pub value-of-other-size : (k : ℕ) (v : List ℕ) → (length v ≡ sizeOf k → ⊥) → isValue k v ≡ false
+unfolding isValue
+value-of-other-size k v n = simp (ne-eqb (length v) (sizeOf k) n)

@@ -1,0 +1,11 @@
+// A server item.
+
+// A server item.
+#[repr(C)]
+pub struct Item {
+    pub id: u16,
+    // How many bytes of data it has, 1 to 16.
+    pub size: u8,
+    pub writable: bool,
+    pub bytes: [u8; 16],
+}

@@ -1,0 +1,5 @@
+// Tables and services as definitions: records, tables, requests, answers, the indication. No function: the code is in `masks`, `records`, `tables`, `messages`,
+// `gets`, `sets` and `services`.
+pub mod datapoint;
+pub mod inner;
+pub mod item;

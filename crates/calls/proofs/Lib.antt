@@ -1,0 +1,11 @@
+pub mod BusLaws
+pub mod CallJoins
+pub mod CallLaws
+pub mod ExportedLaws
+pub mod HostByteLaws
+pub mod NumberLaws
+pub mod OutputLaws
+pub mod PollLaws
+pub mod RefusalLaws
+pub mod SentLaws
+pub mod Types

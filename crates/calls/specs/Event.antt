@@ -1,0 +1,46 @@
+-- The six events by number, and what the bus does to the tables.
+use Prim.Native.Nat.{ℕ}
+use mathlib.Core.Bool.{Bool, true, false, not}
+use mathlib.Core.List.{List, [], _∷_}
+use Rattle.words.specs.Words.{isEmpty}
+use Rattle.baos.specs.declared.datapoint.Datapoint.{Datapoint}
+use Rattle.baos.specs.Datapoint.{datapointId, isValue}
+use Rattle.baos.specs.Table.{Tables, found, changed}
+use Rattle.calls.specs.declared.event.Event.{Event}
+use Rattle.calls.specs.declared.event.Event.the-variants.{HostByte, IdleMark, AckWaitOver, Poll, BusValue, TransmissionOutcome}
+use Rattle.calls.specs.declared.event.Outcome.{Outcome}
+use Rattle.calls.specs.declared.event.Outcome.the-variants.{Sent, Failed, InProgress}
+
+-- "status becomes 00, 01 or 10": sent is idle, failed is idle with error, or in progress
+unfoldable pub statusOf : Outcome → ℕ
+statusOf Sent = 0
+statusOf Failed = 1
+statusOf InProgress = 2
+
+-- an event's place in the paper's list of six, and its values
+unfoldable pub numbersOf : Event → List ℕ
+numbersOf (HostByte b) = 1 ∷ b ∷ []
+numbersOf IdleMark = 2 ∷ []
+numbersOf AckWaitOver = 3 ∷ []
+numbersOf Poll = 4 ∷ []
+numbersOf (BusValue id) = 5 ∷ id ∷ []
+numbersOf (TransmissionOutcome id o) = 6 ∷ id ∷ statusOf o ∷ []
+
+-- the tables with the datapoint of this ID changed
+unfoldable pub atDatapoint : ℕ → (Datapoint → Datapoint) → Tables → Tables
+atDatapoint id f t = record { datapoints = changed datapointId id f (t .datapoints); items = t .items; parameters = t .parameters }
+
+-- the datapoint that was found takes this value
+unfoldable pub valueFits : List Datapoint → List ℕ → Bool
+valueFits [] v = false
+valueFits (d ∷ ds) v = isValue (d .typecode) v
+
+-- Refusal 4 is given for a "bus event: ID absent, value length not the type's, or unused bits set"; this says that it is not. An outcome is a bus
+-- event too, of which only the ID is judged.
+unfoldable pub busOk : Event → List ℕ → Tables → Bool
+busOk (HostByte b) v t = true
+busOk IdleMark v t = true
+busOk AckWaitOver v t = true
+busOk Poll v t = true
+busOk (BusValue id) v t = valueFits (found datapointId id (t .datapoints)) v
+busOk (TransmissionOutcome id o) v t = not (isEmpty (found datapointId id (t .datapoints)))

@@ -1,0 +1,14 @@
+pub mod BeginningLaws
+pub mod DeliveryLaws
+pub mod EventLaws
+pub mod FrameLaws
+pub mod HearingLaws
+pub mod JudgedLaws
+pub mod PlaceLaws
+pub mod RangeLaws
+pub mod ReceiverLaws
+pub mod RecordLaws
+pub mod RequestLaws
+pub mod RulesLaws
+pub mod Types
+pub mod ChecksumLaws

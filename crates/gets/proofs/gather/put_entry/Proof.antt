@@ -1,0 +1,54 @@
+use Prim.Native.Nat.{_+_}
+use mathlib.Core.Path.{_≡_, sym, _∙_, ap}
+use native.Mathlib.Omega.{arith}
+use lib.ListN.{length}
+use borrow.Author.Needs.{needs}
+use Rattle.words.specs.Words.{put}
+use Rattle.baos.specs.Get.{AnswerEntry}
+use Rattle.baos.proofs.MeasureLaws.{entry-value, entry-description, value-length, description-length}
+use Rattle.records.proofs.datapoint.put_description.Reads as put-description-reads
+use Rattle.records.proofs.datapoint.put_value.Reads as put-value-reads
+use Rattle.gets.proofs.gather.put_entry.Statement.{statement}
+use Rattle.gets.proofs.gather.put_entry.Tie as tie
+
+put-value-requires : tie.Need-put-value-requires
+put-value-requires c κs =
+    let a = c .before .before .before .args in
+    let h : length (a .d .value) ≡ 14 = search needs in
+    (omega arith, omega (arith, value-length (a .w) (a .d) (c .before .if1 .taken) h (omega arith)))
+
+same-length : tie.Need-same-length
+same-length c = search needs
+
+returns : tie.Need-returns
+returns c =
+    let a = c .before .before .before .before .before .before .args in
+    let e = entry-value (a .w) (a .d) (c .before .before .before .before .if1 .taken) in
+    let r = c .before .before .put-value .ensures in
+    (r .0 ∙ ap (λ (x : AnswerEntry). put (a .out .now) (a .at) (x .bytes)) (sym e), r .1 ∙ ap (λ (x : AnswerEntry). a .at + length (x .bytes)) (sym e))
+
+put-description-requires : tie.Need-put-description-requires
+put-description-requires c κs =
+    let a = c .before .before .before .args in
+    omega (arith, description-length (a .w) (a .d) (c .before .if1 .left))
+
+same-length-2 : tie.Need-same-length-2
+same-length-2 c = search needs
+
+returns-2 : tie.Need-returns-2
+returns-2 c =
+    let a = c .before .before .before .before .before .before .args in
+    let e = entry-description (a .w) (a .d) (c .before .before .before .before .if1 .left) in
+    let r = c .before .before .put-description .ensures in
+    (r .0 ∙ ap (λ (x : AnswerEntry). put (a .out .now) (a .at) (x .bytes)) (sym e), r .1 ∙ ap (λ (x : AnswerEntry). a .at + length (x .bytes)) (sym e))
+
+pub put-entry-spec : {M : Type 1} → statement M
+put-entry-spec =
+    tie.close
+    (tie.spec
+    put-value-requires
+    same-length
+    returns
+    put-description-requires
+    same-length-2
+    returns-2)

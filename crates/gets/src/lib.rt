@@ -1,0 +1,3 @@
+// The gets: entries gathered into an answer.
+pub mod gather;
+pub mod get;

@@ -1,7 +1,0 @@
-pub mod Words
-pub mod Frame
-pub mod Receiver
-pub mod Record
-pub mod Rules
-pub mod Promise
-pub mod Delivery

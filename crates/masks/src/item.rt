@@ -1,0 +1,138 @@
+// Items one behind the other: IDs that rise, unused bytes that are 0.
+ghost use mathlib.Core.Path.{_≡_};
+ghost use mathlib.Core.Bool.{_&&_};
+ghost use Prim.Native.Nat.{_≤_};
+ghost use lib.Dec.{ltb};
+ghost use Rattle.baos.specs.Item.{itemOk};
+ghost use Rattle.masks.specs.Mask.{itemMasks};
+use crate::mask::Masks;
+use crate::mask::are_clear;
+use crate::mask::word8;
+use baos::item::Item;
+
+// The bits of an item's bytes that have to be 0.
+fn unused_bytes(size: u8) -> Masks
+    requires { ⌜ (1 ≤ size) × (size ≤ 16) ⌝ }
+    ensures { λ r. ⌜ r ≡ itemMasks size ⌝ }
+{
+    match size {
+        1 => Masks {
+            low: 0xffffffffffffff00,
+            high: 0xffffffffffffffff,
+        },
+        2 => Masks {
+            low: 0xffffffffffff0000,
+            high: 0xffffffffffffffff,
+        },
+        3 => Masks {
+            low: 0xffffffffff000000,
+            high: 0xffffffffffffffff,
+        },
+        4 => Masks {
+            low: 0xffffffff00000000,
+            high: 0xffffffffffffffff,
+        },
+        5 => Masks {
+            low: 0xffffff0000000000,
+            high: 0xffffffffffffffff,
+        },
+        6 => Masks {
+            low: 0xffff000000000000,
+            high: 0xffffffffffffffff,
+        },
+        7 => Masks {
+            low: 0xff00000000000000,
+            high: 0xffffffffffffffff,
+        },
+        8 => Masks {
+            low: 0x0000000000000000,
+            high: 0xffffffffffffffff,
+        },
+        9 => Masks {
+            low: 0x0000000000000000,
+            high: 0xffffffffffffff00,
+        },
+        10 => Masks {
+            low: 0x0000000000000000,
+            high: 0xffffffffffff0000,
+        },
+        11 => Masks {
+            low: 0x0000000000000000,
+            high: 0xffffffffff000000,
+        },
+        12 => Masks {
+            low: 0x0000000000000000,
+            high: 0xffffffff00000000,
+        },
+        13 => Masks {
+            low: 0x0000000000000000,
+            high: 0xffffff0000000000,
+        },
+        14 => Masks {
+            low: 0x0000000000000000,
+            high: 0xffff000000000000,
+        },
+        15 => Masks {
+            low: 0x0000000000000000,
+            high: 0xff00000000000000,
+        },
+        16 => Masks {
+            low: 0x0000000000000000,
+            high: 0x0000000000000000,
+        },
+        _ => Masks { low: 0, high: 0 },
+    }
+}
+
+// Whether the item may stand behind one with the ID `last`: a higher ID, and well formed.
+pub fn item_fits_after(i: Item, last: u16) -> bool
+    ensures { λ r. ⌜ r ≡ (ltb last (i .id) && itemOk i) ⌝ }
+{
+    if i.size < 1 {
+        return false;
+    }
+    if i.size > 16 {
+        return false;
+    }
+    if i.id <= last {
+        return false;
+    }
+    let m = unused_bytes(i.size);
+    let low = word8(
+        i.bytes[0],
+        i.bytes[1],
+        i.bytes[2],
+        i.bytes[3],
+        i.bytes[4],
+        i.bytes[5],
+        i.bytes[6],
+        i.bytes[7],
+    );
+    let high = word8(
+        i.bytes[8],
+        i.bytes[9],
+        i.bytes[10],
+        i.bytes[11],
+        i.bytes[12],
+        i.bytes[13],
+        i.bytes[14],
+        i.bytes[15],
+    );
+    are_clear(m, low, high)
+}
+
+// Whether four items may stand one behind the other, the first behind one with the ID `last`.
+pub fn four_items_fit_after(a: Item, b: Item, c: Item, d: Item, last: u16) -> bool
+    ensures { λ r. ⌜ r ≡ (ltb last (a .id) && itemOk a && (ltb (a .id) (b .id) && itemOk b && (ltb (b .id) (c .id) && itemOk c && (ltb (c .id) (d .id) && itemOk d)))) ⌝ }
+{
+    if !item_fits_after(a, last) {
+        return false;
+    }
+    if !item_fits_after(b, a.id) {
+        return false;
+    }
+    if !item_fits_after(c, b.id) {
+        return false;
+    }
+    item_fits_after(d, c.id)
+}

@@ -1,0 +1,2 @@
+// A request's fields, and the heads of answers.
+pub mod message;

@@ -1,4 +1,0 @@
-pub mod Event
-pub mod Reply
-pub mod Call
-pub mod Promise

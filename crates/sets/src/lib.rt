@@ -1,0 +1,2 @@
+// The sets: entries found, judged, then applied.
+pub mod set;

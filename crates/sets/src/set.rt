@@ -1,0 +1,376 @@
+// The sets: the entries of a request. An entry is given by the request's bytes and the place where it begins.
+ghost use mathlib.Core.Path.{_≡_};
+ghost use mathlib.Core.Bool.{true};
+ghost use mathlib.Core.List.{[], _∷_, _++_, map};
+ghost use Prim.Native.Nat.{_≤_, _<_, _+_};
+ghost use lib.ListN.{length, getD, take, drop};
+ghost use lib.Dec.{eqb};
+ghost use Rattle.words.specs.Words.{if_then_else_, ofTwoBytes, put};
+ghost use Rattle.baos.specs.Datapoint.{datapointId, datapointOk};
+ghost use Rattle.baos.specs.Item.{itemId, itemOk};
+ghost use Rattle.baos.specs.Table.{datapointsOnly, itemsOnly, found, changed, place, rising, tableOk};
+ghost use Rattle.baos.specs.Message.{subService, verdictOf};
+ghost use Rattle.baos.specs.Inner.Found.{foundEntries};
+ghost use Rattle.baos.specs.Set.{filledFinding, setDatapointValue, setServerItem, fills, span, firstDatapointEntry, firstItemEntry, judgedDatapoint, judgedItem, setDatapoint, setItem, setEntries, firstBad, applied, allShort};
+use baos::datapoint::Datapoint;
+use baos::inner::Found;
+use baos::inner::Verdict;
+use baos::item::Item;
+use messages::message::number_of;
+use messages::message::put_coded;
+use messages::message::start_of;
+use records::datapoint::command;
+use records::datapoint::command_byte;
+use records::datapoint::entry_code;
+use records::item::item_code;
+use records::item::with_bytes;
+use tables::table::datapoint_at;
+use tables::table::datapoint_place;
+use tables::table::item_at;
+use tables::table::item_place;
+use tables::table::put_datapoint_at;
+use tables::table::put_item_at;
+
+// Whether n entries with heads of so many bytes fill the bytes exactly.
+pub fn is_filled(s: &[u8], head: usize, n: u16) -> bool
+    requires { ⌜ (1 ≤ head) × (head ≤ 4) ⌝ }
+    ensures { λ r. ⌜ r ≡ fills head n (now (s .entry)) ⌝ }
+{
+    let mut at = 0;
+    let mut left = n;
+    while 0 < left {
+        if s.len() - at < head {
+            return false;
+        }
+        let span = head + s[at + head - 1] as usize;
+        if s.len() - at < span {
+            return false;
+        }
+        at += span;
+        left -= 1;
+    }
+    at == s.len()
+}
+
+// The ID of an entry.
+pub fn entry_id(s: &[u8], at: usize) -> u16
+    requires { ⌜ at + 2 ≤ length (now s) ⌝ }
+    ensures { λ r. ⌜ r ≡ ofTwoBytes (getD (drop at (now (s .entry))) 0 0) (getD (drop at (now (s .entry))) 1 0) ⌝ }
+{
+    s[at] as u16 * 256 + s[at + 1] as u16
+}
+
+// Where an entry with a head of so many bytes ends.
+pub fn entry_end(s: &[u8], at: usize, head: usize) -> usize
+    requires { ⌜ (1 ≤ head) × (head ≤ 4) × (at + span head (drop at (now s)) ≤ length (now s)) ⌝ }
+    ensures { λ r. ⌜ r ≡ at + span head (drop at (now (s .entry))) ⌝ }
+{
+    at + head + s[at + head - 1] as usize
+}
+
+// The ID of an entry with its code.
+pub fn verdict_at(s: &[u8], at: usize, code: u8) -> Verdict
+    requires { ⌜ at + 2 ≤ length (now s) ⌝ }
+    ensures { λ r. ⌜ r ≡ record { id = ofTwoBytes (getD (drop at (now (s .entry))) 0 0) (getD (drop at (now (s .entry))) 1 0); code = code } ⌝ }
+{
+    let id = entry_id(s, at);
+    Verdict { id: id, code: code }
+}
+
+// The code of an entry, judged by the datapoint that stands where its ID belongs: that may have another.
+pub fn datapoint_code_at(s: &[u8], at: usize, d: Datapoint) -> u8
+    requires { ⌜ at + span 4 (drop at (now s)) ≤ length (now s) ⌝ }
+    ensures { λ r. ⌜ r ≡ judgedDatapoint (found datapointId (firstDatapointEntry (drop at (now (s .entry))) .id) (d ∷ [])) (firstDatapointEntry (drop at (now (s .entry)))) ⌝ }
+{
+    let id = entry_id(s, at);
+    if d.id == id {
+        let end = entry_end(s, at, 4);
+        return entry_code(d, s[at + 2], &s[at + 4..end]);
+    }
+    7
+}
+
+// The datapoint that stands where an entry's ID belongs, once the entry is applied.
+pub fn datapoint_set_at(s: &[u8], at: usize, d: Datapoint) -> Datapoint
+    requires { ⌜ (at + span 4 (drop at (now s)) ≤ length (now s)) × (length (firstDatapointEntry (drop at (now s)) .value) ≤ 14) ⌝ }
+    ensures { λ r. ⌜ r ≡ (if eqb (d .id) (firstDatapointEntry (drop at (now (s .entry))) .id) then setDatapoint (firstDatapointEntry (drop at (now (s .entry)))) d else d) ⌝ }
+{
+    let id = entry_id(s, at);
+    if d.id == id {
+        let end = entry_end(s, at, 4);
+        return command(d, s[at + 2], &s[at + 4..end]);
+    }
+    d
+}
+
+// The same for an entry with one byte of value, as most have: no copy.
+pub fn datapoint_byte_set_at(s: &[u8], at: usize, d: Datapoint) -> Datapoint
+    requires { ⌜ (at + span 4 (drop at (now s)) ≤ length (now s)) × (getD (drop at (now s)) 3 0 ≡ 1) ⌝ }
+    ensures { λ r. ⌜ r ≡ (if eqb (d .id) (firstDatapointEntry (drop at (now (s .entry))) .id) then setDatapoint (firstDatapointEntry (drop at (now (s .entry)))) d else d) ⌝ }
+{
+    let id = entry_id(s, at);
+    if d.id == id {
+        return command_byte(d, s[at + 2], s[at + 4]);
+    }
+    d
+}
+
+// The code of an entry, judged by the item that stands where its ID belongs.
+pub fn item_code_at(s: &[u8], at: usize, i: Item) -> u8
+    requires { ⌜ at + span 3 (drop at (now s)) ≤ length (now s) ⌝ }
+    ensures { λ r. ⌜ r ≡ judgedItem (found itemId (firstItemEntry (drop at (now (s .entry))) .id) (i ∷ [])) (firstItemEntry (drop at (now (s .entry)))) ⌝ }
+{
+    let id = entry_id(s, at);
+    if i.id == id {
+        let end = entry_end(s, at, 3);
+        return item_code(i, &s[at + 3..end]);
+    }
+    7
+}
+
+// The item that stands where an entry's ID belongs, once the entry is applied.
+pub fn item_set_at(s: &[u8], at: usize, i: Item) -> Item
+    requires { ⌜ (at + span 3 (drop at (now s)) ≤ length (now s)) × (length (firstItemEntry (drop at (now s)) .value) ≤ 16) ⌝ }
+    ensures { λ r. ⌜ r ≡ (if eqb (i .id) (firstItemEntry (drop at (now (s .entry))) .id) then setItem (firstItemEntry (drop at (now (s .entry)))) i else i) ⌝ }
+{
+    let id = entry_id(s, at);
+    if i.id == id {
+        let end = entry_end(s, at, 3);
+        return with_bytes(i, &s[at + 3..end]);
+    }
+    i
+}
+
+// The entries of a request found, one after the other: whether n of them fill the message exactly. Each ID is searched here and nowhere else, while the next
+// entry's length is waited for.
+pub fn find_entries(table: &[Datapoint], m: &[u8], n: u16, entries: &mut [Found]) -> bool
+    requires { ⌜ (length (now table) ≤ 1000) × (rising 0 (map datapointId (now table)) ≡ true) × (6 ≤ length (now m)) × (length (now m) ≤ 254) × (62 ≤ length (now entries)) ⌝ }
+    ensures { λ r. ⌜ (r ≡ fills 4 n (drop 6 (now (m .entry))))
+        × (now (entries .exit) ≡ foundEntries (now (table .entry)) n 6 (drop 6 (now (m .entry))) ++ drop (length (foundEntries (now (table .entry)) n 6 (drop 6 (now (m .entry))))) (now (entries .entry))) ⌝ }
+{
+    let mut at: usize = 6;
+    let mut k: usize = 0;
+    let count = n as usize;
+    while k < count {
+        if m.len() - at < 4 {
+            return false;
+        }
+        let span = 4 + m[at + 3] as usize;
+        if m.len() - at < span {
+            return false;
+        }
+        let id = entry_id(m, at);
+        let place = datapoint_place(table, id);
+        entries[k] = Found {
+            at: at as u16,
+            place: place as u16,
+        };
+        at += span;
+        k += 1;
+    }
+    at == m.len()
+}
+
+// The code of an entry, judged by the table.
+pub fn judge_datapoint(table: &[Datapoint], m: &[u8], f: Found) -> u8
+    requires { ⌜ (length (now table) ≤ 1000) × (rising 0 (map datapointId (now table)) ≡ true) × (f .at + span 4 (drop (f .at) (now m)) ≤ length (now m))
+        × (f .place ≡ place datapointId (firstDatapointEntry (drop (f .at) (now m)) .id) (now table)) ⌝ }
+    ensures { λ r. ⌜ r ≡ judgedDatapoint (found datapointId (firstDatapointEntry (drop (f .at) (now (m .entry))) .id) (now (table .entry))) (firstDatapointEntry (drop (f .at) (now (m .entry)))) ⌝ }
+{
+    let place = f.place as usize;
+    if place >= table.len() {
+        return 7;
+    }
+    let at = f.at as usize;
+    let d = datapoint_at(table, place);
+    let code = datapoint_code_at(m, at, d);
+    code
+}
+
+// An entry applied: the datapoint of its ID is changed, if there is one. A value of one byte goes a way of its own, so that nothing of the record is copied.
+pub fn apply_datapoint(table: &mut [Datapoint], m: &[u8], f: Found)
+    requires { ⌜ (length (now table) ≤ 1000) × (rising 0 (map datapointId (now table)) ≡ true) × (f .at + span 4 (drop (f .at) (now m)) ≤ length (now m))
+        × (length (firstDatapointEntry (drop (f .at) (now m)) .value) ≤ 14) × (f .place ≡ place datapointId (firstDatapointEntry (drop (f .at) (now m)) .id) (now table)) ⌝ }
+    ensures { λ _. ⌜ now (table .exit) ≡ changed datapointId (firstDatapointEntry (drop (f .at) (now (m .entry))) .id) (setDatapoint (firstDatapointEntry (drop (f .at) (now (m .entry))))) (now (table .entry)) ⌝ }
+{
+    let place = f.place as usize;
+    if place >= table.len() {
+        return;
+    }
+    let at = f.at as usize;
+    if m[at + 3] == 1 {
+        let d = datapoint_at(table, place);
+        let c = datapoint_byte_set_at(m, at, d);
+        put_datapoint_at(table, place, c);
+        return;
+    }
+    let d = datapoint_at(table, place);
+    let c = datapoint_set_at(m, at, d);
+    put_datapoint_at(table, place, c);
+}
+
+// The code of an entry, judged by the table of items.
+pub fn judge_item(table: &[Item], s: &[u8], at: usize) -> u8
+    requires { ⌜ (length (now table) ≤ 64) × (rising 0 (map itemId (now table)) ≡ true) × (at + span 3 (drop at (now s)) ≤ length (now s)) ⌝ }
+    ensures { λ r. ⌜ r ≡ judgedItem (found itemId (firstItemEntry (drop at (now (s .entry))) .id) (now (table .entry))) (firstItemEntry (drop at (now (s .entry)))) ⌝ }
+{
+    let id = entry_id(s, at);
+    let place = item_place(table, id);
+    if place >= table.len() {
+        return 7;
+    }
+    let i = item_at(table, place);
+    let code = item_code_at(s, at, i);
+    code
+}
+
+// An entry of an item applied: the item of its ID is changed, if there is one.
+pub fn apply_item(table: &mut [Item], s: &[u8], at: usize)
+    requires { ⌜ (length (now table) ≤ 64) × (rising 0 (map itemId (now table)) ≡ true) × (at + span 3 (drop at (now s)) ≤ length (now s)) × (length (firstItemEntry (drop at (now s)) .value) ≤ 16) ⌝ }
+    ensures { λ _. ⌜ now (table .exit) ≡ changed itemId (firstItemEntry (drop at (now (s .entry))) .id) (setItem (firstItemEntry (drop at (now (s .entry))))) (now (table .entry)) ⌝ }
+{
+    let id = entry_id(s, at);
+    let place = item_place(table, id);
+    if place >= table.len() {
+        return;
+    }
+    let i = item_at(table, place);
+    let c = item_set_at(s, at, i);
+    put_item_at(table, place, c);
+}
+
+// The entries of a request judged one after the other: the first bad one decides.
+pub fn judge_datapoints(table: &[Datapoint], m: &[u8], entries: &[Found], n: u16) -> Verdict
+    requires { ⌜ (length (now table) ≤ 1000) × (rising 0 (map datapointId (now table)) ≡ true) × (fills 4 n (drop 6 (now m)) ≡ true)
+        × (take n (now entries) ≡ foundEntries (now table) n 6 (drop 6 (now m))) ⌝ }
+    ensures { λ r. ⌜ r ≡ verdictOf (firstBad (λ e. judgedDatapoint (found datapointId (e .id) (now (table .entry))) e) (setEntries firstDatapointEntry 4 n (drop 6 (now (m .entry))))) ⌝ }
+{
+    let mut k: usize = 0;
+    let count = n as usize;
+    while k < count {
+        let f = entries[k];
+        let code = judge_datapoint(table, m, f);
+        if code != 0 {
+            let at = f.at as usize;
+            let v = verdict_at(m, at, code);
+            return v;
+        }
+        k += 1;
+    }
+    Verdict { id: 0, code: 0 }
+}
+
+// The entries applied in order.
+pub fn apply_datapoints(table: &mut [Datapoint], m: &[u8], entries: &[Found], n: u16)
+    requires { ⌜ (length (now table) ≤ 1000) × (rising 0 (map datapointId (now table)) ≡ true) × (fills 4 n (drop 6 (now m)) ≡ true) × (allShort 14 (setEntries firstDatapointEntry 4 n (drop 6 (now m))) ≡ true)
+        × (take n (now entries) ≡ foundEntries (now table) n 6 (drop 6 (now m))) ⌝ }
+    ensures { λ _. ⌜ now (table .exit) ≡ applied datapointId setDatapoint (setEntries firstDatapointEntry 4 n (drop 6 (now (m .entry)))) (now (table .entry)) ⌝ }
+{
+    let mut k: usize = 0;
+    let count = n as usize;
+    while k < count {
+        let f = entries[k];
+        apply_datapoint(table, m, f);
+        k += 1;
+    }
+}
+
+// The entries of items judged one after the other: the first bad one decides.
+pub fn judge_items(table: &[Item], m: &[u8], n: u16) -> Verdict
+    requires { ⌜ (length (now table) ≤ 64) × (rising 0 (map itemId (now table)) ≡ true) × (fills 3 n (drop 6 (now m)) ≡ true) ⌝ }
+    ensures { λ r. ⌜ r ≡ verdictOf (firstBad (λ e. judgedItem (found itemId (e .id) (now (table .entry))) e) (setEntries firstItemEntry 3 n (drop 6 (now (m .entry))))) ⌝ }
+{
+    let mut at: usize = 6;
+    let mut left = n;
+    while 0 < left {
+        let code = judge_item(table, m, at);
+        if code != 0 {
+            let v = verdict_at(m, at, code);
+            return v;
+        }
+        let end = entry_end(m, at, 3);
+        at = end;
+        left -= 1;
+    }
+    Verdict { id: 0, code: 0 }
+}
+
+// The entries of items applied in order.
+pub fn apply_items(table: &mut [Item], m: &[u8], n: u16)
+    requires { ⌜ (length (now table) ≤ 64) × (rising 0 (map itemId (now table)) ≡ true) × (fills 3 n (drop 6 (now m)) ≡ true) × (allShort 16 (setEntries firstItemEntry 3 n (drop 6 (now m))) ≡ true) ⌝ }
+    ensures { λ _. ⌜ now (table .exit) ≡ applied itemId setItem (setEntries firstItemEntry 3 n (drop 6 (now (m .entry)))) (now (table .entry)) ⌝ }
+{
+    let mut at: usize = 6;
+    let mut left = n;
+    while 0 < left {
+        apply_item(table, m, at);
+        let end = entry_end(m, at, 3);
+        at = end;
+        left -= 1;
+    }
+}
+
+// Rows 10 and 6, for entries with heads of so many bytes.
+pub fn set_verdict(m: &[u8], head: usize) -> Verdict
+    requires { ⌜ (6 ≤ length (now m)) × (1 ≤ head) × (head ≤ 4) ⌝ }
+    ensures { λ r. ⌜ r ≡ verdictOf (filledFinding head (now (m .entry))) ⌝ }
+{
+    let start = start_of(m);
+    let n = number_of(m);
+    if is_filled(&m[6..], head, n) {
+        if n == 0 {
+            return Verdict { id: start, code: 6 };
+        }
+        return Verdict { id: 0, code: 0 };
+    }
+    Verdict {
+        id: start,
+        code: 10,
+    }
+}
+
+// SetDatapointValue: the answer, into the buffer at `at`; answers where it ends. All entries are judged before any is applied.
+pub fn set_datapoints(table: &mut [Datapoint], m: &[u8], out: &mut [u8], at: usize) -> usize
+    requires { ⌜ (tableOk 1000 datapointId datapointOk (now table) ≡ true) × (6 ≤ length (now m)) × (length (now m) ≤ 254) × (subService (now m) < 0x80) × (at + 254 ≤ length (now out)) ⌝ }
+    ensures { λ r. ⌜ (now (table .exit) ≡ setDatapointValue (datapointsOnly (now (table .entry))) (now (m .entry)) .after .datapoints)
+        × (now (out .exit) ≡ put (now (out .entry)) at (setDatapointValue (datapointsOnly (now (table .entry))) (now (m .entry)) .says))
+        × (r ≡ at + length (setDatapointValue (datapointsOnly (now (table .entry))) (now (m .entry)) .says)) ⌝ }
+{
+    let start = start_of(m);
+    let n = number_of(m);
+    let mut entries = [Found { at: 0, place: 0 }; 62];
+    let filled = find_entries(table, m, n, &mut entries);
+    if !filled {
+        return put_coded(out, at, m, start, 10);
+    }
+    if n == 0 {
+        return put_coded(out, at, m, start, 6);
+    }
+    let u = judge_datapoints(table, m, &entries, n);
+    if u.code != 0 {
+        return put_coded(out, at, m, u.id, u.code);
+    }
+    apply_datapoints(table, m, &entries, n);
+    put_coded(out, at, m, start, 0)
+}
+
+// SetServerItem: the answer, into the buffer at `at`; answers where it ends.
+pub fn set_items(table: &mut [Item], m: &[u8], out: &mut [u8], at: usize) -> usize
+    requires { ⌜ (tableOk 64 itemId itemOk (now table) ≡ true) × (6 ≤ length (now m)) × (subService (now m) < 0x80) × (at + 254 ≤ length (now out)) ⌝ }
+    ensures { λ r. ⌜ (now (table .exit) ≡ setServerItem (itemsOnly (now (table .entry))) (now (m .entry)) .after .items)
+        × (now (out .exit) ≡ put (now (out .entry)) at (setServerItem (itemsOnly (now (table .entry))) (now (m .entry)) .says))
+        × (r ≡ at + length (setServerItem (itemsOnly (now (table .entry))) (now (m .entry)) .says)) ⌝ }
+{
+    let v = set_verdict(m, 3);
+    if v.code != 0 {
+        return put_coded(out, at, m, v.id, v.code);
+    }
+    let n = number_of(m);
+    let u = judge_items(table, m, n);
+    if u.code != 0 {
+        return put_coded(out, at, m, u.id, u.code);
+    }
+    apply_items(table, m, n);
+    let start = start_of(m);
+    put_coded(out, at, m, start, 0)
+}

@@ -1,0 +1,2 @@
+// The tables: runs of records with rising IDs, lent by their owner.
+pub mod table;

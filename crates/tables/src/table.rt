@@ -1,0 +1,153 @@
+// The tables: runs of records with rising IDs, lent by their owner.
+ghost use mathlib.Core.Path.{_≡_};
+ghost use mathlib.Core.Bool.{true};
+ghost use mathlib.Core.List.{map};
+ghost use Prim.Native.Nat.{_<_, _≤_};
+ghost use lib.ListN.{length, getD, set};
+ghost use Rattle.baos.specs.Datapoint.{datapointId, datapointOk, zeroDatapoint};
+ghost use Rattle.baos.specs.Item.{itemId, itemOk, zeroItem};
+ghost use Rattle.baos.specs.Table.{tableOk, place, rising};
+use baos::datapoint::Datapoint;
+use baos::item::Item;
+use masks::datapoint::fits_after;
+use masks::datapoint::four_fit_after;
+use masks::item::four_items_fit_after;
+use masks::item::item_fits_after;
+
+// Whether the table of datapoints is well formed, in one pass.
+pub fn datapoints_well_formed(table: &[Datapoint]) -> bool
+    ensures { λ r. ⌜ r ≡ tableOk 1000 datapointId datapointOk (now (table .entry)) ⌝ }
+{
+    if table.len() > 1000 {
+        return false;
+    }
+    let n = table.len();
+    let mut last: u16 = 0;
+    let mut i: usize = 0;
+    while i + 3 < n {
+        let a = table[i];
+        let b = table[i + 1];
+        let c = table[i + 2];
+        let d = table[i + 3];
+        if !four_fit_after(a, b, c, d, last) {
+            return false;
+        }
+        last = d.id;
+        i += 4;
+    }
+    while i < n {
+        let d = table[i];
+        if !fits_after(d, last) {
+            return false;
+        }
+        last = d.id;
+        i += 1;
+    }
+    true
+}
+
+// Whether the table of items is well formed, in one pass.
+pub fn items_well_formed(table: &[Item]) -> bool
+    ensures { λ r. ⌜ r ≡ tableOk 64 itemId itemOk (now (table .entry)) ⌝ }
+{
+    if table.len() > 64 {
+        return false;
+    }
+    let n = table.len();
+    let mut last: u16 = 0;
+    let mut i: usize = 0;
+    while i + 3 < n {
+        let a = table[i];
+        let b = table[i + 1];
+        let c = table[i + 2];
+        let d = table[i + 3];
+        if !four_items_fit_after(a, b, c, d, last) {
+            return false;
+        }
+        last = d.id;
+        i += 4;
+    }
+    while i < n {
+        let item = table[i];
+        if !item_fits_after(item, last) {
+            return false;
+        }
+        last = item.id;
+        i += 1;
+    }
+    true
+}
+
+// How many datapoints have a lower ID: where the datapoint of this ID stands if there is one. The width falls 1023, 511, .. 1, 0 whatever is found, so that the loop is unrolled and each choice is a conditional move.
+pub fn datapoint_place(table: &[Datapoint], id: u16) -> usize
+    requires { ⌜ (length (now table) ≤ 1000) × (rising 0 (map datapointId (now table)) ≡ true) ⌝ }
+    ensures { λ r. ⌜ r ≡ place datapointId id (now (table .entry)) ⌝ }
+{
+    let n = table.len();
+    let mut at: usize = 0;
+    let mut width: usize = 1023;
+    while width > 0 {
+        let half = width / 2;
+        let mid = at + half;
+        if mid < n {
+            if table[mid].id < id {
+                at = mid + 1;
+            }
+        }
+        width = half;
+    }
+    at
+}
+
+// How many items have a lower ID.
+pub fn item_place(table: &[Item], id: u16) -> usize
+    requires { ⌜ (length (now table) ≤ 64) × (rising 0 (map itemId (now table)) ≡ true) ⌝ }
+    ensures { λ r. ⌜ r ≡ place itemId id (now (table .entry)) ⌝ }
+{
+    let n = table.len();
+    let mut at: usize = 0;
+    let mut width: usize = 127;
+    while width > 0 {
+        let half = width / 2;
+        let mid = at + half;
+        if mid < n {
+            if table[mid].id < id {
+                at = mid + 1;
+            }
+        }
+        width = half;
+    }
+    at
+}
+
+// The datapoint at a place.
+pub fn datapoint_at(table: &[Datapoint], place: usize) -> Datapoint
+    requires { ⌜ place < length (now table) ⌝ }
+    ensures { λ r. ⌜ r ≡ getD (now (table .entry)) place zeroDatapoint ⌝ }
+{
+    table[place]
+}
+
+// The item at a place.
+pub fn item_at(table: &[Item], place: usize) -> Item
+    requires { ⌜ place < length (now table) ⌝ }
+    ensures { λ r. ⌜ r ≡ getD (now (table .entry)) place zeroItem ⌝ }
+{
+    table[place]
+}
+
+// A datapoint put in a place.
+pub fn put_datapoint_at(table: &mut [Datapoint], place: usize, d: Datapoint)
+    requires { ⌜ place < length (now table) ⌝ }
+    ensures { λ _. ⌜ now (table .exit) ≡ set (now (table .entry)) place d ⌝ }
+{
+    table[place] = d;
+}
+
+// An item put in a place.
+pub fn put_item_at(table: &mut [Item], place: usize, item: Item)
+    requires { ⌜ place < length (now table) ⌝ }
+    ensures { λ _. ⌜ now (table .exit) ≡ set (now (table .entry)) place item ⌝ }
+{
+    table[place] = item;
+}

@@ -1,0 +1,2 @@
+// Bytes, and the words that all definitions share.
+pub mod bytes;
