@@ -18,6 +18,7 @@ use Rattle.baos.specs.Get.{AnswerEntry, inRequest, overflow, roomForEntr
 use Rattle.baos.specs.Set.{SetEntry, setFinding, setting, setServerItem, setDatapointValue}
 use Rattle.baos.specs.Service.{service, unanswered, carriedOut}
 use Rattle.baos.specs.Indication.{needs, goes, roomAfter, choices, reported, indicationOf, indication}
+use Rattle.baos.proofs.DispatchLaws.{by-service, by-message}
 
 -- the length of an answer; the empty list is no answer
 pub data Sized (a : List ℕ) : Type 0 where
@@ -97,29 +98,23 @@ parameters-have n (x ∷ xs) = parameters-have (suc n) xs
 
 -- ---- every answer
 service-sized : (t : Tables) (m : List ℕ) → Sized (service t m .says)
-unfolding service getServerItem setServerItem getDatapointDescription getDatapointValue setDatapointValue getParameterByte
-service-sized t m = go (eqb (subService m) 1) (eqb (subService m) 2) (eqb (subService m) 3) (eqb (subService m) 5) (eqb (subService m) 6) (eqb (subService m) 7) refl refl refl refl refl refl
+unfolding getServerItem setServerItem getDatapointDescription getDatapointValue setDatapointValue getParameterByte
+service-sized t m =
+    by-service (λ (s : Served). Sized (s .says)) t m
+    (get-sized 6 false _ t t m (items-have _ (t .items)))
+    (set-sized 3 _ _ _ t m)
+    (get-sized 6 false _ t t m (descriptions-have _ (t .datapoints)))
+    (get-sized 7 (ltb 2 (filterOf m)) _ t _ m (values-have (keep (asked m) (t .datapoints))))
+    (set-sized 4 _ _ _ t m)
+    (get-sized 6 false _ t t m (parameters (eqb (startOf m) 0)))
+    (coded-sized m (startOf m) 5)
   where
-    go : (a b c d e f : Bool) → eqb (subService m) 1 ≡ a → eqb (subService m) 2 ≡ b → eqb (subService m) 3 ≡ c → eqb (subService m) 5 ≡ d → eqb (subService m) 6 ≡ e → eqb (subService m) 7 ≡ f → Sized (service t m .says)
-    go true b c d e f e1 e2 e3 e5 e6 e7 = simp e1 (get-sized 6 false _ t t m (items-have _ (t .items)))
-    go false true c d e f e1 e2 e3 e5 e6 e7 = simp (e1, e2) (set-sized 3 _ _ _ t m)
-    go false false true d e f e1 e2 e3 e5 e6 e7 = simp (e1, e2, e3) (get-sized 6 false _ t t m (descriptions-have _ (t .datapoints)))
-    go false false false true e f e1 e2 e3 e5 e6 e7 = simp (e1, e2, e3, e5) (get-sized 7 (ltb 2 (filterOf m)) _ t _ m (values-have (keep (asked m) (t .datapoints))))
-    go false false false false true f e1 e2 e3 e5 e6 e7 = simp (e1, e2, e3, e5, e6) (set-sized 4 _ _ _ t m)
-    go false false false false false true e1 e2 e3 e5 e6 e7 = simp (e1, e2, e3, e5, e6, e7) (get-sized 6 false _ t t m (parameters (eqb (startOf m) 0)))
-      where
-        parameters : (u : Bool) → T (every hasBytes (if u then [] else keep (λ (e : AnswerEntry). inRequest m (e .id)) (parameterEntries 1 (t .parameters))))
-        parameters true = tt
-        parameters false = every-keep (λ (e : AnswerEntry). inRequest m (e .id)) hasBytes (parameterEntries 1 (t .parameters)) (parameters-have 1 (t .parameters))
-    go false false false false false false e1 e2 e3 e5 e6 e7 = simp (e1, e2, e3, e5, e6, e7) (coded-sized m (startOf m) 5)
+    parameters : (u : Bool) → T (every hasBytes (if u then [] else keep (λ (e : AnswerEntry). inRequest m (e .id)) (parameterEntries 1 (t .parameters))))
+    parameters true = tt
+    parameters false = every-keep (λ (e : AnswerEntry). inRequest m (e .id)) hasBytes (parameterEntries 1 (t .parameters)) (parameters-have 1 (t .parameters))
 
 pub answer-sized : (t : Tables) (m : List ℕ) → Sized (carriedOut t m .says)
-unfolding carriedOut
-answer-sized t m = go (unanswered m) refl
-  where
-    go : (u : Bool) → unanswered m ≡ u → Sized (carriedOut t m .says)
-    go true e = simp e (none refl)
-    go false e = simp e (service-sized t m)
+answer-sized t m = by-message (λ (s : Served). Sized (s .says)) t m (none refl) (service-sized t m)
 
 -- ---- every indication
 chosenBytes : ℕ → List Datapoint → List ℕ

@@ -15,7 +15,7 @@ use Rattle.baos.specs.declared.inner.Wanted.{Wanted}
 use Rattle.baos.specs.declared.inner.Gathered.{Gathered}
 use Rattle.baos.specs.Datapoint.{datapointId, handedOut}
 use Rattle.baos.specs.Item.{itemId}
-use Rattle.baos.specs.Table.{Tables, rising}
+use Rattle.baos.specs.Table.{Tables, withDatapoints, rising}
 use Rattle.baos.specs.Message.{startOf, numberOf, filterOf, fine, bad}
 use Rattle.baos.specs.Get.{AnswerEntry, overflow, roomForEntries, listing, getFinding, inRequest, itemEntry, descriptionEntry, valueEntry, passes, asked, handingOut}
 use Rattle.baos.specs.Inner.Gather.{isBehind, isWithin, isWanted, entryOf, leftOf, ended, withEntry, measured, walked, nothingGathered, built, left}
@@ -608,11 +608,6 @@ module _ (m : List ℕ) (k : ℕ) where
 
   -- the tables after GetDatapointValue
   pub handed-out-left : (t : Tables) → T (rising 0 (map datapointId (t .datapoints))) → T (every (inFront datapointId (startOf m)) (take k (t .datapoints)))
-      → handingOut m t
-      ≡ record {
-        datapoints = take k (t .datapoints) ++ datapointsLeft (wantedBy m (filterOf m) true) (drop k (t .datapoints));
-        items = t .items;
-        parameters = t .parameters;
-      }
+      → handingOut m t ≡ withDatapoints (take k (t .datapoints) ++ datapointsLeft (wantedBy m (filterOf m) true) (drop k (t .datapoints))) t
   unfolding handingOut
   handed-out-left t rises front = rw (values-left (t .datapoints) rises front)

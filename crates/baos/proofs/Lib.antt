@@ -4,6 +4,7 @@ pub mod AnsweredLaws
 pub mod ApplyLaws
 pub mod CarryJoins
 pub mod DatapointLaws
+pub mod DispatchLaws
 pub mod EntriesLaws
 pub mod EntryLaws
 pub mod FieldsFit

@@ -11,7 +11,7 @@ use lib.Dec.{T, leb, ltb, eqb, ltb→lt, lt→ltb}
 use borrow.Author.Tests.{ne-eqb, eqb-true}
 use Rattle.words.specs.Words.{if_then_else_, every}
 use Rattle.words.proofs.WordLaws.{left, right, both, parts3, join3, true-T}
-use Rattle.baos.specs.Table.{rising, Rises, tableOk, found, changed}
+use Rattle.baos.specs.Table.{Tables, rising, Rises, tableOk, found, changed}
 use Rattle.baos.specs.Set.{SetEntry, applied}
 
 -- ---- "IDs are 1 or more and strictly rise": the test decides it
@@ -144,3 +144,7 @@ module _ {A : Type 0} (idOf : A → ℕ) where
           both (every (at (p .id) (fit p)) (changed idOf (o .id) (f o) xs)) (every (λ r. every (at (r .id) (fit r)) (changed idOf (o .id) (f o) xs)) ps)
           (rw (fit-kept fit f h k o p xs) (left (every (at (p .id) (fit p)) xs) (every (λ r. every (at (r .id) (fit r)) xs) ps) q))
           (kept ps (right (every (at (p .id) (fit p)) xs) (every (λ r. every (at (r .id) (fit r)) xs) ps) q))
+
+-- ---- tables that have the same records are the same
+pub same-tables : {s t : Tables} → s .datapoints ≡ t .datapoints → s .items ≡ t .items → s .parameters ≡ t .parameters → s ≡ t
+same-tables d i p = λ k. record { datapoints = d k; items = i k; parameters = p k }

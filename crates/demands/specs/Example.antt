@@ -10,7 +10,7 @@ use Rattle.ft12.specs.Frame.{dataFrame}
 use Rattle.ft12.specs.Record.{Line, linkOf}
 use Rattle.baos.specs.declared.datapoint.Datapoint.{Datapoint}
 use Rattle.baos.specs.declared.item.Item.{Item}
-use Rattle.baos.specs.Table.{Tables}
+use Rattle.baos.specs.Table.{Tables, datapointsOnly, itemsOnly, parametersOnly, withItems}
 use Rattle.baos.specs.Message.{mainService, subService, startOf, numberOf, filterOf, coded}
 use Rattle.baos.specs.Set.{fills, firstDatapointEntry}
 use Rattle.baos.specs.Service.{carriedOut}
@@ -52,11 +52,7 @@ exchange t m answer t′ =
 -- 1: item 1 = 00 00 C5 07 00 02
 unfoldable pub item1 : Tables
 item1 =
-    record {
-      datapoints = [];
-      items = record { id = 1; size = 6; writable = false; bytes = pad 16 (0x00 ∷ 0x00 ∷ 0xC5 ∷ 0x07 ∷ 0x00 ∷ 0x02 ∷ []) } ∷ [];
-      parameters = [];
-    }
+    itemsOnly (record { id = 1; size = 6; writable = false; bytes = pad 16 (0x00 ∷ 0x00 ∷ 0xC5 ∷ 0x07 ∷ 0x00 ∷ 0x02 ∷ []) } ∷ [])
 
 unfoldable pub ask1 : List ℕ
 ask1 = 0x68 ∷ 0x07 ∷ 0x07 ∷ 0x68 ∷ 0x73 ∷ 0xF0 ∷ 0x01 ∷ 0x00 ∷ 0x01 ∷ 0x00 ∷ 0x01 ∷ 0x66 ∷ 0x16 ∷ []
@@ -82,7 +78,7 @@ unfoldable pub datapoint : ℕ → ℕ → ℕ → List ℕ → Datapoint
 datapoint id typecode state value = record { id = id; typecode = typecode; flags = 0; dpt = 1; state = state; value = pad 14 value; mark = false }
 
 unfoldable pub datapoint5 : ℕ → ℕ → Tables
-datapoint5 state value = record { datapoints = datapoint 5 0 state (value ∷ []) ∷ []; items = []; parameters = [] }
+datapoint5 state value = datapointsOnly (datapoint 5 0 state (value ∷ []) ∷ [])
 
 unfoldable pub answer3 : List ℕ
 answer3 = 0x68 ∷ 0x08 ∷ 0x08 ∷ 0x68 ∷ 0xF3 ∷ 0xF0 ∷ 0x86 ∷ 0x00 ∷ 0x05 ∷ 0x00 ∷ 0x00 ∷ 0x00 ∷ 0x6E ∷ 0x16 ∷ []
@@ -110,7 +106,7 @@ oneByteFrom id zero = []
 oneByteFrom id (suc n) = datapoint id 7 0x10 (id ∷ []) ∷ oneByteFrom (suc id) n
 
 unfoldable pub oneBytes : ℕ → Tables
-oneBytes n = record { datapoints = oneByteFrom 1 n; items = []; parameters = [] }
+oneBytes n = datapointsOnly (oneByteFrom 1 n)
 
 unfoldable pub entriesFrom : ℕ → ℕ → List ℕ
 entriesFrom id zero = []
@@ -124,7 +120,7 @@ case5more = exchange (oneBytes 50) (0xF0 ∷ 0x05 ∷ 0x00 ∷ 0x01 ∷ 0x00 ∷
 
 -- 6: n parameter bytes
 unfoldable pub parameterBytes : ℕ → Tables
-parameterBytes n = record { datapoints = []; items = []; parameters = replicate n 0xAB }
+parameterBytes n = parametersOnly (replicate n 0xAB)
 
 unfoldable pub case6 : Case
 case6 = exchange (parameterBytes 248) (0xF0 ∷ 0x07 ∷ 0x00 ∷ 0x01 ∷ 0x00 ∷ 248 ∷ []) (0xF0 ∷ 0x87 ∷ 0x00 ∷ 0x01 ∷ 0x00 ∷ 248 ∷ replicate 248 0xAB) (parameterBytes 248)
@@ -162,11 +158,8 @@ isGet sub = eqb sub 0x01 || eqb sub 0x03 || eqb sub 0x05 || eqb sub 0x07
 -- the tables with the entries of ID 65535 alone; there is no parameter byte of that index
 unfoldable pub lastIds : Tables → Tables
 lastIds t =
-    record {
-      datapoints = keep (λ (d : Datapoint). eqb (d .id) 0xFFFF) (t .datapoints);
-      items = keep (λ (i : Item). eqb (i .id) 0xFFFF) (t .items);
-      parameters = [];
-    }
+    withItems (keep (λ (i : Item). eqb (i .id) 0xFFFF) (t .items))
+    (datapointsOnly (keep (λ (d : Datapoint). eqb (d .id) 0xFFFF) (t .datapoints)))
 
 -- IDs of two bytes, parameter bytes as a well-formed table has them
 pub record TwoByteIds (t : Tables) : Type 0 where

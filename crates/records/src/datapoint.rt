@@ -7,7 +7,7 @@ ghost use lib.ListN.{length};
 ghost use Rattle.words.specs.Words.{pad, put};
 ghost use Rattle.baos.specs.Datapoint.{sizeOf, limitOf, unusedBitsOk, isValue, handedOut, busValue, outcome, commanded, withState, withMark, zeroDatapoint};
 ghost use Rattle.baos.specs.Get.{descriptionEntry, valueEntry, passes};
-ghost use Rattle.baos.specs.Set.{datapointCode};
+ghost use Rattle.baos.specs.Set.{takesCommand, datapointCode};
 ghost use Rattle.baos.specs.Inner.Gather.{wideValue};
 use baos::datapoint::Datapoint;
 use words::bytes::put_bytes;
@@ -186,11 +186,18 @@ pub fn command_byte(d: Datapoint, c: u8, b: u8) -> Datapoint
     r
 }
 
+// Whether a set request may carry the command.
+fn takes_command(c: u8) -> bool
+    ensures { λ r. ⌜ r ≡ takesCommand c ⌝ }
+{
+    c <= 5
+}
+
 // The code of a set entry for this record, 0 where nothing is wrong.
 pub fn entry_code(d: Datapoint, c: u8, value: &[u8]) -> u8
     ensures { λ r. ⌜ r ≡ datapointCode d c (now (value .entry)) ⌝ }
 {
-    if 5 < c {
+    if !takes_command(c) {
         return 8;
     }
     if value.len() == 0 {
