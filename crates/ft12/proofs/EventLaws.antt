@@ -12,7 +12,7 @@ use Rattle.ft12.specs.declared.record.Link.{Link}
 use Rattle.words.specs.Words.{if_then_else_, isEmpty, pad, put, isPadded}
 use Rattle.ft12.specs.Frame.{fixedFrame, dataFrame, longestMessage}
 use Rattle.ft12.specs.Record.{Line, linkWith, lineOf, linkOf, serverControl, memoryOk, inRange}
-use Rattle.ft12.specs.Rules.{Moved, Up, nothing, still, atStart, cleared, holding, onIdleMark, onAckWaitOver, onMessage}
+use Rattle.ft12.specs.Rules.{Moved, Up, nothing, dropped, still, atStart, cleared, holding, onIdleMark, onAckWaitOver, onMessage}
 use Rattle.ft12.specs.Promise.{AckWaited, MessageTaken}
 use Rattle.words.proofs.WordLaws.{left, true-T}
 use Rattle.words.proofs.ByteLaws.{put-read}
@@ -70,7 +70,7 @@ unfolding onAckWaitOver
 wait-again k t e h = simp (held-empty k t, ne-eqb (k .held) 0 e, lt-ltb (lineOf k .resends) 3 (omega (arith, resends-are k)))
 
 wait-over : (k : Link) → T (inRange k) → (k .held ≡ 0 → ⊥) → 3 ≤ k .resends
-    → onAckWaitOver (lineOf k) ≡ record { sent = fixedFrame 0xC0; up = nothing; line = cleared true (lineOf k) }
+    → onAckWaitOver (lineOf k) ≡ record { sent = fixedFrame 0xC0; up = dropped; line = cleared true (lineOf k) }
 unfolding onAckWaitOver
 wait-over k t e h = simp (held-empty k t, ne-eqb (k .held) 0 e, le-ltb (lineOf k .resends) 3 (omega (arith, resends-are k)))
 

@@ -15,7 +15,7 @@ use Rattle.words.specs.Words.{if_then_else_, isEmpty}
 use Rattle.ft12.specs.Frame.{acknowledgement, fixedFrame, dataFrame, Whole, messageOf, isWhole}
 use Rattle.ft12.specs.Receiver.{judged, isMore, gathers, isBeginning}
 use Rattle.ft12.specs.Record.{Line, hostControl, serverControl, receiverOk, outstandingOk, lineOk}
-use Rattle.ft12.specs.Rules.{Up, nothing, acknowledged, reset, message, Moved, still, receiving, atStart, startDropping, gathering, cleared, holding, expecting, caseOfAcknowledgement, caseOfFixed, caseOfData, caseOf, heardAt, onHeard, onHostByte, onIdleMark, onAckWaitOver, onMessage}
+use Rattle.ft12.specs.Rules.{Up, nothing, acknowledged, dropped, reset, message, Moved, still, receiving, atStart, startDropping, gathering, cleared, holding, expecting, caseOfAcknowledgement, caseOfFixed, caseOfData, caseOf, heardAt, onHeard, onHostByte, onIdleMark, onAckWaitOver, onMessage}
 use Rattle.words.proofs.WordLaws.{left, right, both, T-true, true-T}
 use Rattle.ft12.proofs.ReceiverLaws.{beginning-on}
 use Rattle.ft12.proofs.FrameLaws.{whole-tested}
