@@ -1,22 +1,21 @@
 -- Every answer and every indication has at least 7 and at most 254 bytes.
-use Prim.Native.Nat.{ℕ, zero, suc, _+_, _-_, _≤_, _<_}
-use mathlib.Core.Path.{_≡_, refl, sym, _∙_, ap}
-use mathlib.Core.Bool.{Bool, true, false, not, _&&_, _||_}
-use mathlib.Core.List.{List, [], _∷_, _++_, map, flatten}
+use Prim.Native.Nat.{ℕ, suc, _+_, _-_, _≤_}
+use mathlib.Core.Path.{_≡_, refl, sym, ap}
+use mathlib.Core.Bool.{Bool, true, false, not, _||_}
+use mathlib.Core.List.{List, [], _∷_, map, flatten}
 use native.Mathlib.Omega.{arith}
-use lib.ListN.{length, getD, length-append, length-take}
+use lib.ListN.{length, getD, length-append}
 use lib.Dec.{T, leb, ltb, eqb, leb→le, le→leb}
-use borrow.Author.Tests.{ltb-true, ltb-false, leb-true}
-use Rattle.words.specs.Words.{if_then_else_, twoBytes, isEmpty, every, keep}
-use Rattle.words.proofs.WordLaws.{left, right, both, true-T, every-map, every-true, every-keep}
+use borrow.Author.Tests.{ltb-false, leb-true}
+use Rattle.words.specs.Words.{if_then_else_, isEmpty, every, keep}
+use Rattle.words.proofs.WordLaws.{left, true-T, every-map, every-true, every-keep}
 use Rattle.baos.specs.declared.datapoint.Datapoint.{Datapoint}
 use Rattle.baos.specs.declared.item.Item.{Item}
-use Rattle.baos.specs.Datapoint.{sizeOf, valueOf}
 use Rattle.baos.specs.Table.{Tables}
-use Rattle.baos.specs.Message.{mainService, subService, startOf, numberOf, filterOf, coded, Finding, fine, bad, Served, answerOf, afterOf, served}
+use Rattle.baos.specs.Message.{subService, startOf, numberOf, filterOf, coded, Finding, fine, bad, Served, answerOf, served}
 use Rattle.baos.specs.Get.{AnswerEntry, inRequest, overflow, roomForEntries, listing, getFinding, getting, itemEntry, getServerItem, descriptionEntry, getDatapointDescription, valueEntry, asked, getDatapointValue, parameterEntries, getParameterByte}
 use Rattle.baos.specs.Set.{SetEntry, setFinding, setting, setServerItem, setDatapointValue}
-use Rattle.baos.specs.Service.{service, unanswered, carriedOut}
+use Rattle.baos.specs.Service.{service, carriedOut}
 use Rattle.baos.specs.Indication.{needs, goes, roomAfter, choices, reported, indicationOf, indication}
 use Rattle.baos.proofs.DispatchLaws.{by-service, by-message}
 

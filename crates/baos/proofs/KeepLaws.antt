@@ -1,23 +1,22 @@
 -- Well-formed tables stay well formed, whatever message is carried out and whatever is indicated.
-use Prim.Native.Nat.{ℕ, zero, suc, _+_, _-_, _≤_, _<_}
-use mathlib.Core.Path.{_≡_, refl, sym, _∙_, ap}
-use mathlib.Core.Bool.{Bool, true, false, not, _&&_, _||_}
-use mathlib.Core.List.{List, [], _∷_, _++_, map}
+use Prim.Native.Nat.{ℕ, suc, _-_}
+use mathlib.Core.Path.{_≡_, refl, ap}
+use mathlib.Core.Bool.{Bool, true, false, not, _||_}
+use mathlib.Core.List.{List, [], _∷_, map}
 use native.Mathlib.Omega.{arith}
-use lib.ListN.{length, getD, take, drop}
-use lib.Dec.{T, leb, ltb, eqb, eqb→eq}
-use borrow.Author.Tests.{eqb-true, eqb-false}
+use lib.ListN.{length, drop}
+use lib.Dec.{T, leb, eqb, eqb→eq}
 use Rattle.words.specs.Words.{if_then_else_, isEmpty, every}
-use Rattle.words.proofs.WordLaws.{left, right, both, parts3, join3, true-T, T-true, every-imp, every-true}
+use Rattle.words.proofs.WordLaws.{left, right, both, parts3, join3, T-true, every-imp, every-true}
 use Rattle.baos.specs.declared.datapoint.Datapoint.{Datapoint}
 use Rattle.baos.specs.declared.item.Item.{Item}
-use Rattle.baos.specs.Datapoint.{datapointId, datapointOk, sizeOf, unusedBitsOk, isValue, withState, withMark, handedOut, commanded}
+use Rattle.baos.specs.Datapoint.{datapointId, datapointOk, sizeOf, unusedBitsOk, isValue, withState, withMark, handedOut}
 use Rattle.baos.specs.Item.{itemId, itemOk, withBytes}
 use Rattle.baos.specs.Table.{Tables, withDatapoints, rising, tableOk, wellFormed, found}
-use Rattle.baos.specs.Message.{mainService, subService, startOf, numberOf, filterOf, coded, Finding, fine, bad, Served, answerOf, afterOf, served}
+use Rattle.baos.specs.Message.{startOf, numberOf, Finding, fine, bad, Served, afterOf, served}
 use Rattle.baos.specs.Get.{roomForEntries, getting, getServerItem, getDatapointDescription, asked, handingOut, getDatapointValue, getParameterByte}
-use Rattle.baos.specs.Set.{SetEntry, firstItemEntry, firstDatapointEntry, fills, setEntries, itemCode, takesCommand, datapointCode, judgedItem, judgedDatapoint, firstBad, setFinding, applied, setting, setItem, setServerItem, setDatapoint, setDatapointValue}
-use Rattle.baos.specs.Service.{service, unanswered, carriedOut}
+use Rattle.baos.specs.Set.{SetEntry, firstItemEntry, firstDatapointEntry, fills, setEntries, itemCode, takesCommand, datapointCode, judgedItem, judgedDatapoint, firstBad, setFinding, setting, setItem, setServerItem, setDatapoint, setDatapointValue}
+use Rattle.baos.specs.Service.{service, carriedOut}
 use Rattle.baos.specs.Indication.{goes, roomAfter, Choice, choices, reported, afterReport, indicationOf, indication}
 use Rattle.baos.proofs.TableLaws
 use Rattle.baos.proofs.DispatchLaws.{by-service, by-message}

@@ -7,7 +7,7 @@ use native.Mathlib.Omega.{arith}
 use lib.ListN.{length, drop, length-drop}
 use lib.Seq.{drop-drop}
 use borrow.Author.Tests.{eq-eqb, eqb-true}
-use lib.Dec.{T, leb, ltb, eqb, leb→le, le→leb}
+use lib.Dec.{T, leb, eqb, leb→le, le→leb}
 use Rattle.words.specs.Words.{if_then_else_, every, isEmpty, isPadded, areZero}
 use Rattle.words.proofs.WordLaws.{left, right, true-T, T-true}
 use Rattle.baos.specs.declared.datapoint.Datapoint.{Datapoint}

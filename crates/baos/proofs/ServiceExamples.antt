@@ -1,10 +1,9 @@
 -- A reading is handed out once: the state byte is shown as it was, then bit 3 is cleared, and a second request for updated readings finds none.
 use Prim.Native.Nat.{ℕ}
 use mathlib.Core.Path.{_≡_, refl}
-use mathlib.Core.Bool.{Bool, true, false}
+use mathlib.Core.Bool.{true}
 use mathlib.Core.List.{List, [], _∷_, flatten}
 use Rattle.words.specs.Words.{pad}
-use Rattle.baos.specs.declared.datapoint.Datapoint.{Datapoint}
 use Rattle.baos.specs.Datapoint.{sizeOf, valueOf, withState, handedOut}
 use Rattle.baos.specs.Table.{Tables, datapointsOnly}
 use Rattle.baos.specs.Message.{mainService, subService, startOf, numberOf, filterOf, coded, answerOf, afterOf, served}

@@ -1,16 +1,16 @@
 -- Tables of records with rising IDs: one set of laws for items and datapoints.
-use Prim.Native.Nat.{ℕ, zero, suc, _+_, _-_, _≤_, _<_}
-use mathlib.Core.Path.{_≡_, refl, sym, _∙_, ap}
+use Prim.Native.Nat.{ℕ, zero, suc, _-_, _≤_, _<_}
+use mathlib.Core.Path.{_≡_, refl}
 use mathlib.Core.Logic.{_↔_}
-use mathlib.Core.Bool.{Bool, true, false, not, _&&_}
-use mathlib.Core.List.{List, [], _∷_, _++_, map}
+use mathlib.Core.Bool.{Bool, true, false}
+use mathlib.Core.List.{List, [], _∷_, map}
 use native.Mathlib.Omega.{arith}
 use native.Mathlib.Nat.{not-suc-le-zero, le-of-suc-le-suc}
 use lib.ListN.{length, getD, length-map}
 use lib.Dec.{T, leb, ltb, eqb, ltb→lt, lt→ltb}
 use borrow.Author.Tests.{ne-eqb, eqb-true}
 use Rattle.words.specs.Words.{if_then_else_, every}
-use Rattle.words.proofs.WordLaws.{left, right, both, parts3, join3, true-T}
+use Rattle.words.proofs.WordLaws.{left, right, both, parts3, join3}
 use Rattle.baos.specs.Table.{Tables, rising, Rises, tableOk, found, changed}
 use Rattle.baos.specs.Set.{SetEntry, applied}
 

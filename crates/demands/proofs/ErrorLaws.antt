@@ -20,7 +20,7 @@ use Rattle.baos.specs.Table.{Tables}
 use Rattle.baos.specs.Message.{subService, startOf, numberOf, filterOf, coded, Finding, fine, bad, Served, answerOf, afterOf, served}
 use Rattle.baos.specs.Get.{AnswerEntry, listing, getFinding, getting, getServerItem, getDatapointDescription, getDatapointValue, getParameterByte}
 use Rattle.baos.specs.Set.{SetEntry, setFinding, setting, setServerItem, setDatapointValue}
-use Rattle.baos.specs.Service.{service, unanswered, carriedOut}
+use Rattle.baos.specs.Service.{service, carriedOut}
 use Rattle.baos.specs.Indication.{indication}
 use Rattle.baos.proofs.DispatchLaws.{by-service, by-message}
 use Rattle.calls.specs.declared.event.Event.{Event}

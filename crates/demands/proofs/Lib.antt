@@ -5,6 +5,7 @@ pub mod Examples
 pub mod SecondRequest
 pub mod ExchangeLaws
 pub mod CallRuns
+pub mod OneDelivery
 pub mod Demand3
 pub mod Demand3Met
 pub mod Demand1
