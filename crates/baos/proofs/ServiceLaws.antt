@@ -6,7 +6,7 @@ use mathlib.Core.List.{List, [], _∷_, map}
 use native.Mathlib.Omega.{arith}
 use lib.ListN.{length, getD, drop, length-map}
 use lib.Dec.{leb, ltb, eqb}
-use borrow.Author.Tests.{eq-eqb, ne-eqb, ltb-false, eqb-true, leb-false}
+use borrow.Author.Tests.{eq-eqb, ne-eqb, ltb-false, leb-false}
 use Rattle.words.specs.Words.{if_then_else_, keep}
 use Rattle.words.proofs.WordLaws.{true-T}
 use Rattle.baos.specs.declared.datapoint.Datapoint.{Datapoint}
@@ -95,10 +95,6 @@ module _ (t : Tables) (m : List ℕ) where
   unfolding getServerItem getting served
   items-leave-all = after-all _ t
 
-  pub items-after : getServerItem t m .after .items ≡ getServerItem (itemsOnly (t .items)) m .after .items
-  unfolding getServerItem getting served
-  items-after = after-same itemsOf _ t t (itemsOnly (t .items)) (itemsOnly (t .items)) refl refl
-
   pub set-items-say : setServerItem t m .says ≡ setServerItem (itemsOnly (t .items)) m .says
   unfolding setServerItem setting served
   set-items-say = refl
@@ -122,10 +118,6 @@ module _ (t : Tables) (m : List ℕ) where
   pub parameters-leave-all : getParameterByte t m .after ≡ t
   unfolding getParameterByte getting served
   parameters-leave-all = after-all _ t
-
-  pub descriptions-leave-all : getDatapoints false t m .after ≡ t
-  unfolding getDatapoints getDatapointDescription getting served
-  descriptions-leave-all = after-all _ t
 
   -- each service as a whole, by what it does with its own table
   pub get-datapoints-whole : (values : Bool)
@@ -188,14 +180,8 @@ module _ (m : List ℕ) (u : unanswered m ≡ false) where
   pub answered-long : 6 ≤ length m
   answered-long = omega (arith, ltb-false (length m) 6 (three .0))
 
-  pub answered-main : mainService m ≡ 0xF0
-  answered-main = eqb-true (mainService m) 0xF0 (three .1)
-
   pub answered-sub : subService m < 0x80
   answered-sub = omega (arith, leb-false 0x80 (subService m) (three .2))
-
-  pub answered-shape : (6 ≤ length m) × (subService m < 0x80)
-  answered-shape = (answered-long, answered-sub)
 
 -- ---- which service a sub-service is
 module _ (t : Tables) (m : List ℕ) (u : unanswered m ≡ false) where
