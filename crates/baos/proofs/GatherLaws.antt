@@ -164,10 +164,6 @@ and-false : (a : Bool) → (a && false) ≡ false
 and-false true = refl
 and-false false = refl
 
-positive-of : (n : ℕ) → (n ≡ 0 → ⊥) → 1 ≤ n
-positive-of zero f = absurd (f refl)
-positive-of (suc n) f = omega arith
-
 before-all : {A : Type 0} (idOf : A → ℕ) (wanted : A → Bool) (over : ℕ) → over ≡ 0 → (xs : List A) → keep (before idOf wanted over) xs ≡ keep wanted xs
 before-all idOf wanted over e [] = refl
 before-all {A} idOf wanted over e (x ∷ xs) = go (wanted x) refl (before-all idOf wanted over e xs)

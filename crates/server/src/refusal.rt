@@ -5,7 +5,7 @@ ghost use Rattle.calls.specs.Promise.{lentRefusal};
 use baos::datapoint::Datapoint;
 use baos::item::Item;
 use ft12::record::Link;
-use link::record::in_range;
+use link::range::in_range;
 use tables::table::datapoints_well_formed;
 use tables::table::items_well_formed;
 
