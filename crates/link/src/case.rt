@@ -2,6 +2,11 @@
 ghost use mathlib.Core.Path.{_≡_};
 ghost use Rattle.ft12.specs.Record.{serverControl, hostControl};
 ghost use Rattle.ft12.specs.Rules.{BitsAfter, caseOfAcknowledgement, caseOfFixed, caseOfData, caseOf};
+use ft12::frame::HOST_EVEN;
+use ft12::frame::HOST_ODD;
+use ft12::frame::RESET_REQUEST;
+use ft12::frame::SERVER_EVEN;
+use ft12::frame::SERVER_ODD;
 use ft12::receiver::Judgement;
 use ft12::rules::Bits;
 use ft12::rules::Heard;
@@ -11,9 +16,9 @@ pub fn server_control(odd: bool) -> u8
     ensures { λ r. ⌜ r ≡ serverControl odd ⌝ }
 {
     if odd {
-        return 0xF3;
+        return SERVER_ODD;
     }
-    0xD3
+    SERVER_EVEN
 }
 
 // 73 or 53.
@@ -21,9 +26,9 @@ fn host_control(odd: bool) -> u8
     ensures { λ r. ⌜ r ≡ hostControl odd ⌝ }
 {
     if odd {
-        return 0x73;
+        return HOST_ODD;
     }
-    0x53
+    HOST_EVEN
 }
 
 fn case_of_acknowledgement(free: bool) -> Heard
@@ -38,7 +43,7 @@ fn case_of_acknowledgement(free: bool) -> Heard
 fn case_of_fixed(c: u8) -> Heard
     ensures { λ r. ⌜ r ≡ caseOfFixed c ⌝ }
 {
-    if c == 0x40 {
+    if c == RESET_REQUEST {
         return Heard::Reset;
     }
     Heard::Ignored

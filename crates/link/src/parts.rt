@@ -14,6 +14,10 @@ use crate::case::server_control;
 use frames::frame::frame_in_place;
 use frames::frame::put_fixed_frame;
 use frames::receiver::judge_at;
+use ft12::frame::AROUND_MESSAGE;
+use ft12::frame::LONGEST_MESSAGE;
+use ft12::frame::MOST_RESENDS;
+use ft12::frame::SERVER_RESET;
 use ft12::rules::Bits;
 use ft12::rules::Heard;
 use words::bytes::blank;
@@ -151,13 +155,13 @@ pub fn ack_wait_over_at(
     if *held == 0 {
         return 0;
     }
-    if *resends < 3 {
+    if *resends < MOST_RESENDS {
         let n = *held as usize;
         put_first(out, outstanding, n);
         *resends = *resends + 1;
         return n;
     }
-    put_fixed_frame(out, 0, 0xC0);
+    put_fixed_frame(out, 0, SERVER_RESET);
     clear_outstanding(outstanding, held);
     *send = true;
     *resends = 0;
@@ -195,13 +199,13 @@ pub fn message_at(
     if n == 0 {
         return 0;
     }
-    if 254 < n {
+    if LONGEST_MESSAGE < n {
         return 0;
     }
     if *held == 0 {
         let control = server_control(*send);
         frame_in_place(out, at, n, control);
-        let size = n + 7;
+        let size = n + AROUND_MESSAGE;
         keep_frame(outstanding, out, at, size);
         *held = size as u16;
         *resends = 0;

@@ -7,6 +7,7 @@ ghost use Rattle.ft12.specs.Record.{receiverOk, outstandingOk, inRange};
 use crate::case::server_control;
 use frames::frame::is_whole;
 use frames::receiver::is_beginning;
+use ft12::frame::MOST_RESENDS;
 use ft12::record::Link;
 use words::bytes::are_zero;
 
@@ -39,7 +40,7 @@ fn is_outstanding_ok(outstanding: &[u8], n: usize, send: bool, resends: u8) -> b
         if n == 0 {
             return resends == 0;
         }
-        if resends <= 3 {
+        if resends <= MOST_RESENDS {
             let control = server_control(send);
             return is_whole(&outstanding[..n], control);
         }
