@@ -13,6 +13,7 @@ pub mod GatherLaws
 pub mod GetLaws
 pub mod IndicationLaws
 pub mod KeepLaws
+pub mod LastLaws
 pub mod LeftLaws
 pub mod MeasureLaws
 pub mod Pairs

@@ -73,6 +73,10 @@ module _ {A : Type 0} (idOf : A → ℕ) where
   unfolding tableOk
   ids-rise most ok xs t = parts3 (leb (length xs) most) (rising 0 (map idOf xs)) (every ok xs) t .1
 
+  pub entries-ok : (most : ℕ) (ok : A → Bool) (xs : List A) → T (tableOk most idOf ok xs) → T (every ok xs)
+  unfolding tableOk
+  entries-ok most ok xs t = parts3 (leb (length xs) most) (rising 0 (map idOf xs)) (every ok xs) t .2
+
   -- the record of one ID changed by f
   pub table-changed : (most : ℕ) (ok fit : A → Bool) (n : ℕ) (f : A → A) → ((x : A) → idOf (f x) ≡ idOf x) → ((x : A) → T (fit x) → T (ok x) → T (ok (f x)))
       → (xs : List A) → T (every (at n fit) xs) → T (tableOk most idOf ok xs) → T (tableOk most idOf ok (changed idOf n f xs))
