@@ -12,5 +12,6 @@ pub mod Demand1
 pub mod ErrorLaws
 pub mod HostLaws
 pub mod ReadBack
+pub mod HostHearsLaws
 pub mod Demand2
 pub mod PremisesNeeded

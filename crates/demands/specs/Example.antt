@@ -4,7 +4,7 @@ use mathlib.Core.Path.{_≡_}
 use mathlib.Core.Bool.{Bool, true, false}
 use mathlib.Core.List.{List, [], _∷_, _++_, map}
 use lib.ListN.{length, drop, replicate}
-use lib.Dec.{T, ltb, eqb}
+use lib.Dec.{T, ltb}
 use Rattle.words.specs.Words.{if_then_else_, isEmpty, pad, keep, every}
 use Rattle.ft12.specs.Frame.{dataFrame}
 use Rattle.ft12.specs.Record.{Line, linkOf}

@@ -3,6 +3,7 @@ pub mod Example
 pub mod Host
 pub mod Refusals
 pub mod SentFrames
+pub mod HostHears
 pub mod Answers
 pub mod Exchange
 pub mod Needed
