@@ -100,12 +100,12 @@ service-sized : (t : Tables) (m : List ℕ) → Sized (service t m .says)
 unfolding getServerItem setServerItem getDatapointDescription getDatapointValue setDatapointValue getParameterByte
 service-sized t m =
     by-service (λ (s : Served). Sized (s .says)) t m
-    (get-sized 6 false _ t t m (items-have _ (t .items)))
-    (set-sized 3 _ _ _ t m)
-    (get-sized 6 false _ t t m (descriptions-have _ (t .datapoints)))
-    (get-sized 7 (ltb 2 (filterOf m)) _ t _ m (values-have (keep (asked m) (t .datapoints))))
-    (set-sized 4 _ _ _ t m)
-    (get-sized 6 false _ t t m (parameters (eqb (startOf m) 0)))
+    (λ e. get-sized 6 false _ t t m (items-have _ (t .items)))
+    (λ e. set-sized 3 _ _ _ t m)
+    (λ e. get-sized 6 false _ t t m (descriptions-have _ (t .datapoints)))
+    (λ e. get-sized 7 (ltb 2 (filterOf m)) _ t _ m (values-have (keep (asked m) (t .datapoints))))
+    (λ e. set-sized 4 _ _ _ t m)
+    (λ e. get-sized 6 false _ t t m (parameters (eqb (startOf m) 0)))
     (coded-sized m (startOf m) 5)
   where
     parameters : (u : Bool) → T (every hasBytes (if u then [] else keep (λ (e : AnswerEntry). inRequest m (e .id)) (parameterEntries 1 (t .parameters))))

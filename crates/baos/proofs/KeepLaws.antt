@@ -180,12 +180,12 @@ service-keeps : (t : Tables) (m : List ℕ) → T (wellFormed t) → T (wellForm
 unfolding getServerItem getDatapointDescription getDatapointValue getParameterByte getting served
 service-keeps t m w =
     by-service (λ (s : Served). T (wellFormed (s .after))) t m
-    (after-keeps _ t t w (λ p. w))
-    (items-keep t m w)
-    (after-keeps _ t t w (λ p. w))
-    (after-keeps _ t _ w (λ p. out-keeps m t w))
-    (values-keep t m w)
-    (after-keeps _ t t w (λ p. w))
+    (λ e. after-keeps _ t t w (λ p. w))
+    (λ e. items-keep t m w)
+    (λ e. after-keeps _ t t w (λ p. w))
+    (λ e. after-keeps _ t _ w (λ p. out-keeps m t w))
+    (λ e. values-keep t m w)
+    (λ e. after-keeps _ t t w (λ p. w))
     w
 
 pub carried-out-keeps : (t : Tables) (m : List ℕ) → T (wellFormed t) → T (wellFormed (carriedOut t m .after))

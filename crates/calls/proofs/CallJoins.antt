@@ -94,7 +94,7 @@ same-event e d v t k out h {r} {t′} {k′} {out′} z = subst (λ (y : Event).
 
 -- ---- what the events come to
 -- ack wait over hands up no message
-waited : (l : Line) (t : Tables) → onMoved (onAckWaitOver l) t ≡ record { sent = onAckWaitOver l .sent; tables = t; line = onAckWaitOver l .line }
+pub waited : (l : Line) (t : Tables) → onMoved (onAckWaitOver l) t ≡ record { sent = onAckWaitOver l .sent; tables = t; line = onAckWaitOver l .line }
 unfolding onMoved handedUp onAckWaitOver
 waited l t = go (isEmpty (l .outstanding)) (ltb (l .resends) 3) refl refl
   where

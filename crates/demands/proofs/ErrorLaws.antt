@@ -25,7 +25,8 @@ use Rattle.baos.specs.Indication.{indication}
 use Rattle.baos.proofs.DispatchLaws.{by-service, by-message}
 use Rattle.calls.specs.declared.event.Event.{Event}
 use Rattle.calls.specs.declared.event.Event.the-variants.{HostByte, IdleMark, AckWaitOver, Poll, BusValue, TransmissionOutcome}
-use Rattle.calls.specs.Call.{saying, handedUp, onMoved, onPoll, happens, refusal, refused, accepted, call}
+use Rattle.calls.specs.Call.{Done, saying, handedUp, onMoved, onPoll, happens, refusal, refused, accepted, call}
+use Rattle.calls.proofs.CallJoins.{waited}
 use Rattle.demands.specs.Run.{sentOf}
 use Rattle.demands.specs.Answers.{ErrorAnswer, ErrorsChangeNothing, ErrorCallsChangeNothing}
 
@@ -73,12 +74,12 @@ service-leaves : (t : Tables) (m : List ℕ) → ErrorAnswer (service t m .says)
 unfolding getServerItem setServerItem getDatapointDescription getDatapointValue setDatapointValue getParameterByte
 service-leaves t m =
     by-service (λ (s : Served). ErrorAnswer (s .says) → s .after ≡ t) t m
-    (get-leaves 6 false _ t t m)
-    (set-leaves 3 _ _ _ t m)
-    (get-leaves 6 false _ t t m)
-    (get-leaves 7 (ltb 2 (filterOf m)) _ t _ m)
-    (set-leaves 4 _ _ _ t m)
-    (get-leaves 6 false _ t t m)
+    (λ e. get-leaves 6 false _ t t m)
+    (λ e. set-leaves 3 _ _ _ t m)
+    (λ e. get-leaves 6 false _ t t m)
+    (λ e. get-leaves 7 (ltb 2 (filterOf m)) _ t _ m)
+    (λ e. set-leaves 4 _ _ _ t m)
+    (λ e. get-leaves 6 false _ t t m)
     (λ a. refl)
 
 pub errors-change-nothing : ErrorsChangeNothing
@@ -126,15 +127,6 @@ module _ (c : ℕ) (a : List ℕ) (error : ErrorAnswer a) where
   heard-leaves Repeat b t l h = refl
   heard-leaves (Request n) b t l h = unfold saying in said-leaves t _ _ (unfold saying in h)
 
-  wait-leaves : (t : Tables) (l : Line) → onMoved (onAckWaitOver l) t .tables ≡ t
-  unfolding onMoved handedUp onAckWaitOver
-  wait-leaves t l = go (isEmpty (l .outstanding)) (ltb (l .resends) 3) refl refl
-    where
-      go : (u v : Bool) → isEmpty (l .outstanding) ≡ u → ltb (l .resends) 3 ≡ v → onMoved (onAckWaitOver l) t .tables ≡ t
-      go true v e d = simp (e, onAckWaitOver)
-      go false true e d = simp (e, d, onAckWaitOver)
-      go false false e d = simp (e, d, onAckWaitOver)
-
   poll-leaves : (t : Tables) (l : Line) → onPoll t l .sent ≡ acknowledgement ++ dataFrame c a → onPoll t l .tables ≡ t
   unfolding onPoll saying
   poll-leaves t l = go (isEmpty (l .outstanding)) refl
@@ -150,7 +142,7 @@ module _ (c : ℕ) (a : List ℕ) (error : ErrorAnswer a) where
   unfolding happens
   happens-leaves (HostByte b) v t l h = unfold onHostByte in heard-leaves (heardAt b l) b t l (unfold onHostByte in h)
   happens-leaves IdleMark v t l h = unfold onMoved handedUp onIdleMark in refl
-  happens-leaves AckWaitOver v t l h = wait-leaves t l
+  happens-leaves AckWaitOver v t l h = ap (λ (d : Done). d .tables) (waited l t)
   happens-leaves Poll v t l h = poll-leaves t l h
   happens-leaves (BusValue id) v t l h = absurd (not-nothing h)
   happens-leaves (TransmissionOutcome id x) v t l h = absurd (not-nothing h)

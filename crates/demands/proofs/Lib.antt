@@ -13,5 +13,6 @@ pub mod ErrorLaws
 pub mod HostLaws
 pub mod ReadBack
 pub mod HostHearsLaws
+pub mod HandedOutLaws
 pub mod Demand2
 pub mod PremisesNeeded

@@ -4,6 +4,7 @@ pub mod Host
 pub mod Refusals
 pub mod SentFrames
 pub mod HostHears
+pub mod HandedOut
 pub mod Answers
 pub mod Exchange
 pub mod Needed
