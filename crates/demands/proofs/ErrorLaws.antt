@@ -14,7 +14,7 @@ use Rattle.ft12.specs.declared.rules.Heard.{Heard}
 use Rattle.ft12.specs.declared.rules.Heard.the-variants.{Gathered, Dropped, Ignored, Acknowledged, Reset, Repeat, Request}
 use Rattle.ft12.specs.Frame.{acknowledgement, dataFrame, longestMessage, messageOf}
 use Rattle.ft12.specs.Record.{Line, lineOf, serverControl}
-use Rattle.ft12.specs.Rules.{heardAt, onHeard, onHostByte, onIdleMark, onAckWaitOver, onMessage}
+use Rattle.ft12.specs.Rules.{heardAt, onHeard, onHostByte, onIdleMark, onMessage}
 use Rattle.ft12.proofs.FrameLaws.{frame-message}
 use Rattle.baos.specs.Table.{Tables}
 use Rattle.baos.specs.Message.{subService, startOf, numberOf, filterOf, coded, Finding, fine, bad, Served, answerOf, afterOf, served}

@@ -1,7 +1,7 @@
 -- "The filter asks for updated readings only, and a reading is handed out once." Between two bus values for a datapoint, whatever events come, at most one message that the
 -- server builds carries the datapoint with bit 3 set. A frame that is sent again is no message built anew.
 use Prim.Native.Nat.{ℕ, zero, suc, _+_, _≤_}
-use mathlib.Core.Bool.{Bool, true, false, not, _&&_, _||_}
+use mathlib.Core.Bool.{Bool, false, not, _&&_, _||_}
 use mathlib.Core.List.{List, [], _∷_, _++_}
 use lib.ListN.{getD, drop}
 use lib.Dec.{T, eqb}
