@@ -29,3 +29,4 @@ pub mod TableLaws
 pub mod Types
 pub mod ValueLaws
 pub mod WideLaws
+pub mod WrittenLaws
