@@ -20,9 +20,11 @@ use Rattle.baos.specs.Item.{itemId, itemOk}
 use Rattle.baos.specs.Message.{subService, startOf, coded, verdictOf, Served}
 use Rattle.baos.specs.Get.{AnswerEntry, getServerItem}
 use Rattle.baos.specs.Inner.Gather.{requestFinding, gatheredVerdict, walked, nothingGathered, datapointStep, itemStep, datapointsBuilt, datapointsLeft, itemsBuilt, wantedOf, getDatapoints}
+use Rattle.baos.specs.Inner.Promise.{Written, Answered}
 use Rattle.words.proofs.WordLaws.{parts3}
 use Rattle.baos.proofs.TableLaws.{ids-rise}
-use Rattle.baos.proofs.GetLaws.{refused-first, coded-says}
+use Rattle.baos.proofs.GetLaws.{refused-first}
+use Rattle.baos.proofs.WrittenLaws.{coded-says}
 use Rattle.baos.proofs.GatherLaws.{Passed, datapoints-small, items-small}
 use Rattle.baos.proofs.AnsweredLaws.{answered-bad, answered-fine, datapointEntries, datapointsAfter, datapoints-passed, gets-datapoints, itemEntries, items-passed, gets-items}
 
@@ -57,23 +59,23 @@ module _ {A : Type 0} (most : ℕ) (idOf : A → ℕ) (ok : A → Bool) (xs : Li
       go true t = refl
       go false t = absurd t
 
--- a refusal, and an answer with its entries
-abbrev Said : List ℕ → ℕ → Served → List ℕ → ℕ → Type 0
-Said out at s o r = (o ≡ put out at (s .says)) × (r ≡ at + length (s .says))
-
 -- what stands in front of n entries
 abbrev pub headOf : List ℕ → ℕ → List ℕ
 headOf m n = 0xF0 ∷ (subService m + 0x80) ∷ twoBytes (startOf m) ++ twoBytes n
 
+-- a refusal, and an answer with its entries
 module _ (m : List ℕ) (out : List ℕ) (at : ℕ) (s : Served) where
-  said-coded : (i c : ℕ) (t : Tables) → s ≡ record { says = coded m i c; after = t } → Said out at s (put out at (coded m i c)) (at + 7)
-  said-coded i c t e = coded-says out at m i c (refl, refl) (ap (λ (x : Served). x .says) e)
+  said-coded : (i c : ℕ) (t : Tables) → s ≡ record { says = coded m i c; after = t } → Written out at (s .says) (at + 7) (put out at (coded m i c))
+  said-coded i c t e = coded-says out at m i c (ap (λ (x : Served). x .says) e)
 
   said-fine : (n : ℕ) (bytes : List ℕ) (t : Tables) → at + 254 ≤ length out → length bytes ≤ 248 → s ≡ record { says = headOf m n ++ bytes; after = t }
-      → Said out at s (put (put out at (headOf m n)) (at + 6) bytes) (at + 6 + length bytes)
+      → Written out at (s .says) (at + 6 + length bytes) (put (put out at (headOf m n)) (at + 6) bytes)
   said-fine n bytes t room small e =
       let f : s .says ≡ headOf m n ++ bytes = ap (λ (x : Served). x .says) e in
-      (put-put out at (at + 6) (headOf m n) bytes (omega arith) (omega (arith, room, small)) ∙ ap (put out at) (sym f), omega (arith, length-append (headOf m n) bytes, ap length f))
+      record {
+        buffer = put-put out at (at + 6) (headOf m n) bytes (omega arith) (omega (arith, room, small)) ∙ ap (put out at) (sym f);
+        ends = omega (arith, length-append (headOf m n) bytes, ap length f);
+      }
 
 -- what was measured is what is built, where all entries fit
 built-size : (es : List AnswerEntry) (g : Gathered) (bytes : List ℕ) → Passed es g bytes → (start : ℕ) → gatheredVerdict start g .code ≡ 0 → g .size ≡ length bytes
@@ -117,7 +119,7 @@ module _ (values : Bool) (m : List ℕ) (ds : List Datapoint) (ok : tableOk 1000
   es = datapointEntries values m ds
 
   abbrev Answers : List Datapoint → List ℕ → ℕ → Type 0
-  Answers t o n = (t ≡ s .after .datapoints) × (o ≡ put out at (s .says)) × (n ≡ at + length (s .says))
+  Answers t o n = Answered (s .after .datapoints) out at (s .says) n o t
 
   passed : Passed es g bytes
   unfolding wantedOf
@@ -127,7 +129,7 @@ module _ (values : Bool) (m : List ℕ) (ds : List Datapoint) (ok : tableOk 1000
   datapoints-refused t =
       let e = gets-datapoints m ds r values ∙ refused-first values m es (datapointsOnly ds) (datapointsOnly (datapointsAfter values m ds)) (not-zero (v .code) t) in
       let f = said-coded m out at s (v .id) (v .code) (datapointsOnly ds) e in
-      (sym (ap (λ (x : Served). x .after .datapoints) e), f .0, f .1)
+      record { table = sym (ap (λ (x : Served). x .after .datapoints) e); buffer = f .buffer; ends = f .ends }
 
   module _ (z : T (not (not (eqb (v .code) 0)))) where
     pub datapoints-bad : T (not (eqb (u .code) 0)) → Answers ds (put out at (coded m (u .id) (u .code))) (at + 7)
@@ -135,7 +137,7 @@ module _ (values : Bool) (m : List ℕ) (ds : List Datapoint) (ok : tableOk 1000
     datapoints-bad t =
         let e = gets-datapoints m ds r values ∙ answered-bad values m es g bytes passed (datapointsOnly ds) (datapointsOnly (datapointsAfter values m ds)) (is-zero (v .code) z) (not-zero (u .code) t) in
         let f = said-coded m out at s (u .id) (u .code) (datapointsOnly ds) e in
-        (sym (ap (λ (x : Served). x .after .datapoints) e), f .0, f .1)
+        record { table = sym (ap (λ (x : Served). x .after .datapoints) e); buffer = f .buffer; ends = f .ends }
 
     module _ (y : T (not (not (eqb (u .code) 0)))) where
       pub datapoints-fit : length bytes ≤ 248
@@ -150,7 +152,7 @@ module _ (values : Bool) (m : List ℕ) (ds : List Datapoint) (ok : tableOk 1000
       datapoints-fine room =
           let e = gets-datapoints m ds r values ∙ answered-fine values m es g bytes passed (datapointsOnly ds) (datapointsOnly (datapointsAfter values m ds)) (is-zero (v .code) z) (is-zero (u .code) y) in
           let f = said-fine m out at s (g .count) bytes (datapointsOnly (datapointsAfter values m ds)) room datapoints-fit e in
-          (sym (ap (λ (x : Served). x .after .datapoints) e), f .0, f .1)
+          record { table = sym (ap (λ (x : Served). x .after .datapoints) e); buffer = f .buffer; ends = f .ends }
 
 -- ---- the get of items
 module _ (m : List ℕ) (is : List Item) (ok : tableOk 64 itemId itemOk is ≡ true) (out : List ℕ) (at : ℕ) where
@@ -182,7 +184,7 @@ module _ (m : List ℕ) (is : List Item) (ok : tableOk 64 itemId itemOk is ≡ t
   ies = itemEntries m is
 
   abbrev ItemAnswers : List ℕ → ℕ → Type 0
-  ItemAnswers o n = (o ≡ put out at (answer .says)) × (n ≡ at + length (answer .says))
+  ItemAnswers o n = Written out at (answer .says) n o
 
   items-gone : Passed ies ig ibytes
   unfolding wantedOf

@@ -16,8 +16,9 @@ use Rattle.baos.specs.Message.{subService, startOf, coded, Served}
 use Rattle.baos.specs.Get.{getServerItem, getParameterByte}
 use Rattle.baos.specs.Set.{setServerItem, setDatapointValue}
 use Rattle.baos.specs.Inner.Gather.{getDatapoints}
+use Rattle.baos.specs.Inner.Promise.{Carried}
 use Rattle.baos.specs.Service.{unanswered, carriedOut}
-use Rattle.baos.proofs.GetLaws.{coded-says}
+use Rattle.baos.proofs.WrittenLaws.{coded-says}
 use Rattle.baos.proofs.ServiceLaws.{datapoints-say, datapoints-after, datapoints-keep-items, set-datapoints-say, set-datapoints-after, set-datapoints-keep-items, items-say, items-leave-all, set-items-say, set-items-after, set-items-keep-datapoints, parameters-say, parameters-leave-all, not-answered, answered-long, answered-sub, is-get-item, is-set-item, is-get-description, is-get-value, is-set-value, is-get-parameter, is-no-service}
 
 -- what a test showed
@@ -43,19 +44,29 @@ module _ (ds : List Datapoint) (is : List Item) (ps : List ℕ) (m : List ℕ) (
   s = carriedOut t m
 
   abbrev Answers : List Datapoint → List Item → List ℕ → ℕ → Type 0
-  Answers d i o r = (d ≡ s .after .datapoints) × (i ≡ s .after .items) × (o ≡ put out at (s .says)) × (r ≡ at + length (s .says))
+  Answers d i o r = Carried s out at r o d i
 
   -- the same, for what the carrying out comes to
   comes : (x : Served) → s ≡ x → (d : List Datapoint) (i : List Item) (o : List ℕ) → d ≡ x .after .datapoints → i ≡ x .after .items → o ≡ x .says
       → Answers d i (put out at o) (at + length o)
   comes x e d i o ed ei eo =
       let f : o ≡ s .says = eo ∙ ap (λ (y : Served). y .says) (sym e) in
-      (ed ∙ ap (λ (y : Served). y .after .datapoints) (sym e), ei ∙ ap (λ (y : Served). y .after .items) (sym e), ap (put out at) f, ap (λ (y : List ℕ). at + length y) f)
+      record {
+        datapoints = ed ∙ ap (λ (y : Served). y .after .datapoints) (sym e);
+        items = ei ∙ ap (λ (y : Served). y .after .items) (sym e);
+        buffer = ap (put out at) f;
+        ends = ap (λ (y : List ℕ). at + length y) f;
+      }
 
   pub carry-nothing : T (unanswered m) → Answers ds is out at
   carry-nothing u =
       let e = not-answered t m (is-so (unanswered m) u) in
-      (ap (λ (y : Served). y .after .datapoints) (sym e), ap (λ (y : Served). y .after .items) (sym e), put-none out at ∙ ap (λ (y : Served). put out at (y .says)) (sym e), omega (arith, ap (λ (y : Served). length (y .says)) e))
+      record {
+        datapoints = ap (λ (y : Served). y .after .datapoints) (sym e);
+        items = ap (λ (y : Served). y .after .items) (sym e);
+        buffer = put-none out at ∙ ap (λ (y : Served). put out at (y .says)) (sym e);
+        ends = omega (arith, ap (λ (y : Served). length (y .says)) e);
+      }
 
   module _ (u : T (not (unanswered m))) where
     abbrev answered : unanswered m ≡ false
@@ -102,5 +113,10 @@ module _ (ds : List Datapoint) (is : List Item) (ps : List ℕ) (m : List ℕ) (
         → T (not (eqb (subService m) 7)) → Answers ds is (put out at (coded m (startOf m) 5)) (at + 7)
     carry-unknown n1 n2 n3 n5 n6 n7 =
         let e = is-no-service t m answered (other-number (subService m) 1 n1) (other-number (subService m) 2 n2) (other-number (subService m) 3 n3) (other-number (subService m) 5 n5) (other-number (subService m) 6 n6) (other-number (subService m) 7 n7) in
-        let f = coded-says out at m (startOf m) 5 (refl, refl) (ap (λ (y : Served). y .says) e) in
-        (sym (ap (λ (y : Served). y .after .datapoints) e), sym (ap (λ (y : Served). y .after .items) e), f .0, f .1)
+        let f = coded-says out at m (startOf m) 5 (ap (λ (y : Served). y .says) e) in
+        record {
+          datapoints = sym (ap (λ (y : Served). y .after .datapoints) e);
+          items = sym (ap (λ (y : Served). y .after .items) e);
+          buffer = f .buffer;
+          ends = f .ends;
+        }

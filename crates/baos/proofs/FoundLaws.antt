@@ -19,6 +19,7 @@ use Rattle.baos.specs.Datapoint.{datapointId}
 use Rattle.baos.specs.Table.{place}
 use Rattle.baos.specs.Set.{span, fills, firstDatapointEntry}
 use Rattle.baos.specs.Inner.Found.{foundEntries}
+use Rattle.baos.specs.Inner.Promise.{EntriesFound}
 use Rattle.walks.proofs.Data.{Good}
 use Rattle.baos.proofs.SetLaws.{filled-end, short-head, short-value, entry-fits}
 use Rattle.baos.proofs.LeftLaws.{fills-next}
@@ -88,12 +89,8 @@ pub record Seeking (ds : List Datapoint) (m : List ℕ) (n : ℕ) (es : List Fou
 
 module _ (ds : List Datapoint) (m : List ℕ) (n : ℕ) (es : List Found) where
   -- the entries found
-  abbrev pub whole : List Found
+  abbrev whole : List Found
   whole = foundEntries ds n 6 (drop 6 m)
-
-  -- what the function has to come to
-  abbrev pub Sought : Bool → List Found → Type 0
-  Sought r zs = (r ≡ fills 4 n (drop 6 m)) × (zs ≡ whole ++ drop (length whole) es)
 
   pub seeking-begins : 6 ≤ length m → Seeking ds m n es 0 6 es
   seeking-begins l =
@@ -124,16 +121,23 @@ module _ (ds : List Datapoint) (m : List ℕ) (n : ℕ) (es : List Found) where
     last-byte = ap (λ (i : ℕ). getD m i 0) {x = at + 4 - 1} {y = at + 3} (omega arith)
 
     -- each of the ways out, and one more entry
-    pub seeking-ends : n ≤ k → Sought (eqb at (length m)) zs
+    pub seeking-ends : n ≤ k → EntriesFound ds m n es (eqb at (length m)) zs
     seeking-ends l =
         let e : n - k ≡ 0 = omega (arith, l) in
-        (sym (filled-end 4 0 at m (s .inside)) ∙ ap (λ (j : ℕ). fills 4 j (drop at m)) (sym e) ∙ s .filled, stops (ap (λ (j : ℕ). foundEntries ds j at (drop at m)) e ∙ found-end ds at m))
+        record {
+          answer = sym (filled-end 4 0 at m (s .inside)) ∙ ap (λ (j : ℕ). fills 4 j (drop at m)) (sym e) ∙ s .filled;
+          entries = stops (ap (λ (j : ℕ). foundEntries ds j at (drop at m)) e ∙ found-end ds at m);
+        }
 
-    pub seeking-short-head : k < n → length m - at < 4 → Sought false zs
-    seeking-short-head q l = (sym (short-head 4 (n - k) at m (omega (arith, q)) l) ∙ s .filled, stops (found-short-head ds at m (n - k) (omega (arith, q)) l))
+    pub seeking-short-head : k < n → length m - at < 4 → EntriesFound ds m n es false zs
+    seeking-short-head q l = record { answer = sym (short-head 4 (n - k) at m (omega (arith, q)) l) ∙ s .filled; entries = stops (found-short-head ds at m (n - k) (omega (arith, q)) l) }
 
-    pub seeking-short-value : k < n → 4 ≤ length m - at → length m - at < spanAt at m → Sought false zs
-    seeking-short-value q h l = (sym (short-value 4 (n - k) at m (omega (arith, q)) (omega arith) h (omega (arith, l, last-byte))) ∙ s .filled, stops (found-short-value ds at m (n - k) (omega (arith, q)) h l))
+    pub seeking-short-value : k < n → 4 ≤ length m - at → length m - at < spanAt at m → EntriesFound ds m n es false zs
+    seeking-short-value q h l =
+        record {
+          answer = sym (short-value 4 (n - k) at m (omega (arith, q)) (omega arith) h (omega (arith, l, last-byte))) ∙ s .filled;
+          entries = stops (found-short-value ds at m (n - k) (omega (arith, q)) h l);
+        }
 
     pub seeking-next : k < n → spanAt at m ≤ length m - at → k < length es → Seeking ds m n es (k + 1) (at + spanAt at m) (set zs k (foundAt ds at m))
     seeking-next q l u =

@@ -2,11 +2,11 @@
 use Prim.Native.Nat.{ℕ, _+_}
 use mathlib.Core.Bool.{Bool, true, false, _||_}
 use mathlib.Core.List.{List}
-use mathlib.Core.Path.{_≡_, refl, sym, _∙_, ap}
+use mathlib.Core.Path.{_≡_, refl, _∙_, ap}
 use native.Mathlib.Omega.{arith}
 use lib.Dec.{ltb, eqb}
 use lib.ListN.{length, getD}
-use Rattle.words.specs.Words.{if_then_else_, put, isEmpty}
+use Rattle.words.specs.Words.{if_then_else_, isEmpty}
 use Rattle.baos.specs.Inner.Gather.{filterAsked, sizeAsked, requestFinding}
 use Rattle.baos.specs.Get.{AnswerEntry, overflow, roomForEntries, listing, getFinding, getting}
 use Rattle.baos.specs.Message.{subService, startOf, numberOf, coded, Finding, fine, bad, verdictOf, Served, answerOf, afterOf, served}
@@ -71,9 +71,3 @@ module _ (values : Bool) (m : List ℕ) (es : List AnswerEntry) where
     unfolding getting served answerOf afterOf afterwards
     fits-answered z n o =
         ap (λ (f : Finding). served f m (listing (subService m + 0x80) (startOf m) es) t t′) {y = fine} (asked-first ∙ ap afterwards (fine-where z) ∙ simp (n, o))
-
--- an answer of seven bytes was put where the answer is due
-pub coded-says : {o : List ℕ} {n : ℕ} (l : List ℕ) (at : ℕ) (m : List ℕ) (i c : ℕ) {says : List ℕ} → (o ≡ put l at (coded m i c)) × (n ≡ at + 7)
-    → says ≡ coded m i c → (o ≡ put l at says) × (n ≡ at + length says)
-unfolding coded
-coded-says l at m i c (p, q) e = (p ∙ ap (put l at) (sym e), q ∙ ap (λ (s : List ℕ). at + length s) (sym e))

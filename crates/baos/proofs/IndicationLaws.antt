@@ -18,6 +18,7 @@ use Rattle.baos.specs.Datapoint.{sizeOf, datapointId, datapointOk, withM
 use Rattle.baos.specs.Table.{tableOk, datapointsOnly}
 use Rattle.baos.specs.Get.{roomForEntries, valueEntry, listing}
 use Rattle.baos.specs.Inner.Gather.{entriesTold}
+use Rattle.baos.specs.Inner.Promise.{Answered, MarkedTold}
 use Rattle.baos.specs.Indication.{needs, goes, roomAfter, Choice, choices, reported, afterReport, indicationOf, indication}
 use Rattle.baos.proofs.DatapointLaws.{parts}
 use Rattle.baos.proofs.AnswerLaws.{entries-fit}
@@ -129,12 +130,6 @@ pub record Telling (ys : List Datapoint) (out : List ℕ) (at i end count : ℕ)
   pub few : at + count ≤ end
   pub inside : end ≤ at + 248
 
-pub record Finished (ys : List Datapoint) (out : List ℕ) (at end count : ℕ) (zs : List Datapoint) (bs : List ℕ) : Type 0 where
-  pub table : zs ≡ afterReport (choices roomForEntries ys)
-  pub bytes : bs ≡ put out at (entriesTold (choices roomForEntries ys))
-  pub counted : count ≡ length (reported (choices roomForEntries ys))
-  pub ends : end ≡ at + length (entriesTold (choices roomForEntries ys))
-
 module _ (ys : List Datapoint) (out : List ℕ) (at : ℕ) where
   abbrev all : List Choice
   all = choices roomForEntries ys
@@ -162,20 +157,20 @@ module _ (ys : List Datapoint) (out : List ℕ) (at : ℕ) where
     abbrev es : List ℕ
     es = valueEntry d .bytes
 
-    finished : (cs : List Choice) → choices room (drop i zs) ≡ cs → reported cs ≡ [] → afterReport cs ≡ drop i zs → Finished ys out at end count zs bs
+    finished : (cs : List Choice) → choices room (drop i zs) ≡ cs → reported cs ≡ [] → afterReport cs ≡ drop i zs → MarkedTold ys out at (record { count = count; end = end }) bs zs
     unfolding flatten
     finished cs e r a =
         let none : entriesTold (choices room (drop i zs)) ≡ [] = ap entriesTold e ∙ ap (λ (xs : List Datapoint). flatten (map (λ x. x .bytes) (map valueEntry xs))) r in
         let p = putting-none out at (entriesTold all) bs end (subst (Putting out at (entriesTold all) bs end) none (h .bytes)) in
         record {
           table = sym (take-append-drop i zs) ∙ ap (λ (x : List Datapoint). take i zs ++ x) (sym (ap afterReport e ∙ a)) ∙ h .table;
-          bytes = p .0;
+          buffer = p .buffer;
           counted = omega (arith, h .counted, ap (λ (xs : List Datapoint). length xs) (ap reported e ∙ r));
-          ends = p .1;
+          ends = p .ends;
         }
 
     -- no record is left
-    pub telling-done : length zs ≤ i → Finished ys out at end count zs bs
+    pub telling-done : length zs ≤ i → MarkedTold ys out at (record { count = count; end = end }) bs zs
     unfolding choices reported afterReport
     telling-done l = finished [] (ap (choices room) (drop-of-length-le zs l)) refl (sym (drop-of-length-le zs l))
 
@@ -190,7 +185,7 @@ module _ (ys : List Datapoint) (out : List ℕ) (at : ℕ) where
       telling-code = code-fits d (here .0)
 
       -- it does not fit: the pass ends
-      pub telling-waits : T (d .mark) → T (not (leb (needs d) room)) → Finished ys out at end count zs bs
+      pub telling-waits : T (d .mark) → T (not (leb (needs d) room)) → MarkedTold ys out at (record { count = count; end = end }) bs zs
       telling-waits m n =
           let f : leb (needs d) room ≡ false = no-T (leb (needs d) room) n in
           finished (chosen d false ∷ choices 0 (drop (i + 1) zs)) (step 0 false (goes-marked room d false (T-true (d .mark) m) f) (after-waiting room d (T-true (d .mark) m) f))
@@ -330,7 +325,11 @@ module _ (ds : List Datapoint) where
   pub carried-few : length carried ≤ 248
   carried-few = omega (arith, bytes-few, entries-some carried)
 
-  pub table-told : afterReport (choices roomForEntries ds) ≡ indication (datapointsOnly ds) .after .datapoints
+  -- what the indication has to come to: the buffer, where it ends in it, and the table
+  abbrev Indicated : List ℕ → ℕ → List ℕ → ℕ → Type 0
+  Indicated out at o n = Answered (indication (datapointsOnly ds) .after .datapoints) out at (indication (datapointsOnly ds) .says) n o (afterReport (choices roomForEntries ds))
+
+  table-told : afterReport (choices roomForEntries ds) ≡ indication (datapointsOnly ds) .after .datapoints
   unfolding indication
   table-told = refl
 
@@ -351,11 +350,13 @@ module _ (ds : List Datapoint) where
     unfolding flatten
     told-nothing = ap (λ (xs : List Datapoint). flatten (map (λ x. x .bytes) (map valueEntry xs))) carried-none
 
-    pub silent-out : put out (at + 6) bytes ≡ put out at (indication (datapointsOnly ds) .says)
-    silent-out = ap (put out (at + 6)) told-nothing ∙ sym (put-none out (at + 6)) ∙ put-none out at ∙ ap (put out at) (sym says-nothing)
-
-    pub silent-end : at ≡ at + length (indication (datapointsOnly ds) .says)
-    silent-end = omega (arith, ap (λ (bs : List ℕ). length bs) says-nothing)
+    pub indicated-nothing : Indicated out at (put out (at + 6) bytes) at
+    indicated-nothing =
+        record {
+          table = table-told;
+          buffer = ap (put out (at + 6)) told-nothing ∙ sym (put-none out (at + 6)) ∙ put-none out at ∙ ap (put out at) (sym says-nothing);
+          ends = omega (arith, ap (λ (bs : List ℕ). length bs) says-nothing);
+        }
 
   -- something is
   module _ (some : 1 ≤ length carried) (out : List ℕ) (at : ℕ) (room : at + 254 ≤ length out) where
@@ -375,8 +376,11 @@ module _ (ds : List Datapoint) where
         go [] n = absurd (omega (arith, n))
         go (x ∷ xs) n = unfold indicationOf listing valueEntry flatten in rw (length-map (x ∷ xs) valueEntry)
 
-    pub full-out : put (put out (at + 6) bytes) at (0xF0 ∷ 0xC1 ∷ getD (put out (at + 6) bytes) (at + 6) 0 ∷ getD (put out (at + 6) bytes) (at + 7) 0 ∷ twoBytes (length carried)) ≡ put out at (indication (datapointsOnly ds) .says)
-    full-out = headed out bytes at (length carried) bytes-some (omega (arith, room, bytes-few)) ∙ ap (put out at) (sym says-all)
-
-    pub full-end : at + 6 + length bytes ≡ at + length (indication (datapointsOnly ds) .says)
-    full-end = omega (arith, ap (λ (bs : List ℕ). length bs) says-all, headed-long bytes (length carried) bytes-some)
+    pub indicated-all : Indicated out at
+        (put (put out (at + 6) bytes) at (0xF0 ∷ 0xC1 ∷ getD (put out (at + 6) bytes) (at + 6) 0 ∷ getD (put out (at + 6) bytes) (at + 7) 0 ∷ twoBytes (length carried))) (at + 6 + length bytes)
+    indicated-all =
+        record {
+          table = table-told;
+          buffer = headed out bytes at (length carried) bytes-some (omega (arith, room, bytes-few)) ∙ ap (put out at) (sym says-all);
+          ends = omega (arith, ap (λ (bs : List ℕ). length bs) says-all, headed-long bytes (length carried) bytes-some);
+        }

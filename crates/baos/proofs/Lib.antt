@@ -30,3 +30,4 @@ pub mod TableLaws
 pub mod Types
 pub mod ValueLaws
 pub mod WideLaws
+pub mod WrittenLaws

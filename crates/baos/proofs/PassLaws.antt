@@ -15,6 +15,7 @@ use Rattle.words.proofs.ByteLaws.{length-put, put-put}
 use Rattle.ft12.proofs.EventLaws.{put-none}
 use Rattle.baos.specs.Datapoint.{sizeOf, datapointOk}
 use Rattle.baos.specs.Inner.Gather.{entryOf, wideOf, withEntry, ended, measured, walked, built, left}
+use Rattle.baos.specs.Inner.Promise.{Written}
 use Rattle.baos.specs.Get.{AnswerEntry, roomForEntries, itemEntry, descriptionEntry, valueEntry}
 use Rattle.baos.specs.Item.{itemOk}
 use Rattle.baos.specs.Table.{rising, tableOk}
@@ -192,8 +193,8 @@ module _ (out : List ℕ) (at : ℕ) (all : List ℕ) where
   putting-all l = record { long = refl; fits = l; ends = refl; same = refl }
 
   module _ (bs : List ℕ) (end : ℕ) where
-    pub putting-none : Putting out at all bs end [] → (bs ≡ put out at all) × (end ≡ at + length all)
-    putting-none p = (put-none bs end ∙ p .same, omega (arith, p .ends))
+    pub putting-none : Putting out at all bs end [] → Written out at all end bs
+    putting-none p = record { buffer = put-none bs end ∙ p .same; ends = omega (arith, p .ends) }
 
     module _ (vs rest : List ℕ) where
       pub entry-fits : Putting out at all bs end (vs ++ rest) → end + length vs ≤ length bs

@@ -1,9 +1,9 @@
 -- A set, exit by exit: what its callees say of table, buffer and result is what the set has to answer and leave.
 use Prim.Native.Nat.{ℕ, _+_}
-use mathlib.Core.Path.{_≡_, refl, sym, ap}
+use mathlib.Core.Path.{_≡_, sym, ap}
 use mathlib.Core.Bool.{Bool, true, not}
 use mathlib.Core.List.{List}
-use lib.ListN.{length, drop}
+use lib.ListN.{drop}
 use lib.Dec.{T, eqb}
 use Rattle.words.specs.Words.{put}
 use Rattle.baos.specs.declared.datapoint.Datapoint.{Datapoint}
@@ -14,9 +14,10 @@ use Rattle.baos.specs.Item.{itemId, itemOk}
 use Rattle.baos.specs.Table.{Tables, datapointsOnly, itemsOnly, tableOk, found}
 use Rattle.baos.specs.Message.{startOf, numberOf, coded, Finding, verdictOf, Served}
 use Rattle.baos.specs.Set.{SetEntry, fills, setEntries, firstBad, applied, allShort, firstDatapointEntry, firstItemEntry, judgedDatapoint, judgedItem, setDatapoint, setItem, setDatapointValue, setServerItem, filledFinding}
+use Rattle.baos.specs.Inner.Promise.{Answered}
 use Rattle.walks.proofs.Branches.{no-T, yes-T, is-T}
 use Rattle.baos.proofs.AnswerJoins.{not-zero, is-zero}
-use Rattle.baos.proofs.GetLaws.{coded-says}
+use Rattle.baos.proofs.WrittenLaws.{coded-says}
 use Rattle.baos.proofs.LeftLaws.{fine-code, datapoints-short, items-short}
 use Rattle.baos.proofs.SettingLaws.{not-filled, no-entry, well-filled, earlier-filled, set-refused, set-refused-by, set-bad, set-done}
 
@@ -41,12 +42,12 @@ module _ (m : List ℕ) (ds : List Datapoint) (ok : tableOk 1000 datapointId dat
   s = setDatapointValue (datapointsOnly ds) m
 
   abbrev Answers : List Datapoint → List ℕ → ℕ → Type 0
-  Answers t o n = (t ≡ s .after .datapoints) × (o ≡ put out at (s .says)) × (n ≡ at + length (s .says))
+  Answers t o n = Answered (s .after .datapoints) out at (s .says) n o t
 
   answers : (i c : ℕ) (ys : List Datapoint) → s ≡ record { says = coded m i c; after = datapointsOnly ys } → Answers ys (put out at (coded m i c)) (at + 7)
   answers i c ys e =
-      let f = coded-says out at m i c (refl, refl) (ap (λ (x : Served). x .says) e) in
-      (sym (ap (λ (x : Served). x .after .datapoints) e), f .0, f .1)
+      let f = coded-says out at m i c (ap (λ (x : Served). x .says) e) in
+      record { table = sym (ap (λ (x : Served). x .after .datapoints) e); buffer = f .buffer; ends = f .ends }
 
   pub datapoints-unfilled : T (not filled) → Answers ds (put out at (coded m (startOf m) 10)) (at + 7)
   unfolding setDatapointValue
@@ -98,12 +99,12 @@ module _ (m : List ℕ) (is : List Item) (ok : tableOk 64 itemId itemOk is ≡ t
   item-s = setServerItem (itemsOnly is) m
 
   abbrev ItemAnswers : List Item → List ℕ → ℕ → Type 0
-  ItemAnswers t o n = (t ≡ item-s .after .items) × (o ≡ put out at (item-s .says)) × (n ≡ at + length (item-s .says))
+  ItemAnswers t o n = Answered (item-s .after .items) out at (item-s .says) n o t
 
   item-answers : (i c : ℕ) (ys : List Item) → item-s ≡ record { says = coded m i c; after = itemsOnly ys } → ItemAnswers ys (put out at (coded m i c)) (at + 7)
   item-answers i c ys e =
-      let f = coded-says out at m i c (refl, refl) (ap (λ (x : Served). x .says) e) in
-      (sym (ap (λ (x : Served). x .after .items) e), f .0, f .1)
+      let f = coded-says out at m i c (ap (λ (x : Served). x .says) e) in
+      record { table = sym (ap (λ (x : Served). x .after .items) e); buffer = f .buffer; ends = f .ends }
 
   pub items-refused : T (not (eqb (item-v .code) 0)) → ItemAnswers is (put out at (coded m (item-v .id) (item-v .code))) (at + 7)
   unfolding setServerItem

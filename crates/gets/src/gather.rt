@@ -5,12 +5,12 @@ ghost use mathlib.Core.Bool.{true};
 ghost use mathlib.Core.List.{_++_};
 ghost use Prim.Native.Nat.{_+_, _≤_, _<_};
 ghost use lib.ListN.{length, take, drop};
-ghost use Rattle.words.specs.Words.{put};
 ghost use Rattle.baos.specs.Get.{itemEntry};
 ghost use Rattle.baos.specs.Datapoint.{datapointId, datapointOk};
 ghost use Rattle.baos.specs.Item.{itemId, itemOk};
 ghost use Rattle.baos.specs.Table.{place, tableOk};
 ghost use Rattle.baos.specs.Inner.Gather.{isBehind, isWithin, isWanted, entryOf, wideOf, leftOf, ended, withEntry, measured, walked, nothingGathered, datapointStep, itemStep, datapointsBuilt, datapointsLeft, itemsBuilt};
+ghost use Rattle.baos.specs.Inner.Promise.{Written, WrittenWide, Answered};
 use baos::datapoint::Datapoint;
 use baos::inner::Gathered;
 use baos::inner::Wanted;
@@ -52,7 +52,7 @@ pub fn entry_size(w: Wanted, d: Datapoint) -> usize
 // The record's entry, into the buffer at `at`; answers where it ends.
 pub fn put_entry(out: &mut [u8], at: usize, w: Wanted, d: Datapoint) -> usize
     requires { ⌜ (d .typecode ≤ 14) × (at + length (entryOf w d .bytes) ≤ length (now out)) ⌝ }
-    ensures { λ r. ⌜ (now (out .exit) ≡ put (now (out .entry)) at (entryOf w d .bytes)) × (r ≡ at + length (entryOf w d .bytes)) ⌝ }
+    ensures { λ r. ⌜ Written (now (out .entry)) at (entryOf w d .bytes) r (now (out .exit)) ⌝ }
 {
     if w.values {
         return put_value(&mut *out, at, d);
@@ -63,7 +63,7 @@ pub fn put_entry(out: &mut [u8], at: usize, w: Wanted, d: Datapoint) -> usize
 // The same where others follow.
 pub fn put_wide_entry(out: &mut [u8], at: usize, w: Wanted, d: Datapoint) -> usize
     requires { ⌜ (d .typecode ≤ 14) × (at + 18 ≤ length (now out)) ⌝ }
-    ensures { λ r. ⌜ (now (out .exit) ≡ put (now (out .entry)) at (wideOf w d)) × (r ≡ at + length (entryOf w d .bytes)) ⌝ }
+    ensures { λ r. ⌜ WrittenWide (now (out .entry)) at (wideOf w d) (entryOf w d .bytes) r (now (out .exit)) ⌝ }
 {
     if w.values {
         return put_wide_value(&mut *out, at, d);
@@ -189,7 +189,7 @@ pub fn build_datapoints(
     size: usize,
 ) -> usize
     requires { ⌜ (tableOk 1000 datapointId datapointOk (now table) ≡ true) × (from ≡ place datapointId (w .start) (now table)) × (at + length (datapointsBuilt w (drop from (now table))) ≤ length (now out)) × (size ≡ length (datapointsBuilt w (drop from (now table)))) ⌝ }
-    ensures { λ r. ⌜ (now (table .exit) ≡ take from (now (table .entry)) ++ datapointsLeft w (drop from (now (table .entry)))) × (now (out .exit) ≡ put (now (out .entry)) at (datapointsBuilt w (drop from (now (table .entry))))) × (r ≡ at + length (datapointsBuilt w (drop from (now (table .entry))))) ⌝ }
+    ensures { λ r. ⌜ Answered (take from (now (table .entry)) ++ datapointsLeft w (drop from (now (table .entry)))) (now (out .entry)) at (datapointsBuilt w (drop from (now (table .entry)))) r (now (out .exit)) (now (table .exit)) ⌝ }
 {
     let stop = at + size;
     let mut i = from;
@@ -218,7 +218,7 @@ pub fn build_datapoints(
 // The second pass over the items, which stay as they are.
 pub fn build_items(table: &[Item], from: usize, w: Wanted, out: &mut [u8], at: usize) -> usize
     requires { ⌜ (tableOk 64 itemId itemOk (now table) ≡ true) × (from ≡ place itemId (w .start) (now table)) × (at + length (itemsBuilt w (drop from (now table))) ≤ length (now out)) ⌝ }
-    ensures { λ r. ⌜ (now (out .exit) ≡ put (now (out .entry)) at (itemsBuilt w (drop from (now (table .entry))))) × (r ≡ at + length (itemsBuilt w (drop from (now (table .entry))))) ⌝ }
+    ensures { λ r. ⌜ Written (now (out .entry)) at (itemsBuilt w (drop from (now (table .entry)))) r (now (out .exit)) ⌝ }
 {
     let mut i = from;
     let mut end = at;

@@ -3,13 +3,13 @@ ghost use mathlib.Core.Path.{_≡_};
 ghost use mathlib.Core.Bool.{true};
 ghost use Prim.Native.Nat.{_+_, _≤_, _<_};
 ghost use lib.ListN.{length};
-ghost use Rattle.words.specs.Words.{put};
 ghost use Rattle.baos.specs.Datapoint.{datapointId, datapointOk};
 ghost use Rattle.baos.specs.Item.{itemId, itemOk};
 ghost use Rattle.baos.specs.Table.{datapointsOnly, itemsOnly, parametersOnly, tableOk};
 ghost use Rattle.baos.specs.Message.{subService, verdictOf};
 ghost use Rattle.baos.specs.Get.{getServerItem, getParameterByte};
 ghost use Rattle.baos.specs.Inner.Gather.{filterAsked, sizeAsked, wantedOf, requestFinding, gatheredVerdict, getDatapoints, parametersPresent};
+ghost use Rattle.baos.specs.Inner.Promise.{Written, Answered};
 use crate::gather::build_datapoints;
 use crate::gather::build_items;
 use crate::gather::measure_datapoints;
@@ -121,8 +121,7 @@ fn parameters_present(count: usize, start: usize, number: usize) -> usize
 // GetParameterByte: the answer, into the buffer at `at`; answers where it ends.
 pub fn get_parameters(parameters: &[u8], m: &[u8], out: &mut [u8], at: usize) -> usize
     requires { ⌜ (length (now parameters) ≤ 255) × (6 ≤ length (now m)) × (subService (now m) < 0x80) × (at + 254 ≤ length (now out)) ⌝ }
-    ensures { λ r. ⌜ (now (out .exit) ≡ put (now (out .entry)) at (getParameterByte (parametersOnly (now (parameters .entry))) (now (m .entry)) .says))
-        × (r ≡ at + length (getParameterByte (parametersOnly (now (parameters .entry))) (now (m .entry)) .says)) ⌝ }
+    ensures { λ r. ⌜ Written (now (out .entry)) at (getParameterByte (parametersOnly (now (parameters .entry))) (now (m .entry)) .says) r (now (out .exit)) ⌝ }
 {
     let v = request_verdict(m, false);
     if v.code != 0 {
@@ -153,9 +152,8 @@ pub fn get_datapoints(
     at: usize,
 ) -> usize
     requires { ⌜ (tableOk 1000 datapointId datapointOk (now table) ≡ true) × (6 ≤ length (now m)) × (subService (now m) < 0x80) × (at + 254 ≤ length (now out)) ⌝ }
-    ensures { λ r. ⌜ (now (table .exit) ≡ getDatapoints values (datapointsOnly (now (table .entry))) (now (m .entry)) .after .datapoints)
-        × (now (out .exit) ≡ put (now (out .entry)) at (getDatapoints values (datapointsOnly (now (table .entry))) (now (m .entry)) .says))
-        × (r ≡ at + length (getDatapoints values (datapointsOnly (now (table .entry))) (now (m .entry)) .says)) ⌝ }
+    ensures { λ r. ⌜ Answered (getDatapoints values (datapointsOnly (now (table .entry))) (now (m .entry)) .after .datapoints)
+        (now (out .entry)) at (getDatapoints values (datapointsOnly (now (table .entry))) (now (m .entry)) .says) r (now (out .exit)) (now (table .exit)) ⌝ }
 {
     let v = request_verdict(m, values);
     if v.code != 0 {
@@ -175,8 +173,7 @@ pub fn get_datapoints(
 // GetServerItem: the answer, into the buffer at `at`; answers where it ends.
 pub fn get_items(table: &[Item], m: &[u8], out: &mut [u8], at: usize) -> usize
     requires { ⌜ (tableOk 64 itemId itemOk (now table) ≡ true) × (6 ≤ length (now m)) × (subService (now m) < 0x80) × (at + 254 ≤ length (now out)) ⌝ }
-    ensures { λ r. ⌜ (now (out .exit) ≡ put (now (out .entry)) at (getServerItem (itemsOnly (now (table .entry))) (now (m .entry)) .says))
-        × (r ≡ at + length (getServerItem (itemsOnly (now (table .entry))) (now (m .entry)) .says)) ⌝ }
+    ensures { λ r. ⌜ Written (now (out .entry)) at (getServerItem (itemsOnly (now (table .entry))) (now (m .entry)) .says) r (now (out .exit)) ⌝ }
 {
     let v = request_verdict(m, false);
     if v.code != 0 {

@@ -5,6 +5,7 @@ ghost use Prim.Native.Nat.{_+_, _≤_, _<_};
 ghost use lib.ListN.{length, getD};
 ghost use Rattle.words.specs.Words.{put, twoBytes};
 ghost use Rattle.baos.specs.Message.{subService, startOf, numberOf, filterOf, coded};
+ghost use Rattle.baos.specs.Inner.Promise.{Written};
 
 // SubService.
 pub fn sub_service_of(m: &[u8]) -> u8
@@ -43,7 +44,7 @@ pub fn filter_of(m: &[u8]) -> u8
 // The answer of seven bytes to the message m, into the buffer at `at`; answers where it ends.
 pub fn put_coded(out: &mut [u8], at: usize, m: &[u8], id: u16, code: u8) -> usize
     requires { ⌜ (6 ≤ length (now m)) × (subService (now m) < 0x80) × (at + 7 ≤ length (now out)) ⌝ }
-    ensures { λ r. ⌜ (now (out .exit) ≡ put (now (out .entry)) at (coded (now (m .entry)) id code)) × (r ≡ at + 7) ⌝ }
+    ensures { λ r. ⌜ Written (now (out .entry)) at (coded (now (m .entry)) id code) r (now (out .exit)) ⌝ }
 {
     out[at] = 0xf0;
     out[at + 1] = m[1] + 0x80;
@@ -58,7 +59,7 @@ pub fn put_coded(out: &mut [u8], at: usize, m: &[u8], id: u16, code: u8) -> usiz
 // What stands in front of an answer's entries, into the buffer at `at`; answers where the entries begin.
 pub fn put_head(out: &mut [u8], at: usize, sub: u8, start: u16, count: u16) -> usize
     requires { ⌜ at + 6 ≤ length (now out) ⌝ }
-    ensures { λ r. ⌜ (now (out .exit) ≡ put (now (out .entry)) at (0xF0 ∷ sub ∷ twoBytes start ++ twoBytes count)) × (r ≡ at + 6) ⌝ }
+    ensures { λ r. ⌜ Written (now (out .entry)) at (0xF0 ∷ sub ∷ twoBytes start ++ twoBytes count) r (now (out .exit)) ⌝ }
 {
     out[at] = 0xf0;
     out[at + 1] = sub;
@@ -72,7 +73,7 @@ pub fn put_head(out: &mut [u8], at: usize, sub: u8, start: u16, count: u16) -> u
 // What stands in front of the entries of a get's answer.
 pub fn put_answer_head(out: &mut [u8], at: usize, m: &[u8], count: u16) -> usize
     requires { ⌜ (6 ≤ length (now m)) × (subService (now m) < 0x80) × (at + 6 ≤ length (now out)) ⌝ }
-    ensures { λ r. ⌜ (now (out .exit) ≡ put (now (out .entry)) at (0xF0 ∷ (subService (now (m .entry)) + 0x80) ∷ twoBytes (startOf (now (m .entry))) ++ twoBytes count)) × (r ≡ at + 6) ⌝ }
+    ensures { λ r. ⌜ Written (now (out .entry)) at (0xF0 ∷ (subService (now (m .entry)) + 0x80) ∷ twoBytes (startOf (now (m .entry))) ++ twoBytes count) r (now (out .exit)) ⌝ }
 {
     let start = start_of(m);
     put_head(&mut *out, at, m[1] + 0x80, start, count)

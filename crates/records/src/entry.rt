@@ -1,11 +1,10 @@
 // The entries of answers, one record each.
-ghost use mathlib.Core.Path.{_≡_};
 ghost use Prim.Native.Nat.{_+_, _≤_, _<_};
 ghost use lib.ListN.{length};
-ghost use Rattle.words.specs.Words.{put};
 ghost use Rattle.baos.specs.Get.{itemEntry, descriptionEntry, valueEntry};
 ghost use Rattle.baos.specs.Datapoint.{sizeOf};
 ghost use Rattle.baos.specs.Inner.Gather.{wideValue};
+ghost use Rattle.baos.specs.Inner.Promise.{Written, WrittenWide};
 use crate::value::size_of;
 use baos::datapoint::Datapoint;
 use baos::item::Item;
@@ -14,7 +13,7 @@ use words::bytes::put_bytes;
 // The item's entry in an answer, into the buffer at `at`; answers where it ends.
 pub fn put_item(out: &mut [u8], at: usize, i: Item) -> usize
     requires { ⌜ (i .size ≤ 16) × (at + 3 + i .size ≤ length (now out)) ⌝ }
-    ensures { λ r. ⌜ (now (out .exit) ≡ put (now (out .entry)) at (itemEntry i .bytes)) × (r ≡ at + length (itemEntry i .bytes)) ⌝ }
+    ensures { λ r. ⌜ Written (now (out .entry)) at (itemEntry i .bytes) r (now (out .exit)) ⌝ }
 {
     let n = i.size as usize;
     let v = i.bytes;
@@ -28,7 +27,7 @@ pub fn put_item(out: &mut [u8], at: usize, i: Item) -> usize
 // The record's entry in a description answer, into the buffer at `at`; answers where it ends.
 pub fn put_description(out: &mut [u8], at: usize, d: Datapoint) -> usize
     requires { ⌜ at + 5 ≤ length (now out) ⌝ }
-    ensures { λ r. ⌜ (now (out .exit) ≡ put (now (out .entry)) at (descriptionEntry d .bytes)) × (r ≡ at + length (descriptionEntry d .bytes)) ⌝ }
+    ensures { λ r. ⌜ Written (now (out .entry)) at (descriptionEntry d .bytes) r (now (out .exit)) ⌝ }
 {
     out[at] = (d.id / 256) as u8;
     out[at + 1] = (d.id % 256) as u8;
@@ -41,7 +40,7 @@ pub fn put_description(out: &mut [u8], at: usize, d: Datapoint) -> usize
 // The record's entry in a value answer or an indication, the state byte as it is, into the buffer at `at`; answers where it ends.
 pub fn put_value(out: &mut [u8], at: usize, d: Datapoint) -> usize
     requires { ⌜ (d .typecode ≤ 14) × (at + 4 + sizeOf (d .typecode) ≤ length (now out)) ⌝ }
-    ensures { λ r. ⌜ (now (out .exit) ≡ put (now (out .entry)) at (valueEntry d .bytes)) × (r ≡ at + length (valueEntry d .bytes)) ⌝ }
+    ensures { λ r. ⌜ Written (now (out .entry)) at (valueEntry d .bytes) r (now (out .exit)) ⌝ }
 {
     let v = d.value;
     out[at] = (d.id / 256) as u8;
@@ -62,7 +61,7 @@ pub fn put_value(out: &mut [u8], at: usize, d: Datapoint) -> usize
 // The same where others follow, with all of the value's memory: no branch on its size. The next entry overwrites what is behind the value.
 pub fn put_wide_value(out: &mut [u8], at: usize, d: Datapoint) -> usize
     requires { ⌜ (d .typecode ≤ 14) × (at + 18 ≤ length (now out)) ⌝ }
-    ensures { λ r. ⌜ (now (out .exit) ≡ put (now (out .entry)) at (wideValue d)) × (r ≡ at + length (valueEntry d .bytes)) ⌝ }
+    ensures { λ r. ⌜ WrittenWide (now (out .entry)) at (wideValue d) (valueEntry d .bytes) r (now (out .exit)) ⌝ }
 {
     let n = size_of(d.typecode);
     let v = d.value;

@@ -4,12 +4,10 @@ ghost use mathlib.Core.Bool.{true, not};
 ghost use Prim.Native.Nat.{_+_, _-_, _≤_};
 ghost use lib.ListN.{length};
 ghost use lib.Dec.{leb};
-ghost use Rattle.words.specs.Words.{put};
 ghost use Rattle.baos.specs.Datapoint.{datapointId, datapointOk};
 ghost use Rattle.baos.specs.Table.{datapointsOnly, tableOk};
-ghost use Rattle.baos.specs.Get.{roomForEntries};
-ghost use Rattle.baos.specs.Inner.Gather.{entriesTold};
-ghost use Rattle.baos.specs.Indication.{needs, choices, reported, afterReport, indication};
+ghost use Rattle.baos.specs.Inner.Promise.{Answered, MarkedTold};
+ghost use Rattle.baos.specs.Indication.{needs, indication};
 use baos::datapoint::Datapoint;
 use baos::inner::Told;
 use messages::message::put_indication_head;
@@ -30,10 +28,7 @@ fn waits(d: Datapoint, end: usize, most: usize) -> bool
 // stored.
 pub fn tell_marked(table: &mut [Datapoint], out: &mut [u8], at: usize) -> Told
     requires { ⌜ (tableOk 1000 datapointId datapointOk (now table) ≡ true) × (at + 248 ≤ length (now out)) ⌝ }
-    ensures { λ r. ⌜ (now (table .exit) ≡ afterReport (choices roomForEntries (now (table .entry))))
-        × (now (out .exit) ≡ put (now (out .entry)) at (entriesTold (choices roomForEntries (now (table .entry)))))
-        × (r .count ≡ length (reported (choices roomForEntries (now (table .entry)))))
-        × (r .end ≡ at + length (entriesTold (choices roomForEntries (now (table .entry))))) ⌝ }
+    ensures { λ r. ⌜ MarkedTold (now (table .entry)) (now (out .entry)) at r (now (out .exit)) (now (table .exit)) ⌝ }
 {
     let most = at + 248;
     let mut i: usize = 0;
@@ -63,9 +58,8 @@ pub fn tell_marked(table: &mut [Datapoint], out: &mut [u8], at: usize) -> Told
 // One indication, into the buffer at `at`; answers where it ends. Where nothing is marked nothing is said.
 pub fn indicate(table: &mut [Datapoint], out: &mut [u8], at: usize) -> usize
     requires { ⌜ (tableOk 1000 datapointId datapointOk (now table) ≡ true) × (at + 254 ≤ length (now out)) ⌝ }
-    ensures { λ r. ⌜ (now (table .exit) ≡ indication (datapointsOnly (now (table .entry))) .after .datapoints)
-        × (now (out .exit) ≡ put (now (out .entry)) at (indication (datapointsOnly (now (table .entry))) .says))
-        × (r ≡ at + length (indication (datapointsOnly (now (table .entry))) .says)) ⌝ }
+    ensures { λ r. ⌜ Answered (indication (datapointsOnly (now (table .entry))) .after .datapoints)
+        (now (out .entry)) at (indication (datapointsOnly (now (table .entry))) .says) r (now (out .exit)) (now (table .exit)) ⌝ }
 {
     let told = tell_marked(table, out, at + 6);
     if told.count == 0 {

@@ -3,11 +3,11 @@ ghost use mathlib.Core.Path.{_≡_};
 ghost use mathlib.Core.Bool.{true};
 ghost use Prim.Native.Nat.{_+_, _≤_};
 ghost use lib.ListN.{length};
-ghost use Rattle.words.specs.Words.{put};
 ghost use Rattle.baos.specs.Datapoint.{datapointId, datapointOk};
 ghost use Rattle.baos.specs.Item.{itemId, itemOk};
 ghost use Rattle.baos.specs.Table.{tablesOf, tableOk};
 ghost use Rattle.baos.specs.Service.{unanswered, carriedOut};
+ghost use Rattle.baos.specs.Inner.Promise.{Carried};
 use baos::datapoint::Datapoint;
 use baos::item::Item;
 use gets::get::get_datapoints;
@@ -42,10 +42,8 @@ pub fn carry_out(
     at: usize,
 ) -> usize
     requires { ⌜ (tableOk 1000 datapointId datapointOk (now datapoints) ≡ true) × (tableOk 64 itemId itemOk (now items) ≡ true) × (length (now parameters) ≤ 255) × (at + 254 ≤ length (now out)) × (length (now m) ≤ 254) ⌝ }
-    ensures { λ r. ⌜ (now (datapoints .exit) ≡ carriedOut (tablesOf (now (datapoints .entry)) (now (items .entry)) (now (parameters .entry))) (now (m .entry)) .after .datapoints)
-        × (now (items .exit) ≡ carriedOut (tablesOf (now (datapoints .entry)) (now (items .entry)) (now (parameters .entry))) (now (m .entry)) .after .items)
-        × (now (out .exit) ≡ put (now (out .entry)) at (carriedOut (tablesOf (now (datapoints .entry)) (now (items .entry)) (now (parameters .entry))) (now (m .entry)) .says))
-        × (r ≡ at + length (carriedOut (tablesOf (now (datapoints .entry)) (now (items .entry)) (now (parameters .entry))) (now (m .entry)) .says)) ⌝ }
+    ensures { λ r. ⌜ Carried (carriedOut (tablesOf (now (datapoints .entry)) (now (items .entry)) (now (parameters .entry))) (now (m .entry)))
+        (now (out .entry)) at r (now (out .exit)) (now (datapoints .exit)) (now (items .exit)) ⌝ }
 {
     if is_unanswered(m) {
         return at;

@@ -1,16 +1,17 @@
 // The sets: the entries of a request. An entry is given by the request's bytes and the place where it begins.
 ghost use mathlib.Core.Path.{_≡_};
 ghost use mathlib.Core.Bool.{true};
-ghost use mathlib.Core.List.{[], _∷_, _++_, map};
+ghost use mathlib.Core.List.{[], _∷_, map};
 ghost use Prim.Native.Nat.{_≤_, _<_, _+_};
 ghost use lib.ListN.{length, getD, take, drop};
 ghost use lib.Dec.{eqb};
-ghost use Rattle.words.specs.Words.{if_then_else_, ofTwoBytes, put};
+ghost use Rattle.words.specs.Words.{if_then_else_, ofTwoBytes};
 ghost use Rattle.baos.specs.Datapoint.{datapointId, datapointOk};
 ghost use Rattle.baos.specs.Item.{itemId, itemOk};
 ghost use Rattle.baos.specs.Table.{datapointsOnly, itemsOnly, found, changed, place, rising, tableOk};
 ghost use Rattle.baos.specs.Message.{subService, verdictOf};
 ghost use Rattle.baos.specs.Inner.Found.{foundEntries};
+ghost use Rattle.baos.specs.Inner.Promise.{Answered, EntriesFound};
 ghost use Rattle.baos.specs.Set.{filledFinding, setDatapointValue, setServerItem, fills, span, firstDatapointEntry, firstItemEntry, judgedDatapoint, judgedItem, setDatapoint, setItem, setEntries, firstBad, applied, allShort};
 use baos::datapoint::Datapoint;
 use baos::inner::Found;
@@ -145,8 +146,7 @@ pub fn item_set_at(s: &[u8], at: usize, i: Item) -> Item
 // entry's length is waited for.
 pub fn find_entries(table: &[Datapoint], m: &[u8], n: u16, entries: &mut [Found]) -> bool
     requires { ⌜ (length (now table) ≤ 1000) × (rising 0 (map datapointId (now table)) ≡ true) × (6 ≤ length (now m)) × (length (now m) ≤ 254) × (62 ≤ length (now entries)) ⌝ }
-    ensures { λ r. ⌜ (r ≡ fills 4 n (drop 6 (now (m .entry))))
-        × (now (entries .exit) ≡ foundEntries (now (table .entry)) n 6 (drop 6 (now (m .entry))) ++ drop (length (foundEntries (now (table .entry)) n 6 (drop 6 (now (m .entry))))) (now (entries .entry))) ⌝ }
+    ensures { λ r. ⌜ EntriesFound (now (table .entry)) (now (m .entry)) n (now (entries .entry)) r (now (entries .exit)) ⌝ }
 {
     let mut at: usize = 6;
     let mut k: usize = 0;
@@ -332,9 +332,8 @@ pub fn set_verdict(m: &[u8], head: usize) -> Verdict
 // SetDatapointValue: the answer, into the buffer at `at`; answers where it ends. All entries are judged before any is applied.
 pub fn set_datapoints(table: &mut [Datapoint], m: &[u8], out: &mut [u8], at: usize) -> usize
     requires { ⌜ (tableOk 1000 datapointId datapointOk (now table) ≡ true) × (6 ≤ length (now m)) × (length (now m) ≤ 254) × (subService (now m) < 0x80) × (at + 254 ≤ length (now out)) ⌝ }
-    ensures { λ r. ⌜ (now (table .exit) ≡ setDatapointValue (datapointsOnly (now (table .entry))) (now (m .entry)) .after .datapoints)
-        × (now (out .exit) ≡ put (now (out .entry)) at (setDatapointValue (datapointsOnly (now (table .entry))) (now (m .entry)) .says))
-        × (r ≡ at + length (setDatapointValue (datapointsOnly (now (table .entry))) (now (m .entry)) .says)) ⌝ }
+    ensures { λ r. ⌜ Answered (setDatapointValue (datapointsOnly (now (table .entry))) (now (m .entry)) .after .datapoints)
+        (now (out .entry)) at (setDatapointValue (datapointsOnly (now (table .entry))) (now (m .entry)) .says) r (now (out .exit)) (now (table .exit)) ⌝ }
 {
     let start = start_of(m);
     let n = number_of(m);
@@ -357,9 +356,8 @@ pub fn set_datapoints(table: &mut [Datapoint], m: &[u8], out: &mut [u8], at: usi
 // SetServerItem: the answer, into the buffer at `at`; answers where it ends.
 pub fn set_items(table: &mut [Item], m: &[u8], out: &mut [u8], at: usize) -> usize
     requires { ⌜ (tableOk 64 itemId itemOk (now table) ≡ true) × (6 ≤ length (now m)) × (subService (now m) < 0x80) × (at + 254 ≤ length (now out)) ⌝ }
-    ensures { λ r. ⌜ (now (table .exit) ≡ setServerItem (itemsOnly (now (table .entry))) (now (m .entry)) .after .items)
-        × (now (out .exit) ≡ put (now (out .entry)) at (setServerItem (itemsOnly (now (table .entry))) (now (m .entry)) .says))
-        × (r ≡ at + length (setServerItem (itemsOnly (now (table .entry))) (now (m .entry)) .says)) ⌝ }
+    ensures { λ r. ⌜ Answered (setServerItem (itemsOnly (now (table .entry))) (now (m .entry)) .after .items)
+        (now (out .entry)) at (setServerItem (itemsOnly (now (table .entry))) (now (m .entry)) .says) r (now (out .exit)) (now (table .exit)) ⌝ }
 {
     let v = set_verdict(m, 3);
     if v.code != 0 {

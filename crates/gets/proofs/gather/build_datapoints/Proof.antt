@@ -24,7 +24,7 @@ use prog.Memory.{Memory}
 use prog.Routine.{Routine}
 use prog.Wp.{Heap, Env, Calls, Tables, afterTurn, afterSeq, afterBlock, Wp, atReturn}
 use ghost.Atoms.{Atoms}
-use contract.Monad.{Fun, factI}
+use contract.Monad.{Fun, factI, fact-use}
 use contract.Running.{givenOf, tables, tablesOf}
 use types.Kit as Kit
 use types.Kit.{Given, Item as Entry, Sq, ‵, ⋆, anyQ, atRet, runs, _$_, _∵_, !, qed, by, move, keep, group, rewrite, suffices, frame, done}
@@ -44,6 +44,7 @@ use Rattle.baos.specs.declared.inner.Wanted.{Wanted}
 use Rattle.baos.specs.declared.datapoint.Datapoint.{Datapoint}
 use Rattle.baos.specs.Datapoint.{datapointId, datapointOk, zeroDatapoint}
 use Rattle.baos.specs.Inner.Gather.{isBehind, isWanted, entryOf, wideOf, leftOf, datapointsBuilt, datapointsLeft}
+use Rattle.baos.specs.Inner.Promise.{Written}
 use Rattle.baos.specs.Table.{place, tableOk}
 use Rattle.baos.proofs.Types.{datapointD, wantedD, byteD, idD, placeD, datapoint-id-fits, datapoint-offset-fits, fits-next}
 use Rattle.baos.proofs.MeasureLaws.{ahead-below}
@@ -143,10 +144,10 @@ module _ {M : Type 1} (𝓤 : URA M) (H : Heap 𝓤) (A : Atoms 𝓤) (W : Given
   abbrev Had : List Datapoint → List ℕ → List (Entry 𝓤)
   Had zs bs = Owned ++ ‵ (MutS datapointD κ b o (p .name) n zs) ∷ ‵ (flft κ q) ∷ ‵ (MutS byteD κ′ b′ o′ (p′ .name) m bs) ∷ ‵ (flft κ′ q′) ∷ []
 
-  exits : (r : ℕ) (zs : List Datapoint) (bs : List ℕ) → r < 2 ^ 64 → length zs ≡ n → length bs ≡ m → zs ≡ table-after → (bs ≡ put out at all) × (r ≡ at + length all) → ent 𝓤 (⋆ 𝓤 H A (Had zs bs)) (Done (vint w64 r))
+  exits : (r : ℕ) (zs : List Datapoint) (bs : List ℕ) → r < 2 ^ 64 → length zs ≡ n → length bs ≡ m → zs ≡ table-after → Written out at all r bs → ent 𝓤 (⋆ 𝓤 H A (Had zs bs)) (Done (vint w64 r))
   exits r zs bs r-fits zs-long bs-long zs-is e =
       qed W (Had zs bs) ∵
-      suffices ! _ (ends-in 2 𝓤 H A W ps placeD (f.clauses 𝓤 H A mem run) (κ, (κ′, tt)) (q, (q′, tt)) x tt r (zs, (tt, (tt, (bs, (tt, (tt, tt)))))) (zs-long, (tt, (tt, (bs-long, (tt, (tt, tt)))))) (refl, r-fits) (factI 𝓤 _ (emp 𝓤) (zs-is, e .0, e .1))) $
+      suffices ! _ (ends-in 2 𝓤 H A W ps placeD (f.clauses 𝓤 H A mem run) (κ, (κ′, tt)) (q, (q′, tt)) x tt r (zs, (tt, (tt, (bs, (tt, (tt, tt)))))) (zs-long, (tt, (tt, (bs-long, (tt, (tt, tt)))))) (refl, r-fits) (factI 𝓤 _ (emp 𝓤) (record { table = zs-is; buffer = e .buffer; ends = e .ends }))) $
       nothing ! $ nothing ! $ nothing ! $ nothing ! $ nothing ! $ nothing ! $ keep ! (11 ∷ 13 ∷ 0 ∷ 10 ∷ 1 ∷ 2 ∷ 12 ∷ 3 ∷ 4 ∷ 5 ∷ []) $ group ! 3 $ frame ! $ done !
 
   module _ (l : Blocks (code.function .locals)) where
@@ -219,7 +220,7 @@ module _ {M : Type 1} (𝓤 : URA M) (H : Heap 𝓤) (A : Atoms 𝓤) (W : Given
         lets ! (loc 26) (agg ! (and-then ! (val ! (loc 25) refl) (and-then ! (load ! (from ! (fld ! refl (stop !))) (look-in ! (loc 4) (sub ! 1 refl (whole !)))) (no-more !)))) refl (tt, (tt, (record { fits = gm .0 }, tt))) $
         move ! (1 ∷ 0 ∷ []) $
         calls-mutR ! (fmOf 𝓤 H (W .laws) 𝓣) byteD (placeD ∷ wantedD ∷ datapointD ∷ []) placeD (put-wide-entry.clauses 𝓤 H A mem run) (known .put-wide-entry) m bs (sym (putting .long)) (subst (Room (byteD .row)) (sym (putting .long)) gm) (λ _. (end, (w, (d, tt)))) (λ _ _. tt) (λ _. ((refl, end-fits), (w-ok, (d-ok, tt))))
-        (λ _ _. factI 𝓤 _ (emp 𝓤) (code-fits d (from-ok datapointId zeroDatapoint (w .start) datapointOk d (here small .0)), wide-fits followed)) (put bs end (wideOf w d)) (end + length es) (λ _ _ _ _. id⊢ 𝓤 _)
+        (λ _ _. factI 𝓤 _ (emp 𝓤) (code-fits d (from-ok datapointId zeroDatapoint (w .start) datapointOk d (here small .0)), wide-fits followed)) (put bs end (wideOf w d)) (end + length es) (λ _ _ _ _. fact-use 𝓤 _ (id⊢ 𝓤 _) (λ z. factI 𝓤 _ _ (z .buffer, z .ends)))
         (λ _ _ _. and-then ! (val ! (1 + loc 26) refl) (and-then ! (val ! (1 + loc 9) refl) (and-then ! (val ! (1 + loc 3) refl) (and-then ! (val ! (1 + loc 11) refl) (no-more !))))) (λ _ end-ok.
         land ! (from ! (stop !)) (store ! (loc 9) refl (tt, record { fits = end-ok .1 })) $
         move ! (1 ∷ 0 ∷ []) $
@@ -247,7 +248,7 @@ module _ {M : Type 1} (𝓤 : URA M) (H : Heap 𝓤) (A : Atoms 𝓤) (W : Given
         lets ! (loc 32) (agg ! (and-then ! (val ! (loc 31) refl) (and-then ! (load ! (from ! (fld ! refl (stop !))) (look-in ! (loc 4) (sub ! 1 refl (whole !)))) (no-more !)))) refl (tt, (tt, (record { fits = gm .0 }, tt))) $
         move ! (1 ∷ 0 ∷ []) $
         calls-mutR ! (fmOf 𝓤 H (W .laws) 𝓣) byteD (placeD ∷ wantedD ∷ datapointD ∷ []) placeD (put-entry.clauses 𝓤 H A mem run) (known .put-entry) m bs (sym (putting .long)) (subst (Room (byteD .row)) (sym (putting .long)) gm) (λ _. (end, (w, (d, tt)))) (λ _ _. tt) (λ _. ((refl, end-fits), (w-ok, (d-ok, tt))))
-        (λ _ _. factI 𝓤 _ (emp 𝓤) (code-fits d (from-ok datapointId zeroDatapoint (w .start) datapointOk d (here small .0)), entry-fits out at all bs end es _ (wanted-putting small ahead hit))) (put bs end es) (end + length es) (λ _ _ _ _. id⊢ 𝓤 _)
+        (λ _ _. factI 𝓤 _ (emp 𝓤) (code-fits d (from-ok datapointId zeroDatapoint (w .start) datapointOk d (here small .0)), entry-fits out at all bs end es _ (wanted-putting small ahead hit))) (put bs end es) (end + length es) (λ _ _ _ _. fact-use 𝓤 _ (id⊢ 𝓤 _) (λ z. factI 𝓤 _ _ (z .buffer, z .ends)))
         (λ _ _ _. and-then ! (val ! (1 + loc 32) refl) (and-then ! (val ! (1 + loc 9) refl) (and-then ! (val ! (1 + loc 3) refl) (and-then ! (val ! (1 + loc 12) refl) (no-more !))))) (λ _ end-ok.
         land ! (from ! (stop !)) (store ! (loc 9) refl (tt, record { fits = end-ok .1 })) $
         move ! (1 ∷ 0 ∷ []) $
@@ -348,7 +349,7 @@ module _ {M : Type 1} (𝓤 : URA M) (H : Heap 𝓤) (A : Atoms 𝓤) (W : Given
                   (subst (λ (ws : List ℕ). Putting out at all (put bs end ws) (end + length es) rest) (sym (wide-is w d)) (putting-over out at all bs end es rest (behindOf w d) short next)),
             )
 
-        stopped : datapointsBuilt w (dropL i zs) ≡ [] → (bs ≡ put out at all) × (end ≡ at + length all)
+        stopped : datapointsBuilt w (dropL i zs) ≡ [] → Written out at all end bs
         stopped e = putting-none out at all bs end (subst (Putting out at all bs end) e putting)
 
     from-start : (start ≤ n) × Holds (every fine (dropL start ys))

@@ -24,7 +24,7 @@ use prog.Memory.{Memory}
 use prog.Routine.{Routine}
 use prog.Wp.{Heap, Env, Calls, Tables, afterTurn, afterSeq, afterBlock, Wp, atReturn}
 use ghost.Atoms.{Atoms}
-use contract.Monad.{Fun, factI}
+use contract.Monad.{Fun, factI, fact-use}
 use contract.Running.{givenOf, tables, tablesOf}
 use types.Kit as Kit
 use types.Kit.{Given, Item as Entry, Sq, ‵, ⋆, anyQ, atRet, runs, _$_, _∵_, !, qed, by, move, keep, group, rewrite, suffices, frame, done}
@@ -46,6 +46,7 @@ use Rattle.baos.specs.declared.item.Item.{Item}
 use Rattle.baos.specs.Item.{itemId, itemOk, zeroItem}
 use Rattle.baos.specs.Get.{itemEntry}
 use Rattle.baos.specs.Inner.Gather.{isBehind, isWithin, itemsBuilt}
+use Rattle.baos.specs.Inner.Promise.{Written}
 use Rattle.baos.specs.Table.{place, tableOk}
 use Rattle.baos.proofs.Types.{itemD, wantedD, byteD, idD, placeD, item-id-fits, item-offset-fits, fits-next}
 use Rattle.baos.proofs.MeasureLaws.{ahead-below, in-range, item-length}
@@ -129,7 +130,7 @@ module _ {M : Type 1} (𝓤 : URA M) (H : Heap 𝓤) (A : Atoms 𝓤) (W : Given
   abbrev Had : List ℕ → List (Entry 𝓤)
   Had bs = Owned ++ ‵ (ShrS itemD κ b o (p .name) n ys) ∷ ‵ (flft κ q) ∷ ‵ (MutS byteD κ′ b′ o′ (p′ .name) m bs) ∷ ‵ (flft κ′ q′) ∷ []
 
-  exits : (r : ℕ) (bs : List ℕ) → r < 2 ^ 64 → length bs ≡ m → (bs ≡ put out at all) × (r ≡ at + length all) → ent 𝓤 (⋆ 𝓤 H A (Had bs)) (Done (vint w64 r))
+  exits : (r : ℕ) (bs : List ℕ) → r < 2 ^ 64 → length bs ≡ m → Written out at all r bs → ent 𝓤 (⋆ 𝓤 H A (Had bs)) (Done (vint w64 r))
   exits r bs r-fits bs-long e =
       qed W (Had bs) ∵
       suffices ! _ (ends-in 2 𝓤 H A W ps placeD (f.clauses 𝓤 H A mem run) (κ, (κ′, tt)) (q, (q′, tt)) x tt r (tt, (tt, (tt, (bs, (tt, tt))))) (tt, (tt, (tt, (bs-long, (tt, tt))))) (refl, r-fits) (factI 𝓤 _ (emp 𝓤) e)) $
@@ -179,7 +180,7 @@ module _ {M : Type 1} (𝓤 : URA M) (H : Heap 𝓤) (A : Atoms 𝓤) (W : Given
         lets ! (loc 15) (agg ! (and-then ! (val ! (loc 14) refl) (and-then ! (load ! (from ! (fld ! refl (stop !))) (look-in ! (loc 4) (sub ! 1 refl (whole !)))) (no-more !)))) refl (tt, (tt, (record { fits = gm .0 }, tt))) $
         move ! (1 ∷ 0 ∷ []) $
         calls-mutR ! (fmOf 𝓤 H (W .laws) 𝓣) byteD (placeD ∷ itemD ∷ []) placeD (put-item.clauses 𝓤 H A mem run) (known .put-item) m bs (sym (putting .long)) (subst (Room (byteD .row)) (sym (putting .long)) gm) (λ _. (end, (d, tt))) (λ _ _. tt) (λ _. ((refl, end-fits), (d-ok, tt)))
-        (λ _ _. factI 𝓤 _ (emp 𝓤) (bytes-fit d (passes small) .0, enough-here small ahead)) (put bs end es) (end + length es) (λ _ _ _ _. id⊢ 𝓤 _)
+        (λ _ _. factI 𝓤 _ (emp 𝓤) (bytes-fit d (passes small) .0, enough-here small ahead)) (put bs end es) (end + length es) (λ _ _ _ _. fact-use 𝓤 _ (id⊢ 𝓤 _) (λ z. factI 𝓤 _ _ (z .buffer, z .ends)))
         (λ _ _ _. and-then ! (val ! (1 + loc 15) refl) (and-then ! (val ! (1 + loc 7) refl) (and-then ! (val ! (1 + loc 8) refl) (no-more !)))) (λ _ end-ok.
         land ! (from ! (stop !)) (store ! (loc 7) refl (tt, record { fits = end-ok .1 })) $
         move ! (1 ∷ 0 ∷ []) $
@@ -230,7 +231,7 @@ module _ {M : Type 1} (𝓤 : URA M) (H : Heap 𝓤) (A : Atoms 𝓤) (W : Given
         enough-here : Holds (ltb i n) → Holds (not (past d)) → end + 3 + d .size ≤ length bs
         enough-here t u = omega (arith, entry-fits out at all bs end es _ (wanted-putting t u), item-length d (bytes-fit d (passes t) .1) (bytes-fit d (passes t) .0))
 
-        stopped : itemsBuilt w (dropL i ys) ≡ [] → (bs ≡ put out at all) × (end ≡ at + length all)
+        stopped : itemsBuilt w (dropL i ys) ≡ [] → Written out at all end bs
         stopped e = putting-none out at all bs end (subst (Putting out at all bs end) e putting)
 
     from-start : (start ≤ n) × Holds (every fine (dropL start ys))

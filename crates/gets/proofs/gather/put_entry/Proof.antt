@@ -1,11 +1,10 @@
-use Prim.Native.Nat.{_+_}
-use mathlib.Core.Path.{_≡_, sym, _∙_, ap}
+use mathlib.Core.Path.{_≡_, ap}
 use native.Mathlib.Omega.{arith}
 use lib.ListN.{length}
 use borrow.Author.Needs.{needs}
-use Rattle.words.specs.Words.{put}
 use Rattle.baos.specs.Get.{AnswerEntry}
 use Rattle.baos.proofs.MeasureLaws.{entry-value, entry-description, value-length, description-length}
+use Rattle.baos.proofs.WrittenLaws.{written-as}
 use Rattle.records.proofs.entry.put_description.Reads as put-description-reads
 use Rattle.records.proofs.entry.put_value.Reads as put-value-reads
 use Rattle.gets.proofs.gather.put_entry.Statement.{statement}
@@ -24,8 +23,7 @@ returns : tie.Need-returns
 returns c =
     let a = c .before .before .before .before .before .before .args in
     let e = entry-value (a .w) (a .d) (c .before .before .before .before .if1 .taken) in
-    let r = c .before .before .put-value .ensures in
-    (r .0 ∙ ap (λ (x : AnswerEntry). put (a .out .now) (a .at) (x .bytes)) (sym e), r .1 ∙ ap (λ (x : AnswerEntry). a .at + length (x .bytes)) (sym e))
+    written-as (a .out .now) (a .at) (c .before .before .put-value .ensures) (ap (λ (x : AnswerEntry). x .bytes) e)
 
 put-description-requires : tie.Need-put-description-requires
 put-description-requires c κs =
@@ -39,8 +37,7 @@ returns-2 : tie.Need-returns-2
 returns-2 c =
     let a = c .before .before .before .before .before .before .args in
     let e = entry-description (a .w) (a .d) (c .before .before .before .before .if1 .left) in
-    let r = c .before .before .put-description .ensures in
-    (r .0 ∙ ap (λ (x : AnswerEntry). put (a .out .now) (a .at) (x .bytes)) (sym e), r .1 ∙ ap (λ (x : AnswerEntry). a .at + length (x .bytes)) (sym e))
+    written-as (a .out .now) (a .at) (c .before .before .put-description .ensures) (ap (λ (x : AnswerEntry). x .bytes) e)
 
 pub put-entry-spec : {M : Type 1} → statement M
 put-entry-spec =

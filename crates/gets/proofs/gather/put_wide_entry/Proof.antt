@@ -21,7 +21,10 @@ returns c =
     let a = c .before .before .before .before .before .before .args in
     let t = c .before .before .before .before .if1 .taken in
     let r = c .before .before .put-wide-value .ensures in
-    (r .0 ∙ ap (put (a .out .now) (a .at)) (sym (wide-value (a .w) (a .d) t)), r .1 ∙ ap (λ (x : AnswerEntry). a .at + length (x .bytes)) (sym (entry-value (a .w) (a .d) t)))
+    record {
+      buffer = r .buffer ∙ ap (put (a .out .now) (a .at)) (sym (wide-value (a .w) (a .d) t));
+      ends = r .ends ∙ ap (λ (x : AnswerEntry). a .at + length (x .bytes)) (sym (entry-value (a .w) (a .d) t));
+    }
 
 put-description-requires : tie.Need-put-description-requires
 put-description-requires c κs = search needs
@@ -34,7 +37,10 @@ returns-2 c =
     let a = c .before .before .before .before .before .before .args in
     let t = c .before .before .before .before .if1 .left in
     let r = c .before .before .put-description .ensures in
-    (r .0 ∙ ap (put (a .out .now) (a .at)) (sym (wide-description (a .w) (a .d) t)), r .1 ∙ ap (λ (x : AnswerEntry). a .at + length (x .bytes)) (sym (entry-description (a .w) (a .d) t)))
+    record {
+      buffer = r .buffer ∙ ap (put (a .out .now) (a .at)) (sym (wide-description (a .w) (a .d) t));
+      ends = r .ends ∙ ap (λ (x : AnswerEntry). a .at + length (x .bytes)) (sym (entry-description (a .w) (a .d) t));
+    }
 
 pub put-wide-entry-spec : {M : Type 1} → statement M
 put-wide-entry-spec =

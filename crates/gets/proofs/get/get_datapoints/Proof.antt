@@ -43,6 +43,7 @@ use Rattle.baos.specs.Datapoint.{datapointId, datapointOk}
 use Rattle.baos.specs.Message.{subService, startOf, coded, verdictOf}
 use Rattle.baos.specs.Inner.Gather.{requestFinding, gatheredVerdict, walked, nothingGathered, datapointStep, datapointsBuilt, datapointsLeft, wantedOf}
 use Rattle.baos.proofs.Types.{datapointD, wantedD, gatheredD, byteD, idD, placeD, verdictD}
+use Rattle.baos.proofs.WrittenLaws.{coded-ends}
 use Rattle.baos.proofs.FieldsFit.{id-fits, code-fits, start-fits, count-fits, size-fits}
 use Rattle.baos.proofs.AnswerJoins.{sought, datapoints-refused, datapoints-bad, datapoints-fit, datapoints-sized, datapoints-fine}
 use Rattle.gets.proofs.get.request_verdict as request-verdict
@@ -176,7 +177,7 @@ module _ {M : Type 1} (𝓤 : URA M) (H : Heap 𝓤) (A : Atoms 𝓤) (W : Given
       use0 W (‵ (placeD .row .own at (placeD .val at ∷ []))) (placeD .made 𝓤 H A W at (placeD .val at ∷ []) at-ok) $
       move ! (3 ∷ 7 ∷ 4 ∷ 0 ∷ 6 ∷ 1 ∷ 2 ∷ []) $
       calls-any ! (fmOf 𝓤 H (W .laws) 𝓣) put-coded.ended (put-coded.clauses 𝓤 H A mem run) known-put-coded (((ν ∷ [], (κ1, tt)), (fullShare, (q1, tt)), tt, (record { ptr = out .ptr; name = δ; now = out .now }, (at, (m, (v .id, (v .code, tt))))), (sliceVal (out .ptr) (length (out .now)) ∷ [], (placeD .val at ∷ [], (sliceVal (m .ptr) (length msg) ∷ [], (idD .val (v .id) ∷ [], (byteD .val (v .code) ∷ [], tt)))))), tt) (factI 𝓤 _ (emp 𝓤) (ok .1, ok .2, omega (arith, ok .3))) placeD (at + 7) (λ ws. ws .0 ≡ put (out .now) at (coded msg (v .id) (v .code)))
-      (λ v r ws is. fact-use 𝓤 _ (id⊢ 𝓤 _) (λ z. factI 𝓤 _ _ (z .0, pinned placeD r (at + 7) v is (z .1))))
+      (λ v r ws is. fact-use 𝓤 _ (id⊢ 𝓤 _) (λ z. factI 𝓤 _ _ (z .buffer, pinned placeD r (at + 7) v is (coded-ends msg _ _ z))))
       (and-then ! (load ! (from ! (stop !)) (look ! 28 refl)) (and-then ! (load ! (from ! (stop !)) (look ! 46 refl)) (and-then ! (load ! (from ! (stop !)) (look ! 52 refl)) (and-then ! (load ! (from ! (fld ! refl (stop !))) (look-in ! 44 (sub ! 0 refl (whole !)))) (and-then ! (load ! (from ! (fld ! refl (stop !))) (look-in ! 44 (sub ! 1 refl (whole !)))) (no-more !)))))) (λ ws z end-ok.
       move ! (0 ∷ 2 ∷ 7 ∷ []) $
       backsS ! tt byteD (length (out .now)) (out .now) refl rm (ws .0) (put (out .now) at (coded msg (v .id) (v .code))) z (λ long.
@@ -213,7 +214,7 @@ module _ {M : Type 1} (𝓤 : URA M) (H : Heap 𝓤) (A : Atoms 𝓤) (W : Given
       use0 W (‵ (placeD .row .own at (placeD .val at ∷ []))) (placeD .made 𝓤 H A W at (placeD .val at ∷ []) at-ok) $
       move ! (3 ∷ 9 ∷ 4 ∷ 0 ∷ 8 ∷ 1 ∷ 2 ∷ []) $
       calls-any ! (fmOf 𝓤 H (W .laws) 𝓣) put-coded.ended (put-coded.clauses 𝓤 H A mem run) known-put-coded (((ν ∷ [], (κ1, tt)), (fullShare, (q1, tt)), tt, (record { ptr = out .ptr; name = δ; now = out .now }, (at, (m, (u .id, (u .code, tt))))), (sliceVal (out .ptr) (length (out .now)) ∷ [], (placeD .val at ∷ [], (sliceVal (m .ptr) (length msg) ∷ [], (idD .val (u .id) ∷ [], (byteD .val (u .code) ∷ [], tt)))))), tt) (factI 𝓤 _ (emp 𝓤) (ok .1, ok .2, omega (arith, ok .3))) placeD (at + 7) (λ ws. ws .0 ≡ put (out .now) at (coded msg (u .id) (u .code)))
-      (λ v r ws is. fact-use 𝓤 _ (id⊢ 𝓤 _) (λ z. factI 𝓤 _ _ (z .0, pinned placeD r (at + 7) v is (z .1))))
+      (λ v r ws is. fact-use 𝓤 _ (id⊢ 𝓤 _) (λ z. factI 𝓤 _ _ (z .buffer, pinned placeD r (at + 7) v is (coded-ends msg _ _ z))))
       (and-then ! (load ! (from ! (stop !)) (look ! 16 refl)) (and-then ! (load ! (from ! (stop !)) (look ! 46 refl)) (and-then ! (load ! (from ! (stop !)) (look ! 52 refl)) (and-then ! (load ! (from ! (fld ! refl (stop !))) (look-in ! 36 (sub ! 0 refl (whole !)))) (and-then ! (load ! (from ! (fld ! refl (stop !))) (look-in ! 36 (sub ! 1 refl (whole !)))) (no-more !)))))) (λ ws z end-ok.
       move ! (0 ∷ 2 ∷ 7 ∷ []) $
       backsS ! tt byteD (length (out .now)) (out .now) refl rm (ws .0) (put (out .now) at (coded msg (u .id) (u .code))) z (λ long.
@@ -230,7 +231,7 @@ module _ {M : Type 1} (𝓤 : URA M) (H : Heap 𝓤) (A : Atoms 𝓤) (W : Given
       use0 W (‵ (placeD .row .own at (placeD .val at ∷ []))) (placeD .made 𝓤 H A W at (placeD .val at ∷ []) at-ok) $
       move ! (2 ∷ 8 ∷ 3 ∷ 0 ∷ 7 ∷ 1 ∷ []) $
       calls-any ! (fmOf 𝓤 H (W .laws) 𝓣) put-answer-head.ended (put-answer-head.clauses 𝓤 H A mem run) known-put-answer-head (((ν ∷ [], (κ1, tt)), (fullShare, (q1, tt)), tt, (record { ptr = out .ptr; name = δ; now = out .now }, (at, (m, (g .count, tt)))), (sliceVal (out .ptr) (length (out .now)) ∷ [], (placeD .val at ∷ [], (sliceVal (m .ptr) (length msg) ∷ [], (idD .val (g .count) ∷ [], tt))))), tt) (factI 𝓤 _ (emp 𝓤) (ok .1, ok .2, omega (arith, ok .3))) placeD (at + 6) (λ ws. ws .0 ≡ out₁)
-      (λ v r ws is. fact-use 𝓤 _ (id⊢ 𝓤 _) (λ z. factI 𝓤 _ _ (z .0, pinned placeD r (at + 6) v is (z .1))))
+      (λ v r ws is. fact-use 𝓤 _ (id⊢ 𝓤 _) (λ z. factI 𝓤 _ _ (z .buffer, pinned placeD r (at + 6) v is (z .ends))))
       (and-then ! (load ! (from ! (stop !)) (look ! 12 refl)) (and-then ! (load ! (from ! (stop !)) (look ! 46 refl)) (and-then ! (load ! (from ! (stop !)) (look ! 52 refl)) (and-then ! (load ! (from ! (fld ! refl (stop !))) (look-in ! 38 (sub ! 0 refl (whole !)))) (no-more !))))) (λ ws z head-ok.
       move ! (0 ∷ 2 ∷ 6 ∷ []) $
       backsS ! tt byteD (length (out .now)) (out .now) refl rm (ws .0) out₁ z (λ long₁.
@@ -255,7 +256,7 @@ module _ {M : Type 1} (𝓤 : URA M) (H : Heap 𝓤) (A : Atoms 𝓤) (W : Given
       use0 W (‵ (placeD .row .own p (placeD .val p ∷ []))) (placeD .made 𝓤 H A W p (placeD .val p ∷ []) p-ok) $
       move ! (7 ∷ 4 ∷ 8 ∷ 0 ∷ 1 ∷ 5 ∷ 2 ∷ 3 ∷ []) $
       calls-any ! (fmOf 𝓤 H (W .laws) 𝓣) build-datapoints.ended (build-datapoints.clauses 𝓤 H A mem run) known-build-datapoints (((ν₀ ∷ [], (ν₁ ∷ [], tt)), (fullShare, (fullShare, tt)), tt, (record { ptr = table .ptr; name = δ₀; now = ys }, (p, (w, (record { ptr = out .ptr; name = δ₁; now = out₁ }, (at + 6, (g .size, tt)))))), (sliceVal (table .ptr) (length ys) ∷ [], (placeD .val p ∷ [], (wantedD .val w ∷ [], (sliceVal (out .ptr) (length (out .now)) ∷ [], (placeD .val (at + 6) ∷ [], (placeD .val (g .size) ∷ [], tt))))))), tt) (factI 𝓤 _ (emp 𝓤) (ok .0, refl, omega (arith, datapoints-fit values msg ys (ok .0) (out .now) at refused-not bad-not, ok .3, long₁), datapoints-sized values msg ys (ok .0) (out .now) at refused-not bad-not)) placeD r′ (λ ws. (ws .0 ≡ ys′) × (ws .1 .1 .1 .0 ≡ out₂))
-      (λ v r ws is. fact-use 𝓤 _ (id⊢ 𝓤 _) (λ z. factI 𝓤 _ _ ((z .0, z .1), pinned placeD r r′ v is (z .2))))
+      (λ v r ws is. fact-use 𝓤 _ (id⊢ 𝓤 _) (λ z. factI 𝓤 _ _ ((z .table, z .buffer), pinned placeD r r′ v is (z .ends))))
       (and-then ! (load ! (from ! (stop !)) (look ! 8 refl)) (and-then ! (load ! (from ! (stop !)) (look ! 40 refl)) (and-then ! (load ! (from ! (stop !)) (look ! 42 refl)) (and-then ! (load ! (from ! (stop !)) (look ! 4 refl)) (and-then ! (load ! (from ! (stop !)) (look ! 34 refl)) (and-then ! (load ! (from ! (fld ! refl (stop !))) (look-in ! 38 (sub ! 1 refl (whole !)))) (no-more !))))))) (λ ws z end-ok.
       move ! (0 ∷ 2 ∷ 9 ∷ []) $
       backsS ! tt datapointD (length ys) ys refl rm₀ (ws .0) ys′ (z .0) (λ long₀.

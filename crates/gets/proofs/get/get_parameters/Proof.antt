@@ -13,7 +13,7 @@ use Rattle.baos.specs.Get.{getParameterByte}
 use Rattle.baos.specs.Message.{subService, startOf, numberOf, coded}
 use Rattle.baos.specs.Table.{parametersOnly}
 use Rattle.baos.specs.declared.inner.Verdict.{Verdict}
-use Rattle.baos.proofs.GetLaws.{coded-says}
+use Rattle.baos.proofs.WrittenLaws.{written-as}
 use Rattle.baos.proofs.ParameterLaws.{present-short, parameters-refused, parameters-none, parameters-over, parameters-all}
 use Rattle.gets.proofs.get.parameters_present.Reads as parameters-present-reads
 use Rattle.gets.proofs.get.request_verdict.Reads as request-verdict-reads
@@ -39,7 +39,7 @@ returns c =
     let m = a .m .now in
     let ps = a .parameters .now in
     let v = c .before .before .before .before .before .before .request-verdict .ensures in
-    coded-says (a .out .now) (a .at) m _ _ (c .before .before .put-coded .ensures) (parameters-refused ps m (λ z. omega (arith, ap (λ (x : Verdict). x .code) v, z)) ∙ ap (λ (x : Verdict). coded m (x .id) (x .code)) (sym v))
+    written-as (a .out .now) (a .at) (c .before .before .put-coded .ensures) (parameters-refused ps m (λ z. omega (arith, ap (λ (x : Verdict). x .code) v, z)) ∙ ap (λ (x : Verdict). coded m (x .id) (x .code)) (sym v))
 
 start-of-requires : tie.Need-start-of-requires
 start-of-requires c κs = search needs
@@ -69,7 +69,7 @@ returns-2 c =
     let ps = a .parameters .now in
     let v = c .before .before .before .before .before .before .before .before .before .before .request-verdict .ensures in
     let e = c .before .before .before .before .before .parameters-present .ensures ∙ (λ i. parametersPresent (length ps) (c .before .before .before .before .before .before .before .start-of .ensures i) (c .before .before .before .before .before .before .number-of .ensures i)) in
-    coded-says (a .out .now) (a .at) m _ _ (c .before .before .put-coded2 .ensures) (parameters-none ps m (omega (arith, ap (λ (x : Verdict). x .code) v)) (omega (arith, e)) ∙ ap (λ (i : ℕ). coded m i 2) (sym (c .before .before .before .before .before .before .before .start-of .ensures)))
+    written-as (a .out .now) (a .at) (c .before .before .put-coded2 .ensures) (parameters-none ps m (omega (arith, ap (λ (x : Verdict). x .code) v)) (omega (arith, e)) ∙ ap (λ (i : ℕ). coded m i 2) (sym (c .before .before .before .before .before .before .before .start-of .ensures)))
 
 add-put-coded : tie.Need-add-put-coded
 add-put-coded c =
@@ -93,7 +93,7 @@ returns-3 c =
     let ps = a .parameters .now in
     let v = c .before .before .before .before .before .before .before .before .before .before .before .request-verdict .ensures in
     let e = c .before .before .before .before .before .before .parameters-present .ensures ∙ (λ i. parametersPresent (length ps) (c .before .before .before .before .before .before .before .before .start-of .ensures i) (c .before .before .before .before .before .before .before .number-of .ensures i)) in
-    coded-says (a .out .now) (a .at) m _ _ (c .before .before .put-coded3 .ensures) (parameters-over ps m (omega (arith, ap (λ (x : Verdict). x .code) v)) (omega (arith, e)) (omega (arith, e)) ∙ ap (λ (i : ℕ). coded m (i + 248) 3) (sym (c .before .before .before .before .before .before .before .before .start-of .ensures)))
+    written-as (a .out .now) (a .at) (c .before .before .put-coded3 .ensures) (parameters-over ps m (omega (arith, ap (λ (x : Verdict). x .code) v)) (omega (arith, e)) (omega (arith, e)) ∙ ap (λ (i : ℕ). coded m (i + 248) 3) (sym (c .before .before .before .before .before .before .before .before .start-of .ensures)))
 
 cast-put-answer-head : tie.Need-cast-put-answer-head
 cast-put-answer-head c = search needs
@@ -155,13 +155,15 @@ returns-4 c =
     let f : s - 1 + n - (s - 1) ≡ parametersPresent (length ps) (startOf m) (numberOf m) = omega (arith, e) in
     let same : vs ++ ws ≡ getParameterByte (parametersOnly ps) m .says =
     (λ i. (0xF0 ∷ (subService m + 0x80) ∷ twoBytes (startOf m) ++ twoBytes (e i)) ++ take (f i) (drop (c .before .before .before .before .before .before .before .before .before .before .before .before .before .start-of .ensures i - 1) ps)) ∙ sym (parameters-all ps m (omega (arith, ap (λ (x : Verdict). x .code) v)) (omega (arith, e)) (omega (arith, e))) in
-    let long : length ws ≡ n = length-take-le (s - 1 + n - (s - 1)) (drop (s - 1) ps) (omega (arith, e, c .before .before .before .before .before .before .before .before .before .before .before .before .before .start-of .ensures, length-drop (s - 1) ps, present-short ps m (omega (arith, e)))) ∙ omega arith in (
-      c .before .before .put-bytes .ensures
-          ∙ ap (λ (o : List ℕ). put o (c .before .before .before .before .before .before .before .put-answer-head .result) ws) (h .0)
-          ∙ put-put (a .out .now) (a .at) (c .before .before .before .before .before .before .before .put-answer-head .result) vs ws (omega (arith, h .1)) (omega (arith, long))
-          ∙ ap (put (a .out .now) (a .at)) same,
-      omega (arith, h .1, long, ap length (sym same), length-append vs ws),
-    )
+    let long : length ws ≡ n = length-take-le (s - 1 + n - (s - 1)) (drop (s - 1) ps) (omega (arith, e, c .before .before .before .before .before .before .before .before .before .before .before .before .before .start-of .ensures, length-drop (s - 1) ps, present-short ps m (omega (arith, e)))) ∙ omega arith in
+    record {
+      buffer =
+          c .before .before .put-bytes .ensures
+          ∙ ap (λ (o : List ℕ). put o (c .before .before .before .before .before .before .before .put-answer-head .result) ws) (h .buffer)
+          ∙ put-put (a .out .now) (a .at) (c .before .before .before .before .before .before .before .put-answer-head .result) vs ws (omega (arith, h .ends)) (omega (arith, long))
+          ∙ ap (put (a .out .now) (a .at)) same;
+      ends = omega (arith, h .ends, long, ap length (sym same), length-append vs ws);
+    }
 
 pub get-parameters-spec : {M : Type 1} → statement M
 get-parameters-spec =

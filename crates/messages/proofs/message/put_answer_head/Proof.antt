@@ -1,10 +1,11 @@
 use Prim.Native.Nat.{ℕ, _+_}
 use mathlib.Core.List.{_∷_, _++_}
-use mathlib.Core.Path.{_∙_, ap}
+use mathlib.Core.Path.{sym, ap}
 use native.Mathlib.Omega.{arith}
 use borrow.Author.Needs.{needs}
-use Rattle.words.specs.Words.{put, twoBytes}
+use Rattle.words.specs.Words.{twoBytes}
 use Rattle.baos.specs.Message.{subService}
+use Rattle.baos.proofs.WrittenLaws.{written-as}
 use Rattle.messages.proofs.message.put_head.Reads as put-head-reads
 use Rattle.messages.proofs.message.start_of.Reads as start-of-reads
 use Rattle.messages.proofs.message.put_answer_head.Statement.{statement}
@@ -30,8 +31,7 @@ returns : tie.Need-returns
 unfolding subService
 returns c =
     let a = c .before .before .before .before .before .before .before .before .args in
-    let r = c .before .before .put-head .ensures in
-    (r .0 ∙ ap (λ (s : ℕ). put (a .out .now) (a .at) (0xF0 ∷ (subService (a .m .now) + 0x80) ∷ twoBytes s ++ twoBytes (a .count))) (c .before .before .before .before .before .start-of .ensures), r .1)
+    written-as (a .out .now) (a .at) (c .before .before .put-head .ensures) (ap (λ (s : ℕ). 0xF0 ∷ (subService (a .m .now) + 0x80) ∷ twoBytes s ++ twoBytes (a .count)) (sym (c .before .before .before .before .before .start-of .ensures)))
 
 pub put-answer-head-spec : {M : Type 1} → statement M
 put-answer-head-spec =

@@ -72,7 +72,7 @@ returns : tie.Need-returns
 unfolding coded subService
 returns c =
     let a = c .before .args in
-    (simp towards-suc (put-sets (0xF0 ∷ _ ∷ _ ∷ _ ∷ 0 ∷ 0 ∷ a .code ∷ []) (a .out .now) (a .at) (omega arith)), refl)
+    record { buffer = simp towards-suc (put-sets (0xF0 ∷ _ ∷ _ ∷ _ ∷ 0 ∷ 0 ∷ a .code ∷ []) (a .out .now) (a .at) (omega arith)); ends = refl }
 
 pub put-coded-spec : {M : Type 1} → statement M
 put-coded-spec =

@@ -63,7 +63,7 @@ same-length c = search needs
 returns : tie.Need-returns
 returns c =
     let a = c .args in
-    (simp towards-suc (put-sets (0xF0 ∷ a .sub ∷ _ ∷ _ ∷ _ ∷ _ ∷ []) (a .out .now) (a .at) (omega arith)), refl)
+    record { buffer = simp towards-suc (put-sets (0xF0 ∷ a .sub ∷ _ ∷ _ ∷ _ ∷ _ ∷ []) (a .out .now) (a .at) (omega arith)); ends = refl }
 
 pub put-head-spec : {M : Type 1} → statement M
 put-head-spec =

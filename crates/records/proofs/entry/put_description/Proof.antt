@@ -53,7 +53,7 @@ returns : tie.Need-returns
 unfolding descriptionEntry
 returns c =
     let a = c .before .before .args in
-    (simp towards-suc (put-sets (_ ∷ _ ∷ a .d .typecode ∷ a .d .flags ∷ a .d .dpt ∷ []) (a .out .now) (a .at) (omega arith)), refl)
+    record { buffer = simp towards-suc (put-sets (_ ∷ _ ∷ a .d .typecode ∷ a .d .flags ∷ a .d .dpt ∷ []) (a .out .now) (a .at) (omega arith)); ends = refl }
 
 pub put-description-spec : {M : Type 1} → statement M
 put-description-spec =

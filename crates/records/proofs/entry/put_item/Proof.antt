@@ -75,10 +75,11 @@ returns : tie.Need-returns
 unfolding itemEntry bytesOf
 returns c =
     let a = c .before .before .before .before .before .before .before .before .before .before .args in
-    let h : length (a .i .bytes) ≡ 16 = search needs in (
-      rw (c .before .before .put-bytes .ensures) (simp towards-suc (put-entry (a .out .now) (a .at) _ (a .i .size) (_ ∷ _ ∷ _ ∷ []) (a .i .bytes) (omega arith) (omega arith) (omega arith))),
-      omega (arith, length-take-le (a .i .size) (a .i .bytes) (omega arith)),
-    )
+    let h : length (a .i .bytes) ≡ 16 = search needs in
+    record {
+      buffer = rw (c .before .before .put-bytes .ensures) (simp towards-suc (put-entry (a .out .now) (a .at) _ (a .i .size) (_ ∷ _ ∷ _ ∷ []) (a .i .bytes) (omega arith) (omega arith) (omega arith)));
+      ends = omega (arith, length-take-le (a .i .size) (a .i .bytes) (omega arith));
+    }
 
 pub put-item-spec : {M : Type 1} → statement M
 put-item-spec =

@@ -61,10 +61,10 @@ returns c =
     let a = c .before .before .before .before .before .before .args in
     let t = c .if1 .taken in
     let h : length (a .d .value) ≡ 14 = search needs in
-    rw (one-byte-entry (a .d) t h) (
-      simp towards-suc (put-sets (_ ∷ _ ∷ _ ∷ _ ∷ _ ∷ []) (a .out .now) (a .at) (omega (arith, one-byte (a .d .typecode) t))),
-      refl,
-    )
+    record {
+      buffer = rw (one-byte-entry (a .d) t h) (simp towards-suc (put-sets (_ ∷ _ ∷ _ ∷ _ ∷ _ ∷ []) (a .out .now) (a .at) (omega (arith, one-byte (a .d .typecode) t))));
+      ends = rw (one-byte-entry (a .d) t h) refl;
+    }
 
 size-of-requires : tie.Need-size-of-requires
 size-of-requires c κs = search needs
@@ -120,10 +120,10 @@ returns-2 c =
     let s = c .before .before .before .before .before .size-of in
     let h : length (a .d .value) ≡ 14 = search needs in
     let k = size-fits (a .d .typecode) in
-    rw (← s .ensures) (
-      rw (c .before .before .put-bytes .ensures) (simp towards-suc (put-entry (a .out .now) (a .at) _ (s .result) (_ ∷ _ ∷ _ ∷ _ ∷ []) (a .d .value) (omega arith) (omega arith) (omega arith))),
-      omega (arith, length-take-le (s .result) (a .d .value) (omega arith)),
-    )
+    record {
+      buffer = rw (← s .ensures) (rw (c .before .before .put-bytes .ensures) (simp towards-suc (put-entry (a .out .now) (a .at) _ (s .result) (_ ∷ _ ∷ _ ∷ _ ∷ []) (a .d .value) (omega arith) (omega arith) (omega arith))));
+      ends = rw (← s .ensures) (omega (arith, length-take-le (s .result) (a .d .value) (omega arith)));
+    }
 
 pub put-value-spec : {M : Type 1} → statement M
 put-value-spec =

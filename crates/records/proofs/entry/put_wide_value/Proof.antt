@@ -76,10 +76,10 @@ returns c =
     let a = c .before .before .before .before .before .before .before .before .before .before .args in
     let s = c .before .before .before .before .before .before .before .before .size-of in
     let h : length (a .d .value) ≡ 14 = search needs in
-    rw (← s .ensures) (
-      rw (c .before .before .put-bytes .ensures) (simp towards-suc (put-behind (a .out .now) (a .at) _ (_ ∷ _ ∷ _ ∷ _ ∷ []) (a .d .value) (omega arith) (omega (arith, h)))),
-      omega (arith, value-size (a .d) h, s .ensures),
-    )
+    record {
+      buffer = rw (← s .ensures) (rw (c .before .before .put-bytes .ensures) (simp towards-suc (put-behind (a .out .now) (a .at) _ (_ ∷ _ ∷ _ ∷ _ ∷ []) (a .d .value) (omega arith) (omega (arith, h)))));
+      ends = omega (arith, value-size (a .d) h, s .ensures);
+    }
 
 pub put-wide-value-spec : {M : Type 1} → statement M
 put-wide-value-spec =

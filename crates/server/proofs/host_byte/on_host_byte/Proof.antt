@@ -277,7 +277,7 @@ module _ {M : Type 1} (𝓤 : URA M) (H : Heap 𝓤) (A : Atoms 𝓤) (W : Given
       use0 W (‵ (sizeD .row .own 6 (sizeD .val 6 ∷ []))) (sizeD .made 𝓤 H A W 6 (sizeD .val 6 ∷ []) six-ok) $
       move ! (7 ∷ 4 ∷ 14 ∷ 10 ∷ 1 ∷ 8 ∷ 5 ∷ 13 ∷ 11 ∷ 2 ∷ 0 ∷ []) $
       calls-any ! (fmOf 𝓤 H (W .laws) 𝓣) carry-out.ended (carry-out.clauses 𝓤 H A mem run) known-carry-out (((ν₁ ∷ [], (ν₂ ∷ [], (κ2, (ν₃ ∷ [], (ν₄ ∷ [], tt))))), (fullShare, (fullShare, (q2, (fullShare, (fullShare, tt))))), tt, (record { ptr = datapoints .ptr; name = δ₁; now = ds }, (record { ptr = items .ptr; name = δ₂; now = is }, (parameters, (record { ptr = (lb, 5 + (lo + 0)); name = δ₃; now = ms }, (record { ptr = out .ptr; name = δ₄; now = out₁ }, (6, tt)))))), (sliceVal (datapoints .ptr) (length ds) ∷ [], (sliceVal (items .ptr) (length is) ∷ [], (sliceVal (parameters .ptr) (length ps′) ∷ [], (sliceVal (lb, 5 + (lo + 0)) (e - 5) ∷ [], (sliceVal (out .ptr) m ∷ [], (sizeD .val 6 ∷ [], tt))))))), tt) (factI 𝓤 _ (emp 𝓤) (carry-needs b h (out .now) ds is ps′ (lt .2) (lt .1) (asked some) (lt .0))) sizeD answered (λ ws. (ws .0 ≡ ds′) × (ws .1 .0 ≡ is′) × (ws .1 .1 .1 .1 .0 ≡ out₂))
-      (λ v r ws is. fact-use 𝓤 _ (id⊢ 𝓤 _) (λ z. factI 𝓤 _ _ ((z .0, z .1, z .2), pinned sizeD r answered v is (z .3))))
+      (λ v r ws is. fact-use 𝓤 _ (id⊢ 𝓤 _) (λ z. factI 𝓤 _ _ ((z .datapoints, z .items, z .buffer), pinned sizeD r answered v is (z .ends))))
       (and-then ! (load ! (from ! (stop !)) (look ! 33 refl)) (and-then ! (load ! (from ! (stop !)) (look ! 29 refl)) (and-then ! (load ! (from ! (stop !)) (look ! 59 refl)) (and-then ! (load ! (from ! (stop !)) (look ! 19 refl)) (and-then ! (load ! (from ! (stop !)) (look ! 15 refl)) (and-then ! (lit ! tt) (no-more !))))))) (λ ws z iscarryout.
       move ! (0 ∷ 5 ∷ 13 ∷ []) $
       backsS ! tt datapointD (length ds) ds refl rm₁ (ws .0) ds′ (z .0) (λ longD.

@@ -164,7 +164,7 @@ module _ {M : Type 1} (𝓤 : URA M) (H : Heap 𝓤) (A : Atoms 𝓤) (W : Given
       use0 W (‵ (sizeD .row .own 5 (sizeD .val 5 ∷ []))) (sizeD .made 𝓤 H A W 5 (sizeD .val 5 ∷ []) (refl, lit< tt)) $
       move ! (4 ∷ 1 ∷ 5 ∷ 2 ∷ 0 ∷ []) $
       calls-any ! (fmOf 𝓤 H (W .laws) 𝓣) indicate.ended (indicate.clauses 𝓤 H A mem run) known-indicate (((ν0 ∷ [], (ν1 ∷ [], tt)), (fullShare, (fullShare, tt)), tt, (record { ptr = datapoints .ptr; name = δ0; now = ds }, (record { ptr = out .ptr; name = δ1; now = o }, (5, tt))), (sliceVal (datapoints .ptr) (length ds) ∷ [], (sliceVal (out .ptr) (length o) ∷ [], (sizeD .val 5 ∷ [], tt)))), tt) (factI 𝓤 _ (emp 𝓤) (lt .0, omega (arith, lt .2))) sizeD end (λ ws. (ws .0 ≡ ds′) × (ws .1 .0 ≡ o₁))
-      (λ v r ws is. fact-use 𝓤 _ (id⊢ 𝓤 _) (λ z. factI 𝓤 _ _ ((z .0, z .1), pinned sizeD r end v is (z .2))))
+      (λ v r ws is. fact-use 𝓤 _ (id⊢ 𝓤 _) (λ z. factI 𝓤 _ _ ((z .table, z .buffer), pinned sizeD r end v is (z .ends))))
       (and-then ! (load ! (from ! (stop !)) (look ! 17 refl)) (and-then ! (load ! (from ! (stop !)) (look ! 13 refl)) (and-then ! (lit ! tt) (no-more !)))) (λ ws z isindicate.
       move ! (0 ∷ 2 ∷ 6 ∷ []) $
       backsS ! tt datapointD (length ds) ds refl rm0 (ws .0) ds′ (z .0) (λ long-ds.

@@ -40,10 +40,11 @@ use Rattle.baos.specs.declared.datapoint.Datapoint.{Datapoint}
 use Rattle.baos.specs.Datapoint.{datapointId, datapointOk}
 use Rattle.baos.specs.Table.{datapointsOnly, tableOk}
 use Rattle.baos.specs.Indication.{choices, afterReport, indication}
+use Rattle.baos.specs.Inner.Promise.{Answered}
 use Rattle.baos.proofs.Types.{datapointD, toldD, byteD, idD, placeD}
 use Rattle.baos.specs.declared.inner.Told.{Told}
 use Rattle.baos.specs.Get.{roomForEntries}
-use Rattle.baos.proofs.IndicationLaws.{told-is, carried, bytes, bytes-few, carried-few, table-told, silent-out, silent-end, full-out, full-end}
+use Rattle.baos.proofs.IndicationLaws.{told-is, carried, bytes, bytes-few, carried-few, indicated-nothing, indicated-all}
 use Rattle.services.proofs.indication.tell_marked as tell-marked
 use Rattle.services.proofs.indication.tell_marked.Symbol as tell-marked-def
 use Rattle.services.proofs.indication.tell_marked.Symbol.{name as #services·indication·tell-marked}
@@ -127,9 +128,9 @@ module _ {M : Type 1} (𝓤 : URA M) (H : Heap 𝓤) (A : Atoms 𝓤) (W : Given
   Had us bs = ‵ (placeD .row .own at (placeD .val at ∷ [])) ∷ ‵ (MutS datapointD κ (p .ptr .0) (p .ptr .1) (p .name) n us) ∷ ‵ (flft κ q) ∷ ‵ (MutS byteD κ′ (p′ .ptr .0) (p′ .ptr .1) (p′ .name) m bs) ∷ ‵ (flft κ′ q′) ∷ []
 
   exits : (r : ℕ) (us : List Datapoint) (bs : List ℕ) → r < 2 ^ 64 → length us ≡ n → length bs ≡ m
-      → us ≡ indication (datapointsOnly ys) .after .datapoints → bs ≡ put out at (indication (datapointsOnly ys) .says) → r ≡ at + length (indication (datapointsOnly ys) .says) → ent 𝓤 (⋆ 𝓤 H A (Had us bs)) (Done (vint w64 r))
-  exits r us bs fits us-long bs-long e₀ e₁ e₂ =
-      qed W (Had us bs) ∵ suffices ! _ (ends-in 2 𝓤 H A W ps placeD (f.clauses 𝓤 H A mem run) (κ, (κ′, tt)) (q, (q′, tt)) x tt r (us, (bs, (tt, tt))) (us-long, (bs-long, (tt, tt))) (refl, fits) (factI 𝓤 _ (emp 𝓤) (e₀, e₁, e₂))) $
+      → Answered (indication (datapointsOnly ys) .after .datapoints) out at (indication (datapointsOnly ys) .says) r bs us → ent 𝓤 (⋆ 𝓤 H A (Had us bs)) (Done (vint w64 r))
+  exits r us bs fits us-long bs-long e =
+      qed W (Had us bs) ∵ suffices ! _ (ends-in 2 𝓤 H A W ps placeD (f.clauses 𝓤 H A mem run) (κ, (κ′, tt)) (q, (q′, tt)) x tt r (us, (bs, (tt, tt))) (us-long, (bs-long, (tt, tt))) (refl, fits) (factI 𝓤 _ (emp 𝓤) e)) $
       nothing ! $ nothing ! $ nothing ! $ keep ! (5 ∷ 7 ∷ 0 ∷ 4 ∷ 6 ∷ 1 ∷ 2 ∷ []) $ group ! 3 $ frame ! $ done !
 
   walk : Walk 2 𝓤 H A W ps placeD (f.clauses 𝓤 H A mem run) 𝓣 code.function (κ, (κ′, tt)) (q, (q′, tt)) x tt
@@ -150,7 +151,7 @@ module _ {M : Type 1} (𝓤 : URA M) (H : Heap 𝓤) (A : Atoms 𝓤) (W : Given
       calls-any ! (fmOf 𝓤 H (W .laws) 𝓣) tell-marked.ended (tell-marked.clauses 𝓤 H A mem run) (known .tell-marked)
       (((ν0 ∷ [], (ν1 ∷ [], tt)), (fullShare, (fullShare, tt)), tt, (record { ptr = p .ptr; name = δ0; now = ys }, (record { ptr = p′ .ptr; name = δ1; now = out }, (at + 6, tt))), (sliceVal (p .ptr) n ∷ [], (sliceVal (p′ .ptr) m ∷ [], (placeD .val (at + 6) ∷ [], tt)))), tt)
       (factI 𝓤 _ (emp 𝓤) (ok, omega (arith, enough))) toldD told (λ ws. (ws .0 ≡ zs) × (ws .1 .0 ≡ out₁))
-      (λ v r ws is. fact-use 𝓤 _ (id⊢ 𝓤 _) (λ z. factI 𝓤 _ _ ((z .0, z .1), pinned toldD r told v is (told-is r count end (z .2) (z .3)))))
+      (λ v r ws is. fact-use 𝓤 _ (id⊢ 𝓤 _) (λ z. factI 𝓤 _ _ ((z .table, z .buffer), pinned toldD r told v is (told-is r count end (z .counted) (z .ends)))))
       (and-then ! (val ! (loc 6 - 1) refl) (and-then ! (val ! (loc 8 - 1) refl) (and-then ! (val ! (loc 9 - 1) refl) (no-more !)))) (λ ws z told-ok.
       move ! (4 ∷ []) $ toss ! $
       move ! (0 ∷ 2 ∷ 5 ∷ []) $ backsS ! tt datapointD n ys refl rm0 (ws .0) zs (z .0) (λ zs-long.
@@ -160,7 +161,7 @@ module _ {M : Type 1} (𝓤 : URA M) (H : Heap 𝓤) (A : Atoms 𝓤) (W : Given
       leaves-early ! (val ! (loc 10) refl) (λ none.
       lets ! (loc 0) (of-opd ! (val ! (loc 3) refl)) refl (tt, record { fits = at-ok .1 }) $
       move ! (2 ∷ 3 ∷ []) $ returns-within ! Done refl (look ! (loc 0) refl) $ behind ! 4 $ frees-all ! (room ∷ room ∷ room ∷ cell ∷ cell ∷ cell ∷ cell ∷ cell ∷ cell ∷ cell ∷ cell ∷ cell ∷ cell ∷ cell ∷ []) _ $
-      by ! (exits at zs out₁ (at-ok .1) (sym zs-long) (sym out₁-long) (table-told ys) (silent-out ys (eqb→eq count 0 none) out at) (silent-end ys (eqb→eq count 0 none) out at))) (λ some.
+      by ! (exits at zs out₁ (at-ok .1) (sym zs-long) (sym out₁-long) (indicated-nothing ys (eqb→eq count 0 none) out at))) (λ some.
       assigns ! (addr ! (from ! (fld ! refl (hop ! (look-in ! (loc 2) (sub ! 0 refl (whole !))) (stop !))))) (from ! (stop !)) (init ! (loc 12) refl (tt, tt)) $
       assigns ! (agg ! (and-then ! (val ! (loc 12) refl) (and-then ! (load ! (from ! (fld ! refl (stop !))) (look-in ! (loc 2) (sub ! 1 refl (whole !)))) (no-more !)))) (from ! (stop !)) (init ! (loc 13) refl (tt, (tt, (record { fits = gm .0 }, tt)))) $
       calls-mutS ! (fmOf 𝓤 H (W .laws) 𝓣) byteD (placeD ∷ idD ∷ []) unitD (put-indication-head.clauses 𝓤 H A mem run) (known .put-indication-head) m out₁ out₁-long (λ _. (at, (count, tt))) (λ _ _. tt) (λ _. (at-ok, (count-ok, tt))) (λ _ _. factI 𝓤 _ (emp 𝓤) (eight out₁-long)) out₂ tt (λ _ _ _ _. fact-use 𝓤 _ (id⊢ 𝓤 _) (λ z. factI 𝓤 _ _ (z, refl)))
@@ -168,7 +169,7 @@ module _ {M : Type 1} (𝓤 : URA M) (H : Heap 𝓤) (A : Atoms 𝓤) (W : Given
       land ! (from ! (stop !)) (init ! (loc 11) refl (tt, tt)) $
       lets ! (loc 0) (of-opd ! (load ! (from ! (fld ! refl (stop !))) (look-in ! (loc 4) (sub ! 1 refl (whole !))))) refl (tt, record { fits = end-fits }) $
       move ! (2 ∷ 3 ∷ []) $ returns ! (look ! (loc 0) refl) $ behind ! 4 $ frees-all ! (cell ∷ cell ∷ cell ∷ cell ∷ cell ∷ cell ∷ cell ∷ cell ∷ cell ∷ cell ∷ cell ∷ cell ∷ cell ∷ cell ∷ []) _ $
-      by ! (exits end zs out₂ end-fits (sym zs-long) (sym out₂-long) (table-told ys) (full-out ys (more some) out at enough) (full-end ys (more some) out at enough))))))))))
+      by ! (exits end zs out₂ end-fits (sym zs-long) (sym out₂-long) (indicated-all ys (more some) out at enough))))))))))
     where
       more : Holds (not (eqb count 0)) → 1 ≤ count
       more t = go count t

@@ -24,7 +24,7 @@ use prog.Memory.{Memory}
 use prog.Routine.{Routine}
 use prog.Wp.{Heap, Env, Calls, Tables, afterTurn, afterSeq, afterBlock, Wp, atReturn}
 use ghost.Atoms.{Atoms}
-use contract.Monad.{Fun, factI}
+use contract.Monad.{Fun, factI, fact-use}
 use contract.Running.{givenOf, tables, tablesOf}
 use types.Kit as Kit
 use types.Kit.{Given, Item as Entry, Sq, ‵, ⋆, anyQ, atRet, runs, _$_, _∵_, !, qed, by, move, keep, group, rewrite, suffices, frame, done}
@@ -45,9 +45,10 @@ use Rattle.baos.specs.declared.inner.Told.{Told}
 use Rattle.baos.specs.Datapoint.{datapointId, datapointOk, withMark, handedOut, zeroDatapoint}
 use Rattle.baos.specs.Get.{valueEntry}
 use Rattle.baos.specs.Indication.{needs as needsOf}
+use Rattle.baos.specs.Inner.Promise.{MarkedTold}
 use Rattle.baos.specs.Table.{tableOk}
 use Rattle.baos.proofs.Types.{datapointD, toldD, told-good, byteD, placeD, datapoint-offset-fits, fits-next}
-use Rattle.baos.proofs.IndicationLaws.{Telling, Finished, telling-begins, telling-done, telling-code, telling-waits, telling-other, telling-room, telling-next}
+use Rattle.baos.proofs.IndicationLaws.{Telling, telling-begins, telling-done, telling-code, telling-waits, telling-other, telling-room, telling-next}
 use Rattle.services.proofs.indication.waits as waits
 use Rattle.services.proofs.indication.waits.Symbol as waits-def
 use Rattle.services.proofs.indication.waits.Symbol.{name as #services·indication·waits}
@@ -120,10 +121,10 @@ module _ {M : Type 1} (𝓤 : URA M) (H : Heap 𝓤) (A : Atoms 𝓤) (W : Given
   abbrev Had : List Datapoint → List ℕ → List (Entry 𝓤)
   Had zs bs = Owned ++ ‵ (MutS datapointD κ b o (p .name) n zs) ∷ ‵ (flft κ q) ∷ ‵ (MutS byteD κ′ b′ o′ (p′ .name) m bs) ∷ ‵ (flft κ′ q′) ∷ []
 
-  exits : (end count : ℕ) (zs : List Datapoint) (bs : List ℕ) → count < 2 ^ 16 → end < 2 ^ 64 → length zs ≡ n → length bs ≡ m → Finished ys out at end count zs bs → ent 𝓤 (⋆ 𝓤 H A (Had zs bs)) (Done (toldD .val (record { count = count; end = end })))
+  exits : (end count : ℕ) (zs : List Datapoint) (bs : List ℕ) → count < 2 ^ 16 → end < 2 ^ 64 → length zs ≡ n → length bs ≡ m → MarkedTold ys out at (record { count = count; end = end }) bs zs → ent 𝓤 (⋆ 𝓤 H A (Had zs bs)) (Done (toldD .val (record { count = count; end = end })))
   exits end count zs bs c-fits e-fits zs-long bs-long e =
       qed W (Had zs bs) ∵
-      suffices ! _ (ends-in 2 𝓤 H A W ps toldD (f.clauses 𝓤 H A mem run) (κ, (κ′, tt)) (q, (q′, tt)) x tt (record { count = count; end = end }) (zs, (bs, (tt, tt))) (zs-long, (bs-long, (tt, tt))) (told-good count end c-fits e-fits) (factI 𝓤 _ (emp 𝓤) (e .table, e .bytes, e .counted, e .ends))) $
+      suffices ! _ (ends-in 2 𝓤 H A W ps toldD (f.clauses 𝓤 H A mem run) (κ, (κ′, tt)) (q, (q′, tt)) x tt (record { count = count; end = end }) (zs, (bs, (tt, tt))) (zs-long, (bs-long, (tt, tt))) (told-good count end c-fits e-fits) (factI 𝓤 _ (emp 𝓤) e)) $
       nothing ! $ nothing ! $ nothing ! $ keep ! (5 ∷ 7 ∷ 0 ∷ 4 ∷ 6 ∷ 1 ∷ 2 ∷ []) $ group ! 3 $ frame ! $ done !
 
   module _ (l : Blocks (code.function .locals)) where
@@ -186,7 +187,7 @@ module _ {M : Type 1} (𝓤 : URA M) (H : Heap 𝓤) (A : Atoms 𝓤) (W : Given
         lets ! (loc 18) (agg ! (and-then ! (val ! (loc 17) refl) (and-then ! (load ! (from ! (fld ! refl (stop !))) (look-in ! (loc 2) (sub ! 1 refl (whole !)))) (no-more !)))) refl (tt, (tt, (record { fits = gm .0 }, tt))) $
         move ! (1 ∷ 0 ∷ []) $
         calls-mutR ! (fmOf 𝓤 H (W .laws) 𝓣) byteD (placeD ∷ datapointD ∷ []) placeD (put-value.clauses 𝓤 H A mem run) (known .put-value) m bs (sym (telling .bytes .long)) (subst (Room (byteD .row)) (sym (telling .bytes .long)) gm) (λ _. (end, (d, tt))) (λ _ _. tt) (λ _. ((refl, end-fits), (d-ok, tt)))
-        (λ _ _. factI 𝓤 _ (emp 𝓤) (code-ok small, telling-room ys out at i end count zs bs telling (lt-zs small) marked fits)) (put bs end es) (end + length es) (λ _ _ _ _. id⊢ 𝓤 _)
+        (λ _ _. factI 𝓤 _ (emp 𝓤) (code-ok small, telling-room ys out at i end count zs bs telling (lt-zs small) marked fits)) (put bs end es) (end + length es) (λ _ _ _ _. fact-use 𝓤 _ (id⊢ 𝓤 _) (λ z. factI 𝓤 _ _ (z .buffer, z .ends)))
         (λ _ _ _. and-then ! (val ! (1 + loc 18) refl) (and-then ! (val ! (1 + loc 6) refl) (and-then ! (val ! (1 + loc 8) refl) (no-more !)))) (λ _ end-ok.
         land ! (from ! (stop !)) (store ! (loc 6) refl (tt, record { fits = end-ok .1 })) $
         move ! (1 ∷ 0 ∷ []) $

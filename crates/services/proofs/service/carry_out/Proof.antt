@@ -46,6 +46,7 @@ use Rattle.baos.specs.Inner.Gather.{getDatapoints}
 use Rattle.baos.specs.Service.{unanswered}
 use Rattle.baos.proofs.Types.{datapointD, itemD, byteD, idD, placeD}
 use lib.Dec.{lit<}
+use Rattle.baos.proofs.WrittenLaws.{coded-ends}
 use Rattle.baos.proofs.CarryJoins.{carry-nothing, carry-long, carry-sub, carry-get-items, carry-set-items, carry-descriptions, carry-values, carry-set-values, carry-parameters, carry-unknown}
 use Rattle.services.proofs.service.is_unanswered as is-unanswered
 use Rattle.services.proofs.service.is_unanswered.Symbol as is-unanswered-def
@@ -176,7 +177,7 @@ module _ {M : Type 1} (𝓤 : URA M) (H : Heap 𝓤) (A : Atoms 𝓤) (W : Given
       use0 W (‵ (placeD .row .own at (placeD .val at ∷ []))) (placeD .made 𝓤 H A W at (placeD .val at ∷ []) at-ok) $
       move ! (4 ∷ 8 ∷ 1 ∷ 5 ∷ 7 ∷ 2 ∷ 0 ∷ []) $
       calls-any ! (fmOf 𝓤 H (W .laws) 𝓣) get-items.ended (get-items.clauses 𝓤 H A mem run) known-get-items (((ν₀ ∷ [], (κ3, (ν₁ ∷ [], tt))), (fullShare, (q3, (fullShare, tt))), tt, (record { ptr = items .ptr; name = δ₀; now = is }, (m, (record { ptr = out .ptr; name = δ₁; now = out .now }, (at, tt)))), (sliceVal (items .ptr) (length is) ∷ [], (sliceVal (m .ptr) (length msg) ∷ [], (sliceVal (out .ptr) (length (out .now)) ∷ [], (placeD .val at ∷ [], tt))))), tt) (factI 𝓤 _ (emp 𝓤) (ok .1, (carry-long ds is bs msg (out .now) at silent-not), (carry-sub ds is bs msg (out .now) at silent-not), ok .3)) placeD (at + length (getServerItem (itemsOnly is) msg .says)) (λ ws. ws .1 .1 .0 ≡ (put (out .now) at (getServerItem (itemsOnly is) msg .says)))
-      (λ v r ws fit. fact-use 𝓤 _ (id⊢ 𝓤 _) (λ z. factI 𝓤 _ _ (z .0, pinned placeD r (at + length (getServerItem (itemsOnly is) msg .says)) v fit (z .1))))
+      (λ v r ws fit. fact-use 𝓤 _ (id⊢ 𝓤 _) (λ z. factI 𝓤 _ _ (z .buffer, pinned placeD r (at + length (getServerItem (itemsOnly is) msg .says)) v fit (z .ends))))
       (and-then ! (load ! (from ! (stop !)) (look ! 51 refl)) (and-then ! (load ! (from ! (stop !)) (look ! 67 refl)) (and-then ! (load ! (from ! (stop !)) (look ! 47 refl)) (and-then ! (load ! (from ! (stop !)) (look ! 63 refl)) (no-more !))))) (λ ws z end-ok.
       move ! (3 ∷ []) $
       toss ! $
@@ -202,7 +203,7 @@ module _ {M : Type 1} (𝓤 : URA M) (H : Heap 𝓤) (A : Atoms 𝓤) (W : Given
       use0 W (‵ (placeD .row .own at (placeD .val at ∷ []))) (placeD .made 𝓤 H A W at (placeD .val at ∷ []) at-ok) $
       move ! (4 ∷ 8 ∷ 1 ∷ 5 ∷ 7 ∷ 2 ∷ 0 ∷ []) $
       calls-any ! (fmOf 𝓤 H (W .laws) 𝓣) set-items.ended (set-items.clauses 𝓤 H A mem run) known-set-items (((ν₀ ∷ [], (κ3, (ν₁ ∷ [], tt))), (fullShare, (q3, (fullShare, tt))), tt, (record { ptr = items .ptr; name = δ₀; now = is }, (m, (record { ptr = out .ptr; name = δ₁; now = out .now }, (at, tt)))), (sliceVal (items .ptr) (length is) ∷ [], (sliceVal (m .ptr) (length msg) ∷ [], (sliceVal (out .ptr) (length (out .now)) ∷ [], (placeD .val at ∷ [], tt))))), tt) (factI 𝓤 _ (emp 𝓤) (ok .1, (carry-long ds is bs msg (out .now) at silent-not), (carry-sub ds is bs msg (out .now) at silent-not), ok .3)) placeD (at + length (setServerItem (itemsOnly is) msg .says)) (λ ws. (ws .0 ≡ (setServerItem (itemsOnly is) msg .after .items)) × (ws .1 .1 .0 ≡ (put (out .now) at (setServerItem (itemsOnly is) msg .says))))
-      (λ v r ws fit. fact-use 𝓤 _ (id⊢ 𝓤 _) (λ z. factI 𝓤 _ _ ((z .0, z .1), pinned placeD r (at + length (setServerItem (itemsOnly is) msg .says)) v fit (z .2))))
+      (λ v r ws fit. fact-use 𝓤 _ (id⊢ 𝓤 _) (λ z. factI 𝓤 _ _ ((z .table, z .buffer), pinned placeD r (at + length (setServerItem (itemsOnly is) msg .says)) v fit (z .ends))))
       (and-then ! (load ! (from ! (stop !)) (look ! 43 refl)) (and-then ! (load ! (from ! (stop !)) (look ! 67 refl)) (and-then ! (load ! (from ! (stop !)) (look ! 39 refl)) (and-then ! (load ! (from ! (stop !)) (look ! 63 refl)) (no-more !))))) (λ ws z end-ok.
       move ! (0 ∷ 3 ∷ 8 ∷ []) $
       backsS ! tt itemD (length is) is refl rm₀ (ws .0) (setServerItem (itemsOnly is) msg .after .items) (z .0) (λ long₀.
@@ -227,7 +228,7 @@ module _ {M : Type 1} (𝓤 : URA M) (H : Heap 𝓤) (A : Atoms 𝓤) (W : Given
       use0 W (‵ (placeD .row .own at (placeD .val at ∷ []))) (placeD .made 𝓤 H A W at (placeD .val at ∷ []) at-ok) $
       move ! (5 ∷ 9 ∷ 2 ∷ 6 ∷ 8 ∷ 1 ∷ 3 ∷ 0 ∷ []) $
       calls-any ! (fmOf 𝓤 H (W .laws) 𝓣) get-datapoints.ended (get-datapoints.clauses 𝓤 H A mem run) known-get-datapoints (((ν₀ ∷ [], (κ3, (ν₁ ∷ [], tt))), (fullShare, (q3, (fullShare, tt))), tt, (record { ptr = datapoints .ptr; name = δ₀; now = ds }, (m, (false, (record { ptr = out .ptr; name = δ₁; now = out .now }, (at, tt))))), (sliceVal (datapoints .ptr) (length ds) ∷ [], (sliceVal (m .ptr) (length msg) ∷ [], (boolD .val false ∷ [], (sliceVal (out .ptr) (length (out .now)) ∷ [], (placeD .val at ∷ [], tt)))))), tt) (factI 𝓤 _ (emp 𝓤) (ok .0, (carry-long ds is bs msg (out .now) at silent-not), (carry-sub ds is bs msg (out .now) at silent-not), ok .3)) placeD (at + length (getDatapoints false (datapointsOnly ds) msg .says)) (λ ws. (ws .0 ≡ (getDatapoints false (datapointsOnly ds) msg .after .datapoints)) × (ws .1 .1 .1 .0 ≡ (put (out .now) at (getDatapoints false (datapointsOnly ds) msg .says))))
-      (λ v r ws fit. fact-use 𝓤 _ (id⊢ 𝓤 _) (λ z. factI 𝓤 _ _ ((z .0, z .1), pinned placeD r (at + length (getDatapoints false (datapointsOnly ds) msg .says)) v fit (z .2))))
+      (λ v r ws fit. fact-use 𝓤 _ (id⊢ 𝓤 _) (λ z. factI 𝓤 _ _ ((z .table, z .buffer), pinned placeD r (at + length (getDatapoints false (datapointsOnly ds) msg .says)) v fit (z .ends))))
       (and-then ! (load ! (from ! (stop !)) (look ! 35 refl)) (and-then ! (load ! (from ! (stop !)) (look ! 67 refl)) (and-then ! (false-lit !) (and-then ! (load ! (from ! (stop !)) (look ! 31 refl)) (and-then ! (load ! (from ! (stop !)) (look ! 63 refl)) (no-more !)))))) (λ ws z end-ok.
       move ! (0 ∷ 3 ∷ 9 ∷ []) $
       backsS ! tt datapointD (length ds) ds refl rm₀ (ws .0) (getDatapoints false (datapointsOnly ds) msg .after .datapoints) (z .0) (λ long₀.
@@ -252,7 +253,7 @@ module _ {M : Type 1} (𝓤 : URA M) (H : Heap 𝓤) (A : Atoms 𝓤) (W : Given
       use0 W (‵ (placeD .row .own at (placeD .val at ∷ []))) (placeD .made 𝓤 H A W at (placeD .val at ∷ []) at-ok) $
       move ! (5 ∷ 9 ∷ 2 ∷ 6 ∷ 8 ∷ 1 ∷ 3 ∷ 0 ∷ []) $
       calls-any ! (fmOf 𝓤 H (W .laws) 𝓣) get-datapoints.ended (get-datapoints.clauses 𝓤 H A mem run) known-get-datapoints (((ν₀ ∷ [], (κ3, (ν₁ ∷ [], tt))), (fullShare, (q3, (fullShare, tt))), tt, (record { ptr = datapoints .ptr; name = δ₀; now = ds }, (m, (true, (record { ptr = out .ptr; name = δ₁; now = out .now }, (at, tt))))), (sliceVal (datapoints .ptr) (length ds) ∷ [], (sliceVal (m .ptr) (length msg) ∷ [], (boolD .val true ∷ [], (sliceVal (out .ptr) (length (out .now)) ∷ [], (placeD .val at ∷ [], tt)))))), tt) (factI 𝓤 _ (emp 𝓤) (ok .0, (carry-long ds is bs msg (out .now) at silent-not), (carry-sub ds is bs msg (out .now) at silent-not), ok .3)) placeD (at + length (getDatapoints true (datapointsOnly ds) msg .says)) (λ ws. (ws .0 ≡ (getDatapoints true (datapointsOnly ds) msg .after .datapoints)) × (ws .1 .1 .1 .0 ≡ (put (out .now) at (getDatapoints true (datapointsOnly ds) msg .says))))
-      (λ v r ws fit. fact-use 𝓤 _ (id⊢ 𝓤 _) (λ z. factI 𝓤 _ _ ((z .0, z .1), pinned placeD r (at + length (getDatapoints true (datapointsOnly ds) msg .says)) v fit (z .2))))
+      (λ v r ws fit. fact-use 𝓤 _ (id⊢ 𝓤 _) (λ z. factI 𝓤 _ _ ((z .table, z .buffer), pinned placeD r (at + length (getDatapoints true (datapointsOnly ds) msg .says)) v fit (z .ends))))
       (and-then ! (load ! (from ! (stop !)) (look ! 27 refl)) (and-then ! (load ! (from ! (stop !)) (look ! 67 refl)) (and-then ! (true-lit !) (and-then ! (load ! (from ! (stop !)) (look ! 23 refl)) (and-then ! (load ! (from ! (stop !)) (look ! 63 refl)) (no-more !)))))) (λ ws z end-ok.
       move ! (0 ∷ 3 ∷ 9 ∷ []) $
       backsS ! tt datapointD (length ds) ds refl rm₀ (ws .0) (getDatapoints true (datapointsOnly ds) msg .after .datapoints) (z .0) (λ long₀.
@@ -276,7 +277,7 @@ module _ {M : Type 1} (𝓤 : URA M) (H : Heap 𝓤) (A : Atoms 𝓤) (W : Given
       use0 W (‵ (placeD .row .own at (placeD .val at ∷ []))) (placeD .made 𝓤 H A W at (placeD .val at ∷ []) at-ok) $
       move ! (4 ∷ 8 ∷ 1 ∷ 5 ∷ 7 ∷ 2 ∷ 0 ∷ []) $
       calls-any ! (fmOf 𝓤 H (W .laws) 𝓣) set-datapoints.ended (set-datapoints.clauses 𝓤 H A mem run) known-set-datapoints (((ν₀ ∷ [], (κ3, (ν₁ ∷ [], tt))), (fullShare, (q3, (fullShare, tt))), tt, (record { ptr = datapoints .ptr; name = δ₀; now = ds }, (m, (record { ptr = out .ptr; name = δ₁; now = out .now }, (at, tt)))), (sliceVal (datapoints .ptr) (length ds) ∷ [], (sliceVal (m .ptr) (length msg) ∷ [], (sliceVal (out .ptr) (length (out .now)) ∷ [], (placeD .val at ∷ [], tt))))), tt) (factI 𝓤 _ (emp 𝓤) (ok .0, (carry-long ds is bs msg (out .now) at silent-not), ok .4, (carry-sub ds is bs msg (out .now) at silent-not), ok .3)) placeD (at + length (setDatapointValue (datapointsOnly ds) msg .says)) (λ ws. (ws .0 ≡ (setDatapointValue (datapointsOnly ds) msg .after .datapoints)) × (ws .1 .1 .0 ≡ (put (out .now) at (setDatapointValue (datapointsOnly ds) msg .says))))
-      (λ v r ws fit. fact-use 𝓤 _ (id⊢ 𝓤 _) (λ z. factI 𝓤 _ _ ((z .0, z .1), pinned placeD r (at + length (setDatapointValue (datapointsOnly ds) msg .says)) v fit (z .2))))
+      (λ v r ws fit. fact-use 𝓤 _ (id⊢ 𝓤 _) (λ z. factI 𝓤 _ _ ((z .table, z .buffer), pinned placeD r (at + length (setDatapointValue (datapointsOnly ds) msg .says)) v fit (z .ends))))
       (and-then ! (load ! (from ! (stop !)) (look ! 19 refl)) (and-then ! (load ! (from ! (stop !)) (look ! 67 refl)) (and-then ! (load ! (from ! (stop !)) (look ! 15 refl)) (and-then ! (load ! (from ! (stop !)) (look ! 63 refl)) (no-more !))))) (λ ws z end-ok.
       move ! (0 ∷ 3 ∷ 8 ∷ []) $
       backsS ! tt datapointD (length ds) ds refl rm₀ (ws .0) (setDatapointValue (datapointsOnly ds) msg .after .datapoints) (z .0) (λ long₀.
@@ -296,7 +297,7 @@ module _ {M : Type 1} (𝓤 : URA M) (H : Heap 𝓤) (A : Atoms 𝓤) (W : Given
       use0 W (‵ (placeD .row .own at (placeD .val at ∷ []))) (placeD .made 𝓤 H A W at (placeD .val at ∷ []) at-ok) $
       move ! (11 ∷ 5 ∷ 1 ∷ 10 ∷ 4 ∷ 2 ∷ 0 ∷ []) $
       calls-any ! (fmOf 𝓤 H (W .laws) 𝓣) get-parameters.ended (get-parameters.clauses 𝓤 H A mem run) known-get-parameters (((κ2, (κ3, (ν₁ ∷ [], tt))), (q2, (q3, (fullShare, tt))), tt, (parameters, (m, (record { ptr = out .ptr; name = δ₁; now = out .now }, (at, tt)))), (sliceVal (parameters .ptr) (length bs) ∷ [], (sliceVal (m .ptr) (length msg) ∷ [], (sliceVal (out .ptr) (length (out .now)) ∷ [], (placeD .val at ∷ [], tt))))), tt) (factI 𝓤 _ (emp 𝓤) (ok .2, (carry-long ds is bs msg (out .now) at silent-not), (carry-sub ds is bs msg (out .now) at silent-not), ok .3)) placeD (at + length (getParameterByte (parametersOnly bs) msg .says)) (λ ws. ws .1 .1 .0 ≡ (put (out .now) at (getParameterByte (parametersOnly bs) msg .says)))
-      (λ v r ws fit. fact-use 𝓤 _ (id⊢ 𝓤 _) (λ z. factI 𝓤 _ _ (z .0, pinned placeD r (at + length (getParameterByte (parametersOnly bs) msg .says)) v fit (z .1))))
+      (λ v r ws fit. fact-use 𝓤 _ (id⊢ 𝓤 _) (λ z. factI 𝓤 _ _ (z .buffer, pinned placeD r (at + length (getParameterByte (parametersOnly bs) msg .says)) v fit (z .ends))))
       (and-then ! (load ! (from ! (stop !)) (look ! 68 refl)) (and-then ! (load ! (from ! (stop !)) (look ! 66 refl)) (and-then ! (load ! (from ! (stop !)) (look ! 10 refl)) (and-then ! (load ! (from ! (stop !)) (look ! 62 refl)) (no-more !))))) (λ ws z end-ok.
       move ! (2 ∷ 5 ∷ 7 ∷ []) $
       backsS ! tt byteD (length (out .now)) (out .now) refl rm₁ (ws .1 .1 .0) (put (out .now) at (getParameterByte (parametersOnly bs) msg .says)) z (λ long₁.
@@ -317,7 +318,7 @@ module _ {M : Type 1} (𝓤 : URA M) (H : Heap 𝓤) (A : Atoms 𝓤) (W : Given
       use0 W (‵ (placeD .row .own at (placeD .val at ∷ []))) (placeD .made 𝓤 H A W at (placeD .val at ∷ []) at-ok) $
       move ! (3 ∷ 7 ∷ 4 ∷ 0 ∷ 6 ∷ 1 ∷ 2 ∷ []) $
       calls-any ! (fmOf 𝓤 H (W .laws) 𝓣) put-coded.ended (put-coded.clauses 𝓤 H A mem run) known-put-coded (((ν₁ ∷ [], (κ3, tt)), (fullShare, (q3, tt)), tt, (record { ptr = out .ptr; name = δ₁; now = out .now }, (at, (m, (startOf msg, (5, tt))))), (sliceVal (out .ptr) (length (out .now)) ∷ [], (placeD .val at ∷ [], (sliceVal (m .ptr) (length msg) ∷ [], (idD .val (startOf msg) ∷ [], (byteD .val 5 ∷ [], tt)))))), tt) (factI 𝓤 _ (emp 𝓤) ((carry-long ds is bs msg (out .now) at silent-not), (carry-sub ds is bs msg (out .now) at silent-not), omega (arith, ok .3))) placeD (at + 7) (λ ws. ws .0 ≡ (put (out .now) at (coded msg (startOf msg) 5)))
-      (λ v r ws fit. fact-use 𝓤 _ (id⊢ 𝓤 _) (λ z. factI 𝓤 _ _ (z .0, pinned placeD r (at + 7) v fit (z .1))))
+      (λ v r ws fit. fact-use 𝓤 _ (id⊢ 𝓤 _) (λ z. factI 𝓤 _ _ (z .buffer, pinned placeD r (at + 7) v fit (coded-ends msg _ _ z))))
       (and-then ! (load ! (from ! (stop !)) (look ! 8 refl)) (and-then ! (load ! (from ! (stop !)) (look ! 64 refl)) (and-then ! (load ! (from ! (stop !)) (look ! 68 refl)) (and-then ! (load ! (from ! (stop !)) (look ! 60 refl)) (and-then ! (lit ! tt) (no-more !)))))) (λ ws z end-ok.
       move ! (0 ∷ 2 ∷ 7 ∷ []) $
       backsS ! tt byteD (length (out .now)) (out .now) refl rm₁ (ws .0) (put (out .now) at (coded msg (startOf msg) 5)) z (λ long₁.

@@ -44,10 +44,11 @@ use Rattle.baos.specs.declared.inner.Found.{Found}
 use Rattle.baos.specs.Datapoint.{datapointId, zeroDatapoint}
 use Rattle.baos.specs.Table.{place, rising}
 use Rattle.baos.specs.Set.{SetEntry, firstDatapointEntry}
+use Rattle.baos.specs.Inner.Promise.{EntriesFound}
 use Rattle.baos.proofs.Types.{datapointD, byteD, idD, placeD, foundD, found-good, found-offset-fits}
 use Rattle.baos.proofs.EntriesLaws.{datapoint-entry-id}
 use Rattle.baos.proofs.PlaceLaws.{place-inside}
-use Rattle.baos.proofs.FoundLaws.{zeroFound, foundAt, spanAt, Seeking, Sought, seeking-begins, seeking-long, seeking-ends, seeking-short-head, seeking-short-value, seeking-next}
+use Rattle.baos.proofs.FoundLaws.{zeroFound, foundAt, spanAt, Seeking, seeking-begins, seeking-long, seeking-ends, seeking-short-head, seeking-short-value, seeking-next}
 use Rattle.sets.proofs.set.entry_id as entry-id
 use Rattle.sets.proofs.set.entry_id.Symbol as entry-id-def
 use Rattle.sets.proofs.set.entry_id.Symbol.{name as #sets·set·entry-id}
@@ -108,10 +109,10 @@ module _ {M : Type 1} (𝓤 : URA M) (H : Heap 𝓤) (A : Atoms 𝓤) (W : Given
   abbrev Had : List Found → List (Entry 𝓤)
   Had zs = Owned ++ (‵ (MutS foundD κ2 b o (entries .name) (length es) zs) ∷ ‵ (flft κ2 q2) ∷ Lent)
 
-  exits : (r : Bool) (zs : List Found) → length zs ≡ length es → Sought ys msg n es r zs → ent 𝓤 (⋆ 𝓤 H A (Had zs)) (Done (vbool r))
+  exits : (r : Bool) (zs : List Found) → length zs ≡ length es → EntriesFound ys msg n es r zs → ent 𝓤 (⋆ 𝓤 H A (Had zs)) (Done (vbool r))
   exits r zs long e =
       qed W (Had zs) ∵
-      suffices ! _ (ends-in 3 𝓤 H A W ps boolD (f.clauses 𝓤 H A mem run) (κ0, (κ1, (κ2, tt))) (q0, (q1, (q2, tt))) x tt r (tt, (tt, (tt, (zs, tt)))) (tt, (tt, (tt, (long, tt)))) refl (factI 𝓤 _ (emp 𝓤) (e .0, e .1))) $
+      suffices ! _ (ends-in 3 𝓤 H A W ps boolD (f.clauses 𝓤 H A mem run) (κ0, (κ1, (κ2, tt))) (q0, (q1, (q2, tt))) x tt r (tt, (tt, (tt, (zs, tt)))) (tt, (tt, (tt, (long, tt)))) refl (factI 𝓤 _ (emp 𝓤) e)) $
       nothing ! $ nothing ! $ nothing ! $ nothing ! $ nothing ! $ keep ! (9 ∷ 11 ∷ 7 ∷ 0 ∷ 1 ∷ 2 ∷ 3 ∷ 6 ∷ 4 ∷ []) $ group ! 4 $ frame ! $ done !
 
   module _ (l : Blocks (code.function .locals)) where

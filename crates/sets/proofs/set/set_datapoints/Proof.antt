@@ -48,6 +48,7 @@ use Rattle.baos.specs.Inner.Found.{foundEntries}
 use Rattle.baos.proofs.Types.{datapointD, foundD, verdictD, byteD, idD, placeD}
 use Rattle.walks.proofs.Repeated.{repeated-typed, repeated, array-room}
 use Rattle.baos.proofs.LeftLaws.{ok-table}
+use Rattle.baos.proofs.WrittenLaws.{coded-ends}
 use Rattle.baos.proofs.FieldsFit.{id-fits, code-fits}
 use Rattle.baos.proofs.FoundLaws.{filled-take}
 use Rattle.baos.proofs.SetJoins.{datapoints-unfilled, datapoints-filled, datapoints-none, datapoints-bad, datapoints-fit, datapoints-set}
@@ -203,7 +204,7 @@ module _ {M : Type 1} (𝓤 : URA M) (H : Heap 𝓤) (A : Atoms 𝓤) (W : Given
       use0 W (‵ (idD .row .own n (idD .val n ∷ []))) (idD .made 𝓤 H A W n (idD .val n ∷ []) n-ok) $
       move ! (6 ∷ 9 ∷ 1 ∷ 7 ∷ 4 ∷ 0 ∷ 2 ∷ []) $
       calls-any ! (fmOf 𝓤 H (W .laws) 𝓣) find-entries.ended (find-entries.clauses 𝓤 H A mem run) known-find-entries (((ν0 ∷ [], (κ1, (ν2 ∷ [], tt))), (fullShare, (q1, (fullShare, tt))), tt, (record { ptr = table .ptr; name = δ0; now = ys }, (m, (n, (record { ptr = ((l .1 .1 .1 .1 .1 .1 .1 .0), 0); name = δ2; now = blank }, tt)))), (sliceVal (table .ptr) (length ys) ∷ [], (sliceVal (m .ptr) (length msg) ∷ [], (idD .val n ∷ [], (sliceVal ((l .1 .1 .1 .1 .1 .1 .1 .0), 0) 62 ∷ [], tt))))), tt) (factI 𝓤 _ (emp 𝓤) (sought .0, sought .1, ok .1, ok .2, blank-long)) boolD filled (λ ws. ws .1 .1 .1 .0 ≡ entries)
-      (λ v r ws is. fact-use 𝓤 _ (id⊢ 𝓤 _) (λ z. factI 𝓤 _ _ (z .1, pinned boolD r filled v is (z .0))))
+      (λ v r ws is. fact-use 𝓤 _ (id⊢ 𝓤 _) (λ z. factI 𝓤 _ _ (z .entries, pinned boolD r filled v is (z .answer))))
       (and-then ! (load ! (from ! (stop !)) (look ! 46 refl)) (and-then ! (load ! (from ! (stop !)) (look ! 65 refl)) (and-then ! (load ! (from ! (stop !)) (look ! 57 refl)) (and-then ! (load ! (from ! (stop !)) (look ! 42 refl)) (no-more !))))) (λ ws z isfind-entries.
       move ! (3 ∷ []) $
       toss ! $
@@ -227,7 +228,7 @@ module _ {M : Type 1} (𝓤 : URA M) (H : Heap 𝓤) (A : Atoms 𝓤) (W : Given
       use0 W (‵ (placeD .row .own at (placeD .val at ∷ []))) (placeD .made 𝓤 H A W at (placeD .val at ∷ []) at-ok) $
       move ! (3 ∷ 9 ∷ 4 ∷ 0 ∷ 10 ∷ 1 ∷ 2 ∷ []) $
       calls-any ! (fmOf 𝓤 H (W .laws) 𝓣) put-coded.ended (put-coded.clauses 𝓤 H A mem run) known-put-coded (((ν ∷ [], (κ1, tt)), (fullShare, (q1, tt)), tt, (record { ptr = out .ptr; name = δ; now = out .now }, (at, (m, (start, (10, tt))))), (sliceVal (out .ptr) (length (out .now)) ∷ [], (placeD .val at ∷ [], (sliceVal (m .ptr) (length msg) ∷ [], (idD .val start ∷ [], (byteD .val 10 ∷ [], tt)))))), tt) (factI 𝓤 _ (emp 𝓤) (ok .1, ok .3, omega (arith, ok .4))) placeD (at + 7) (λ ws. ws .0 ≡ put (out .now) at (coded msg start 10))
-      (λ v r ws is. fact-use 𝓤 _ (id⊢ 𝓤 _) (λ z. factI 𝓤 _ _ (z .0, pinned placeD r (at + 7) v is (z .1))))
+      (λ v r ws is. fact-use 𝓤 _ (id⊢ 𝓤 _) (λ z. factI 𝓤 _ _ (z .buffer, pinned placeD r (at + 7) v is (coded-ends msg _ _ z))))
       (and-then ! (load ! (from ! (stop !)) (look ! 35 refl)) (and-then ! (load ! (from ! (stop !)) (look ! 60 refl)) (and-then ! (load ! (from ! (stop !)) (look ! 64 refl)) (and-then ! (load ! (from ! (stop !)) (look ! 58 refl)) (and-then ! (lit ! tt) (no-more !)))))) (λ ws z isput-coded.
       move ! (0 ∷ 2 ∷ 7 ∷ []) $
       backsS ! tt byteD (length (out .now)) (out .now) refl rm (ws .0) (put (out .now) at (coded msg start 10)) z (λ long-out.
@@ -258,7 +259,7 @@ module _ {M : Type 1} (𝓤 : URA M) (H : Heap 𝓤) (A : Atoms 𝓤) (W : Given
       use0 W (‵ (placeD .row .own at (placeD .val at ∷ []))) (placeD .made 𝓤 H A W at (placeD .val at ∷ []) at-ok) $
       move ! (3 ∷ 9 ∷ 4 ∷ 0 ∷ 10 ∷ 1 ∷ 2 ∷ []) $
       calls-any ! (fmOf 𝓤 H (W .laws) 𝓣) put-coded.ended (put-coded.clauses 𝓤 H A mem run) known-put-coded (((ν ∷ [], (κ1, tt)), (fullShare, (q1, tt)), tt, (record { ptr = out .ptr; name = δ; now = out .now }, (at, (m, (start, (6, tt))))), (sliceVal (out .ptr) (length (out .now)) ∷ [], (placeD .val at ∷ [], (sliceVal (m .ptr) (length msg) ∷ [], (idD .val start ∷ [], (byteD .val 6 ∷ [], tt)))))), tt) (factI 𝓤 _ (emp 𝓤) (ok .1, ok .3, omega (arith, ok .4))) placeD (at + 7) (λ ws. ws .0 ≡ put (out .now) at (coded msg start 6))
-      (λ v r ws is. fact-use 𝓤 _ (id⊢ 𝓤 _) (λ z. factI 𝓤 _ _ (z .0, pinned placeD r (at + 7) v is (z .1))))
+      (λ v r ws is. fact-use 𝓤 _ (id⊢ 𝓤 _) (λ z. factI 𝓤 _ _ (z .buffer, pinned placeD r (at + 7) v is (coded-ends msg _ _ z))))
       (and-then ! (load ! (from ! (stop !)) (look ! 31 refl)) (and-then ! (load ! (from ! (stop !)) (look ! 60 refl)) (and-then ! (load ! (from ! (stop !)) (look ! 64 refl)) (and-then ! (load ! (from ! (stop !)) (look ! 58 refl)) (and-then ! (lit ! tt) (no-more !)))))) (λ ws z isput-coded.
       move ! (0 ∷ 2 ∷ 7 ∷ []) $
       backsS ! tt byteD (length (out .now)) (out .now) refl rm (ws .0) (put (out .now) at (coded msg start 6)) z (λ long-out.
@@ -318,7 +319,7 @@ module _ {M : Type 1} (𝓤 : URA M) (H : Heap 𝓤) (A : Atoms 𝓤) (W : Given
       use0 W (‵ (placeD .row .own at (placeD .val at ∷ []))) (placeD .made 𝓤 H A W at (placeD .val at ∷ []) at-ok) $
       move ! (3 ∷ 9 ∷ 4 ∷ 0 ∷ 10 ∷ 1 ∷ 2 ∷ []) $
       calls-any ! (fmOf 𝓤 H (W .laws) 𝓣) put-coded.ended (put-coded.clauses 𝓤 H A mem run) known-put-coded (((ν ∷ [], (κ1, tt)), (fullShare, (q1, tt)), tt, (record { ptr = out .ptr; name = δ; now = out .now }, (at, (m, ((u .id), ((u .code), tt))))), (sliceVal (out .ptr) (length (out .now)) ∷ [], (placeD .val at ∷ [], (sliceVal (m .ptr) (length msg) ∷ [], (idD .val (u .id) ∷ [], (byteD .val (u .code) ∷ [], tt)))))), tt) (factI 𝓤 _ (emp 𝓤) (ok .1, ok .3, omega (arith, ok .4))) placeD (at + 7) (λ ws. ws .0 ≡ put (out .now) at (coded msg (u .id) (u .code)))
-      (λ v r ws is. fact-use 𝓤 _ (id⊢ 𝓤 _) (λ z. factI 𝓤 _ _ (z .0, pinned placeD r (at + 7) v is (z .1))))
+      (λ v r ws is. fact-use 𝓤 _ (id⊢ 𝓤 _) (λ z. factI 𝓤 _ _ (z .buffer, pinned placeD r (at + 7) v is (coded-ends msg _ _ z))))
       (and-then ! (load ! (from ! (stop !)) (look ! 19 refl)) (and-then ! (load ! (from ! (stop !)) (look ! 60 refl)) (and-then ! (load ! (from ! (stop !)) (look ! 64 refl)) (and-then ! (load ! (from ! (fld ! refl (stop !))) (look-in ! 51 (sub ! 0 refl (whole !)))) (and-then ! (load ! (from ! (fld ! refl (stop !))) (look-in ! 51 (sub ! 1 refl (whole !)))) (no-more !)))))) (λ ws z isput-coded.
       move ! (0 ∷ 2 ∷ 7 ∷ []) $
       backsS ! tt byteD (length (out .now)) (out .now) refl rm (ws .0) (put (out .now) at (coded msg (u .id) (u .code))) z (λ long-out.
@@ -374,7 +375,7 @@ module _ {M : Type 1} (𝓤 : URA M) (H : Heap 𝓤) (A : Atoms 𝓤) (W : Given
       use0 W (‵ (placeD .row .own at (placeD .val at ∷ []))) (placeD .made 𝓤 H A W at (placeD .val at ∷ []) at-ok) $
       move ! (3 ∷ 9 ∷ 4 ∷ 0 ∷ 10 ∷ 1 ∷ 2 ∷ []) $
       calls-any ! (fmOf 𝓤 H (W .laws) 𝓣) put-coded.ended (put-coded.clauses 𝓤 H A mem run) known-put-coded (((ν ∷ [], (κ1, tt)), (fullShare, (q1, tt)), tt, (record { ptr = out .ptr; name = δ; now = out .now }, (at, (m, (start, (0, tt))))), (sliceVal (out .ptr) (length (out .now)) ∷ [], (placeD .val at ∷ [], (sliceVal (m .ptr) (length msg) ∷ [], (idD .val start ∷ [], (byteD .val 0 ∷ [], tt)))))), tt) (factI 𝓤 _ (emp 𝓤) (ok .1, ok .3, omega (arith, ok .4))) placeD (at + 7) (λ ws. ws .0 ≡ put (out .now) at (coded msg start 0))
-      (λ v r ws is. fact-use 𝓤 _ (id⊢ 𝓤 _) (λ z. factI 𝓤 _ _ (z .0, pinned placeD r (at + 7) v is (z .1))))
+      (λ v r ws is. fact-use 𝓤 _ (id⊢ 𝓤 _) (λ z. factI 𝓤 _ _ (z .buffer, pinned placeD r (at + 7) v is (coded-ends msg _ _ z))))
       (and-then ! (load ! (from ! (stop !)) (look ! 5 refl)) (and-then ! (load ! (from ! (stop !)) (look ! 60 refl)) (and-then ! (load ! (from ! (stop !)) (look ! 64 refl)) (and-then ! (load ! (from ! (stop !)) (look ! 58 refl)) (and-then ! (lit ! tt) (no-more !)))))) (λ ws z isput-coded.
       move ! (0 ∷ 2 ∷ 7 ∷ []) $
       backsS ! tt byteD (length (out .now)) (out .now) refl rm (ws .0) (put (out .now) at (coded msg start 0)) z (λ long-out.

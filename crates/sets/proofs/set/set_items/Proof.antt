@@ -44,6 +44,7 @@ use Rattle.baos.specs.Set.{SetEntry, setEntries, firstBad, applied, firstItemEn
 use Rattle.baos.proofs.Types.{itemD, verdictD, byteD, idD, placeD}
 use Rattle.baos.proofs.Pairs.{calls-shrS-shrS, calls-mutS-shrS}
 use Rattle.baos.proofs.LeftLaws.{ok-table}
+use Rattle.baos.proofs.WrittenLaws.{coded-ends}
 use Rattle.baos.proofs.FieldsFit.{id-fits, code-fits}
 use Rattle.baos.proofs.SetJoins.{items-refused, items-filled, items-bad, items-fit, items-set}
 use Rattle.sets.proofs.set.set_verdict as set-verdict
@@ -153,7 +154,7 @@ module _ {M : Type 1} (𝓤 : URA M) (H : Heap 𝓤) (A : Atoms 𝓤) (W : Given
       use0 W (‵ (placeD .row .own at (placeD .val at ∷ []))) (placeD .made 𝓤 H A W at (placeD .val at ∷ []) at-ok) $
       move ! (3 ∷ 7 ∷ 4 ∷ 0 ∷ 6 ∷ 1 ∷ 2 ∷ []) $
       calls-any ! (fmOf 𝓤 H (W .laws) 𝓣) put-coded.ended (put-coded.clauses 𝓤 H A mem run) known-put-coded (((ν ∷ [], (κ1, tt)), (fullShare, (q1, tt)), tt, (record { ptr = out .ptr; name = δ; now = out .now }, (at, (m, ((v .id), ((v .code), tt))))), (sliceVal (out .ptr) (length (out .now)) ∷ [], (placeD .val at ∷ [], (sliceVal (m .ptr) (length msg) ∷ [], (idD .val (v .id) ∷ [], (byteD .val (v .code) ∷ [], tt)))))), tt) (factI 𝓤 _ (emp 𝓤) (ok .1, ok .2, omega (arith, ok .3))) placeD (at + 7) (λ ws. ws .0 ≡ put (out .now) at (coded msg (v .id) (v .code)))
-      (λ v r ws is. fact-use 𝓤 _ (id⊢ 𝓤 _) (λ z. factI 𝓤 _ _ (z .0, pinned placeD r (at + 7) v is (z .1))))
+      (λ v r ws is. fact-use 𝓤 _ (id⊢ 𝓤 _) (λ z. factI 𝓤 _ _ (z .buffer, pinned placeD r (at + 7) v is (coded-ends msg _ _ z))))
       (and-then ! (load ! (from ! (stop !)) (look ! 22 refl)) (and-then ! (load ! (from ! (stop !)) (look ! 36 refl)) (and-then ! (load ! (from ! (stop !)) (look ! 40 refl)) (and-then ! (load ! (from ! (fld ! refl (stop !))) (look-in ! 34 (sub ! 0 refl (whole !)))) (and-then ! (load ! (from ! (fld ! refl (stop !))) (look-in ! 34 (sub ! 1 refl (whole !)))) (no-more !)))))) (λ ws z end-ok.
       move ! (0 ∷ 2 ∷ 7 ∷ []) $
       backsS ! tt byteD (length (out .now)) (out .now) refl rm (ws .0) (put (out .now) at (coded msg (v .id) (v .code))) z (λ long.
@@ -187,7 +188,7 @@ module _ {M : Type 1} (𝓤 : URA M) (H : Heap 𝓤) (A : Atoms 𝓤) (W : Given
       use0 W (‵ (placeD .row .own at (placeD .val at ∷ []))) (placeD .made 𝓤 H A W at (placeD .val at ∷ []) at-ok) $
       move ! (3 ∷ 9 ∷ 4 ∷ 0 ∷ 8 ∷ 1 ∷ 2 ∷ []) $
       calls-any ! (fmOf 𝓤 H (W .laws) 𝓣) put-coded.ended (put-coded.clauses 𝓤 H A mem run) known-put-coded (((ν ∷ [], (κ1, tt)), (fullShare, (q1, tt)), tt, (record { ptr = out .ptr; name = δ; now = out .now }, (at, (m, ((u .id), ((u .code), tt))))), (sliceVal (out .ptr) (length (out .now)) ∷ [], (placeD .val at ∷ [], (sliceVal (m .ptr) (length msg) ∷ [], (idD .val (u .id) ∷ [], (byteD .val (u .code) ∷ [], tt)))))), tt) (factI 𝓤 _ (emp 𝓤) (ok .1, ok .2, omega (arith, ok .3))) placeD (at + 7) (λ ws. ws .0 ≡ put (out .now) at (coded msg (u .id) (u .code)))
-      (λ v r ws is. fact-use 𝓤 _ (id⊢ 𝓤 _) (λ z. factI 𝓤 _ _ (z .0, pinned placeD r (at + 7) v is (z .1))))
+      (λ v r ws is. fact-use 𝓤 _ (id⊢ 𝓤 _) (λ z. factI 𝓤 _ _ (z .buffer, pinned placeD r (at + 7) v is (coded-ends msg _ _ z))))
       (and-then ! (load ! (from ! (stop !)) (look ! 14 refl)) (and-then ! (load ! (from ! (stop !)) (look ! 36 refl)) (and-then ! (load ! (from ! (stop !)) (look ! 40 refl)) (and-then ! (load ! (from ! (fld ! refl (stop !))) (look-in ! 30 (sub ! 0 refl (whole !)))) (and-then ! (load ! (from ! (fld ! refl (stop !))) (look-in ! 30 (sub ! 1 refl (whole !)))) (no-more !)))))) (λ ws z end-ok.
       move ! (0 ∷ 2 ∷ 7 ∷ []) $
       backsS ! tt byteD (length (out .now)) (out .now) refl rm (ws .0) (put (out .now) at (coded msg (u .id) (u .code))) z (λ long.
@@ -214,7 +215,7 @@ module _ {M : Type 1} (𝓤 : URA M) (H : Heap 𝓤) (A : Atoms 𝓤) (W : Given
       use0 W (‵ (placeD .row .own at (placeD .val at ∷ []))) (placeD .made 𝓤 H A W at (placeD .val at ∷ []) at-ok) $
       move ! (3 ∷ 7 ∷ 4 ∷ 0 ∷ 6 ∷ 1 ∷ 2 ∷ []) $
       calls-any ! (fmOf 𝓤 H (W .laws) 𝓣) put-coded.ended (put-coded.clauses 𝓤 H A mem run) known-put-coded (((ν ∷ [], (κ1, tt)), (fullShare, (q1, tt)), tt, (record { ptr = out .ptr; name = δ; now = out .now }, (at, (m, ((startOf msg), (0, tt))))), (sliceVal (out .ptr) (length (out .now)) ∷ [], (placeD .val at ∷ [], (sliceVal (m .ptr) (length msg) ∷ [], (idD .val (startOf msg) ∷ [], (byteD .val 0 ∷ [], tt)))))), tt) (factI 𝓤 _ (emp 𝓤) (ok .1, ok .2, omega (arith, ok .3))) placeD (at + 7) (λ ws. ws .0 ≡ put (out .now) at (coded msg (startOf msg) 0))
-      (λ v r ws is. fact-use 𝓤 _ (id⊢ 𝓤 _) (λ z. factI 𝓤 _ _ (z .0, pinned placeD r (at + 7) v is (z .1))))
+      (λ v r ws is. fact-use 𝓤 _ (id⊢ 𝓤 _) (λ z. factI 𝓤 _ _ (z .buffer, pinned placeD r (at + 7) v is (coded-ends msg _ _ z))))
       (and-then ! (load ! (from ! (stop !)) (look ! 4 refl)) (and-then ! (load ! (from ! (stop !)) (look ! 36 refl)) (and-then ! (load ! (from ! (stop !)) (look ! 40 refl)) (and-then ! (load ! (from ! (stop !)) (look ! 28 refl)) (and-then ! (lit ! tt) (no-more !)))))) (λ ws z end-ok.
       move ! (0 ∷ 2 ∷ 7 ∷ []) $
       backsS ! tt byteD (length (out .now)) (out .now) refl rm (ws .0) (put (out .now) at (coded msg (startOf msg) 0)) z (λ long.
