@@ -1,9 +1,4 @@
-pub mod BenchLaws
-pub mod RunLaws
-pub mod WrittenLaws
-pub mod RecordLaws
-pub mod BurstLaws
-pub mod SameLaws
-pub mod MeaningLaws
 pub mod TrialLaws
-pub mod Types
+pub mod LineLaws
+pub mod LentLaws
+pub mod ScriptLaws

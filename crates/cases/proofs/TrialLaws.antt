@@ -1,21 +1,21 @@
 -- A trial goes on: what is shown of each part of it is shown of the whole.
-use Prim.Native.Nat.{ℕ, suc, _+_, _-_, _≤_}
+use Prim.Native.Nat.{ℕ, suc, _+_, _-_, _≤_, _<_}
 use mathlib.Core.Path.{_≡_, refl, sym, _∙_, ap, subst}
 use mathlib.Core.Bool.{Bool, true, false}
 use mathlib.Core.List.{List, [], _∷_, _++_}
 use native.Mathlib.Omega.{arith}
+use native.Mathlib.Numerals.{add-one}
 use lib.ListN.{length, take, getD}
 use lib.Seq.{take-suc, take-all}
-use Rattle.ft12.specs.Frame.{dataFrame}
 use Rattle.calls.specs.declared.event.Event.the-variants.{HostByte}
 use Rattle.calls.specs.Reply.{sentCount}
-use Rattle.cases.specs.declared.bench.Bench.{Bench}
+use Rattle.bench.specs.declared.bench.Bench.{Bench}
 use Rattle.cases.specs.declared.trial.Trial.{Trial}
-use Rattle.cases.specs.declared.run.Fed.{Fed}
-use Rattle.cases.specs.Run.{happened, sent, heard, allQuiet, fed}
-use Rattle.cases.specs.Same.{Decides, LinkIs}
-use Rattle.cases.specs.Trial.{Shows, Goes, Sends, Draws, Answered, Damaged}
-use Rattle.cases.proofs.SameLaws.{false-true, refuted, left-to}
+use Rattle.bench.specs.declared.run.Fed.{Fed}
+use Rattle.bench.specs.Run.{happened, sent, heard, allQuiet, fed}
+use Rattle.bench.specs.Same.{Decides}
+use Rattle.cases.specs.Trial.{Shows, Goes, Sends, Draws, Damaged}
+use Rattle.bench.proofs.SameLaws.{false-true, refuted, failed, left-to}
 
 -- what is right in the end is what a test decides
 pub goes : (t r : Trial) (b b′ : Bench) {q : Bool} {P : Type 0} → b ≡ b′ → Decides q P → Goes t b (q ≡ true) r → Goes t b′ P r
@@ -110,21 +110,13 @@ module _ (xs : List ℕ) (place : ℕ) (b : Bench) (f g h : Fed) (ef : f ≡ fed
         right = ((λ q. record { quiet = sym silence ∙ q; before = sym before-it ∙ d; found = sym behind-it ∙ k }), (λ y. silence ∙ y .quiet));
       }
 
--- ---- a request and its answer
-pub asked : (t u r : Trial) (m w a s o : List ℕ) → a ≡ dataFrame 0x73 m → s ≡ 0xE5 ∷ dataFrame 0xF3 w → o ≡ dataFrame 0xF3 w
-    → Goes t (heard a (t .bench)) (Draws a s (t .bench)) u → Goes u (u .bench) (LinkIs (u .bench .link) false true false o) r
-    → Goes t (heard (dataFrame 0x73 m) (t .bench)) (Answered m w (t .bench)) r
-asked t u r m w a s o ea es eo g h =
-    let b = t .bench in
-    let f = dataFrame 0x73 m in
-    let g′ : Goes t (heard f b) (Draws f (0xE5 ∷ dataFrame 0xF3 w) b) u = rw (ea, es) at g in
-    let k : u .bench .link ≡ heard f b .link = ap (λ (z : Bench). z .link) (g′ .bench) in
+-- a place beyond the bytes
+pub found-nowhere : (xs : List ℕ) (place : ℕ) (b : Bench) (h : Fed) → h ≡ fed xs b → length xs ≤ place → Shows (heard xs b) (Damaged xs place b) (record { bench = h .bench; right = false })
+unfolding fed
+found-nowhere xs place b h e l =
+    let p : take place xs ≡ xs = take-all place xs l in
+    let q : take (place + 1) xs ≡ xs = take-all (place + 1) xs (omega arith) in
     record {
-      bench = h .bench ∙ g′ .bench;
-      right =
-          left-to (h .right)
-          (λ x.
-          let y = g′ .right .0 (x .0) in
-          (y .0, record { draws = y .1; link = rw (k, eo) at (x .1) }))
-          (λ x. (g′ .right .1 (x .0, x .1 .draws), rw (k, eo) (x .1 .link)));
+      bench = ap (λ (z : Fed). z .bench) e;
+      right = refuted (λ y. false-true (sym (rw p at (y .before)) ∙ rw q at (y .found)));
     }

@@ -1,7 +1,5 @@
-pub mod Bench
-pub mod Step
-pub mod Run
-pub mod Records
-pub mod Same
-pub mod Meaning
 pub mod Trial
+pub mod Line
+pub mod Lent
+pub mod Script
+pub mod Tally

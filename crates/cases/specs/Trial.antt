@@ -2,14 +2,13 @@
 use Prim.Native.Nat.{ℕ, _+_, _-_, _≤_}
 use mathlib.Core.Path.{_≡_}
 use mathlib.Core.Bool.{Bool, true, false}
-use mathlib.Core.List.{List, _∷_}
+use mathlib.Core.List.{List}
 use lib.ListN.{length, take}
-use Rattle.ft12.specs.Frame.{dataFrame}
 use Rattle.calls.specs.Reply.{sentCount}
-use Rattle.cases.specs.declared.bench.Bench.{Bench}
+use Rattle.bench.specs.declared.bench.Bench.{Bench}
 use Rattle.cases.specs.declared.trial.Trial.{Trial}
-use Rattle.cases.specs.Run.{sent, heard, allQuiet}
-use Rattle.cases.specs.Same.{Decides, LinkIs}
+use Rattle.bench.specs.Run.{sent, heard, allQuiet}
+use Rattle.bench.specs.Same.{Decides}
 
 -- the bench is b, and right where P holds
 pub record Shows (b : Bench) (P : Type 0) (r : Trial) : Type 0 where
@@ -31,11 +30,6 @@ pub record Draws (xs wanted : List ℕ) (b : Bench) : Type 0 where
   pub some : 1 ≤ length xs
   pub before : allQuiet (take (length xs - 1) xs) b ≡ true
   pub last : Sends (heard xs b) wanted
-
--- the message, framed under an odd bit, draws E5 and the answer that is wanted, framed under an odd bit; the answer is outstanding then, and even is expected
-pub record Answered (m wanted : List ℕ) (b : Bench) : Type 0 where
-  pub draws : Draws (dataFrame 0x73 m) (0xE5 ∷ dataFrame 0xF3 wanted) b
-  pub link : LinkIs (heard (dataFrame 0x73 m) b .link) false true false (dataFrame 0xF3 wanted)
 
 -- these bytes are damaged: the receiver finds it at this place and drops all from there on, and nothing is sent
 pub record Damaged (xs : List ℕ) (place : ℕ) (b : Bench) : Type 0 where

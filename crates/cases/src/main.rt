@@ -1,19 +1,17 @@
 // The examples of document 01, section "Examples", and the worked exchange of document 000, section 4.1, run through the server's call, byte by byte.
 // Each is written out as a line trace; what the server sends and what its tables and its link then hold is compared with what the papers say.
-mod bench;
-mod frame;
-mod gets;
+ghost use mathlib.Core.Path.{_≡_};
+ghost use Rattle.cases.specs.Tally.{tallied};
+
+mod lent;
 mod line;
-mod meaning;
-mod print;
-mod records;
-mod run;
-mod same;
-mod sets;
-mod show;
-mod step;
+mod play;
+mod scripts;
 mod trial;
-mod worked;
+
+use crate::play::play;
+use std::num::wrapping_add_u8;
+use trace::print;
 
 // How many cases were run, and how many of them went as the papers say.
 struct Tally {
@@ -21,40 +19,21 @@ struct Tally {
     right: u8,
 }
 
-// The tally with one case more; it stops at 100.
-fn counted(tally: Tally, right: bool) -> Tally {
-    if 100 <= tally.cases {
-        return tally;
-    }
-    if 100 <= tally.right {
-        return tally;
-    }
-    let mut t = tally;
-    t.cases = tally.cases + 1;
+// The tally with one case more.
+fn counted(tally: Tally, right: bool) -> Tally
+    ensures { λ r. ⌜ r ≡ tallied tally right ⌝ }
+{
+    let cases = wrapping_add_u8(tally.cases, 1);
     if right {
-        t.right = tally.right + 1;
+        return Tally {
+            cases: cases,
+            right: wrapping_add_u8(tally.right, 1),
+        };
     }
-    t
-}
-
-// Examples 1 to 6 of document 01.
-fn first_six(tally: Tally) -> Tally {
-    let t = counted(tally, gets::item_read());
-    let t = counted(t, gets::same_frame_again());
-    let t = counted(t, sets::value_set());
-    let t = counted(t, sets::value_refused());
-    let t = counted(t, gets::fifty_values());
-    counted(t, gets::parameter_bytes())
-}
-
-// Examples 7 to 11 of document 01, and the exchange of document 000.
-fn last_six(tally: Tally) -> Tally {
-    let t = counted(tally, gets::last_id());
-    let t = counted(t, sets::no_datapoints());
-    let t = counted(t, line::lengths());
-    let t = counted(t, line::reset());
-    let t = counted(t, line::damage());
-    counted(t, worked::exchange())
+    Tally {
+        cases: cases,
+        right: tally.right,
+    }
 }
 
 fn main() {
@@ -65,9 +44,36 @@ fn main() {
         b"Each byte from the host is one call. What is sent is compared byte by byte, the tables record by record.\n",
     );
     print::text(b"Frames, states, flags and values are hexadecimal, IDs and counts decimal.\n\n");
-    let tally = last_six(first_six(Tally { cases: 0, right: 0 }));
-    print::number8(tally.cases);
+    let t = Tally { cases: 0, right: 0 };
+    let script = scripts::ITEM_READ;
+    let t = counted(t, play(&script, b""));
+    let script = scripts::SAME_FRAME_AGAIN;
+    let t = counted(t, play(&script, b""));
+    let script = scripts::VALUE_SET;
+    let t = counted(t, play(&script, b""));
+    let script = scripts::VALUE_REFUSED;
+    let t = counted(t, play(&script, b""));
+    let script = scripts::FIFTY_VALUES;
+    let t = counted(t, play(&script, b""));
+    let script = scripts::PARAMETER_BYTES;
+    let t = counted(t, play(&script, b""));
+    let script = scripts::LAST_ID;
+    let t = counted(t, play(&script, b""));
+    let script = scripts::NO_DATAPOINTS;
+    let t = counted(t, play(&script, b""));
+    let script = scripts::LENGTHS;
+    let t = counted(t, play(&script, b""));
+    let script = scripts::RESET;
+    let t = counted(t, play(&script, b""));
+    let script = scripts::DAMAGE;
+    let t = counted(t, play(&script, b""));
+    let script = scripts::EXCHANGE;
+    let t = counted(
+        t,
+        play(&script, b", with 10 for the length that is printed wrong"),
+    );
+    print::number8(t.cases);
     print::text(b" cases, ");
-    print::number8(tally.right);
+    print::number8(t.right);
     print::text(b" as the paper says\n");
 }

@@ -1,53 +1,34 @@
 // A trial: a bench, and whether all went as the paper says so far. Each function here writes its lines of the trace.
 ghost use mathlib.Core.Path.{_≡_};
 ghost use mathlib.Core.Bool.{true};
-ghost use mathlib.Core.List.{_∷_};
-ghost use Prim.Native.Nat.{_≤_, _<_};
-ghost use lib.ListN.{length};
-ghost use Rattle.ft12.specs.Frame.{dataFrame};
 ghost use Rattle.calls.specs.declared.event.Event.{Event};
-ghost use Rattle.cases.specs.Run.{happened, quiet, heard};
-ghost use Rattle.cases.specs.Same.{Decides, SameTables, LinkIs};
-ghost use Rattle.cases.specs.Trial.{Shows, Goes, Sends, Draws, Answered, Damaged};
-use crate::bench::Bench;
-use crate::frame::acknowledged_frame;
-use crate::frame::data_frame;
-use crate::meaning;
-use crate::print;
-use crate::run::feed;
-use crate::run::happens;
-use crate::run::is_quiet;
-use crate::run::sent_count;
-use crate::same::is_link;
-use crate::same::same_tables;
-use crate::show;
+ghost use Rattle.bench.specs.Run.{happened, quiet, heard};
+ghost use Rattle.bench.specs.Same.{Decides, SameTables, LinkIs};
+ghost use Rattle.cases.specs.Trial.{Shows, Goes, Sends, Draws, Damaged};
+use bench::bench::Bench;
+use bench::run::feed;
+use bench::run::happens;
+use bench::run::is_quiet;
+use bench::run::sent_count;
+use bench::same::is_link;
+use bench::same::same_tables;
 use calls::event::Event;
+use trace::meaning;
+use trace::print;
+use trace::show;
 
 pub struct Trial {
     pub bench: Bench,
     pub right: bool,
 }
 
-// The title of a case, and its trial.
-pub fn start(title: &[u8], bench: Bench) -> Trial
+// A trial in which nothing went wrong yet.
+pub fn start(bench: Bench) -> Trial
     ensures { λ r. ⌜ (r .bench ≡ bench) × (r .right ≡ true) ⌝ }
 {
-    print::text(title);
-    print::text(b"\n");
     Trial {
         bench: bench,
         right: true,
-    }
-}
-
-// The same case goes on with another bench.
-pub fn anew(trial: Trial, bench: Bench) -> Trial
-    ensures { λ r. ⌜ (r .bench ≡ bench) × (r .right ≡ trial .right) ⌝ }
-{
-    show::link(b"   anew   : tables as before; ", bench.link);
-    Trial {
-        bench: bench,
-        right: trial.right,
     }
 }
 
@@ -70,38 +51,12 @@ pub fn after(trial: Trial, bench: Bench, right: bool) -> Trial
 
 // ---- the line
 
-fn frame_lines(label: &[u8], s: &[u8]) {
-    print::text(label);
-    print::bytes(s);
-    print::below();
-    meaning::frame(s);
-    print::text(b"\n");
-}
-
-// What is sent; an acknowledgement in lines of its own.
-fn server_lines(label: &[u8], s: &[u8]) {
-    let n = s.len();
-    if n == 0 {
-        print::text(label);
-        print::text(b"nothing\n");
-        return;
-    }
-    if s[0] != 0xE5 {
-        frame_lines(label, s);
-        return;
-    }
-    frame_lines(label, &s[..1]);
-    if 1 < n {
-        frame_lines(label, &s[1..]);
-    }
-}
-
 // What the last call sends.
 fn sent_lines(bench: Bench) {
     let n = sent_count(bench);
     let out = bench.out;
     if n <= 262 {
-        server_lines(b"   server : ", &out[..n]);
+        meaning::server_lines(b"   server : ", &out[..n]);
     }
 }
 
@@ -147,38 +102,28 @@ fn drawn(bench: Bench, bytes: &[u8], wanted: &[u8]) -> Trial
 pub fn host(trial: Trial, bytes: &[u8], wanted: &[u8]) -> Trial
     ensures { λ r. ⌜ Goes trial (heard (now (bytes .entry)) (trial .bench)) (Draws (now (bytes .entry)) (now (wanted .entry)) (trial .bench)) r ⌝ }
 {
-    frame_lines(b"   host   : ", bytes);
+    meaning::frame_lines(b"   host   : ", bytes);
     let d = drawn(trial.bench, bytes, wanted);
     sent_lines(d.bench);
     if !d.right {
-        server_lines(b"   paper  : ", wanted);
+        meaning::server_lines(b"   paper  : ", wanted);
     }
     after(trial, d.bench, d.right)
 }
 
-// A request under an odd count bit, and the answer that it is to have, under an odd one too. It is outstanding then, and even is expected.
-pub fn ask(trial: Trial, message: &[u8], wanted: &[u8]) -> Trial
-    requires { ⌜ (length (now message) ≤ 254) × (length (now wanted) ≤ 254) ⌝ }
-    ensures { λ r. ⌜ Goes trial (heard (dataFrame 0x73 (now (message .entry))) (trial .bench)) (Answered (now (message .entry)) (now (wanted .entry)) (trial .bench)) r ⌝ }
-{
-    let request = data_frame(0x73, message);
-    let asked = request.bytes;
-    let n = request.size;
-    let answer = acknowledged_frame(0xF3, wanted);
-    let answered = answer.bytes;
-    let k = answer.size;
-    let t = host(trial, &asked[..n], &answered[..k]);
-    let held = data_frame(0xF3, wanted);
-    let outstanding = held.bytes;
-    let l = held.size;
-    link(t, false, true, false, &outstanding[..l])
-}
-
 // The bench after these bytes from the host, and whether the receiver found damage at this place, counted from 0, and nothing was sent.
 fn found_damage(bench: Bench, bytes: &[u8], place: usize) -> Trial
-    requires { ⌜ place < length (now bytes) ⌝ }
     ensures { λ r. ⌜ Shows (heard (now (bytes .entry)) bench) (Damaged (now (bytes .entry)) place bench) r ⌝ }
 {
+    let n = bytes.len();
+    if n <= place {
+        let all = feed(bench, bytes);
+        let b = all.bench;
+        return Trial {
+            bench: b,
+            right: false,
+        };
+    }
     let behind = place + 1;
     let before = feed(bench, &bytes[..place]);
     let found = feed(bench, &bytes[..behind]);
@@ -202,18 +147,23 @@ fn found_damage(bench: Bench, bytes: &[u8], place: usize) -> Trial
     }
 }
 
+fn damage_lines(bytes: &[u8], place: usize) {
+    if place < bytes.len() {
+        print::text(b"   server : nothing; damage, found at the byte ");
+        print::byte(bytes[place]);
+        print::text(b"\n");
+    }
+}
+
 // The host sends damaged bytes. The receiver is to find it at this place, and to drop all from there on; nothing is to be sent.
-pub fn damaged(trial: Trial, bytes: &[u8], place: usize) -> Trial
-    requires { ⌜ place < length (now bytes) ⌝ }
+pub fn damaged(trial: Trial, bytes: &[u8], place: u8) -> Trial
     ensures { λ r. ⌜ Goes trial (heard (now (bytes .entry)) (trial .bench)) (Damaged (now (bytes .entry)) place (trial .bench)) r ⌝ }
 {
-    let b = bytes[place];
-    let d = found_damage(trial.bench, bytes, place);
-    frame_lines(b"   host   : ", bytes);
+    meaning::frame_lines(b"   host   : ", bytes);
+    let at = place as usize;
+    let d = found_damage(trial.bench, bytes, at);
     if d.right {
-        print::text(b"   server : nothing; damage, found at the byte ");
-        print::byte(b);
-        print::text(b"\n");
+        damage_lines(bytes, at);
     }
     after(trial, d.bench, d.right)
 }
@@ -234,7 +184,8 @@ pub fn idle_mark(trial: Trial) -> Trial
 pub fn link(trial: Trial, expected: bool, send: bool, dropping: bool, outstanding: &[u8]) -> Trial
     ensures { λ r. ⌜ Goes trial (trial .bench) (LinkIs (trial .bench .link) expected send dropping (now (outstanding .entry))) r ⌝ }
 {
-    show::link(b"   link   : ", trial.bench.link);
+    print::text(b"   link   : ");
+    show::link(trial.bench.link);
     let right = is_link(trial.bench.link, expected, send, dropping, outstanding);
     after(trial, trial.bench, right)
 }
@@ -243,17 +194,7 @@ pub fn link(trial: Trial, expected: bool, send: bool, dropping: bool, outstandin
 pub fn unaltered(trial: Trial, given: Bench) -> Trial
     ensures { λ r. ⌜ Goes trial (trial .bench) (SameTables (trial .bench) given) r ⌝ }
 {
-    print::text(b"   tables : every record as before\n");
     let right = same_tables(trial.bench, given);
-    after(trial, trial.bench, right)
-}
-
-// The same, where the records that matter were shown.
-pub fn left(trial: Trial, wanted: Bench) -> Trial
-    ensures { λ r. ⌜ Goes trial (trial .bench) (SameTables (trial .bench) wanted) r ⌝ }
-{
-    print::text(b"            every other record as before\n");
-    let right = same_tables(trial.bench, wanted);
     after(trial, trial.bench, right)
 }
 

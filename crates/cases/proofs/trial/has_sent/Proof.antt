@@ -3,7 +3,7 @@ use mathlib.Core.Path.{_≡_, sym}
 use lib.ListN.{length}
 use lib.Seq.{length-take-le}
 use native.Mathlib.Omega.{arith}
-use Rattle.cases.proofs.SameLaws.{refuted}
+use Rattle.bench.proofs.SameLaws.{refuted}
 use Rattle.cases.proofs.TrialLaws.{sends-decided}
 use Rattle.cases.proofs.trial.has_sent.Statement.{statement}
 use Rattle.cases.proofs.trial.has_sent.Tie as tie

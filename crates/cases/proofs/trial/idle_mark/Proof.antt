@@ -1,7 +1,7 @@
 use borrow.Author.Needs.{needs}
 use mathlib.Core.Path.{ap, _∙_}
-use Rattle.cases.specs.declared.bench.Bench.{Bench}
-use Rattle.cases.specs.Run.{quiet}
+use Rattle.bench.specs.declared.bench.Bench.{Bench}
+use Rattle.bench.specs.Run.{quiet}
 use Rattle.cases.proofs.TrialLaws.{goes, decides-itself}
 use Rattle.cases.proofs.trial.idle_mark.Statement.{statement}
 use Rattle.cases.proofs.trial.idle_mark.Tie as tie

@@ -4,8 +4,11 @@ use Rattle.cases.proofs.TrialLaws.{goes}
 use Rattle.cases.proofs.trial.link.Statement.{statement}
 use Rattle.cases.proofs.trial.link.Tie as tie
 
-slice-aggregate-link : tie.Need-slice-aggregate-link
-slice-aggregate-link c = search needs
+slice-aggregate-text : tie.Need-slice-aggregate-text
+slice-aggregate-text c = search needs
+
+text-requires : tie.Need-text-requires
+text-requires c κs = search needs
 
 link-requires : tie.Need-link-requires
 link-requires c κs = search needs
@@ -21,4 +24,4 @@ returns c = goes _ _ _ _ refl (c .before .is-link .ensures) (c .after .ensures)
 
 pub link-spec : {M : Type 1} → statement M
 link-spec =
-    tie.close (tie.spec slice-aggregate-link link-requires is-link-requires after-requires returns)
+    tie.close (tie.spec slice-aggregate-text text-requires link-requires is-link-requires after-requires returns)

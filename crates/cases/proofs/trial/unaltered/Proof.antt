@@ -4,12 +4,6 @@ use Rattle.cases.proofs.TrialLaws.{goes}
 use Rattle.cases.proofs.trial.unaltered.Statement.{statement}
 use Rattle.cases.proofs.trial.unaltered.Tie as tie
 
-slice-aggregate-text : tie.Need-slice-aggregate-text
-slice-aggregate-text c = search needs
-
-text-requires : tie.Need-text-requires
-text-requires c κs = search needs
-
 same-tables-requires : tie.Need-same-tables-requires
 same-tables-requires c κs = search needs
 
@@ -22,4 +16,4 @@ returns c = goes _ _ _ _ refl (c .before .same-tables .ensures) (c .after .ensur
 pub unaltered-spec : {M : Type 1} → statement M
 unaltered-spec =
     tie.close
-    (tie.spec slice-aggregate-text text-requires same-tables-requires after-requires returns)
+    (tie.spec same-tables-requires after-requires returns)

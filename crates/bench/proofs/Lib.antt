@@ -1,0 +1,4 @@
+pub mod BenchLaws
+pub mod RunLaws
+pub mod SameLaws
+pub mod Types

@@ -1,0 +1,143 @@
+-- The bench, and how one is made.
+use Prim.Native.Nat.{ℕ, _+_, _≤_}
+use mathlib.Core.Bool.{Bool, true, false, _&&_}
+use mathlib.Core.List.{List, [], _∷_}
+use lib.ListN.{set, replicate}
+use lib.Dec.{ltb, leb}
+use Rattle.ft12.specs.declared.record.Link.{Link}
+use Rattle.words.specs.Words.{if_then_else_}
+use Rattle.ft12.specs.Record.{linkOf}
+use Rattle.baos.specs.declared.datapoint.Datapoint.{Datapoint}
+use Rattle.baos.specs.declared.item.Item.{Item}
+use Rattle.calls.specs.declared.reply.Reply.{Reply}
+use Rattle.calls.specs.declared.reply.Reply.the-variants.{Accepted}
+use Rattle.bench.specs.declared.bench.Bench.{Bench}
+
+-- nothing received, nothing outstanding, and these bits
+unfoldable pub idleLink : Bool → Bool → Link
+idleLink expected send =
+    linkOf (record { gathered = []; dropping = false; expected = expected; send = send; outstanding = []; resends = 0 })
+
+-- what stands in the places of a table that are not in use
+unfoldable pub noDatapoint : Datapoint
+noDatapoint = record { id = 0; typecode = 0; flags = 0; dpt = 0; state = 0; value = replicate 14 0; mark = false }
+
+unfoldable pub noItem : Item
+noItem = record { id = 0; size = 0; writable = false; bytes = replicate 16 0 }
+
+-- "unless said, nothing is outstanding and both bits are odd"
+unfoldable pub emptyBench : Bench
+emptyBench =
+    record {
+      link = idleLink true true;
+      datapoints = replicate 50 noDatapoint;
+      datapointcount = 0;
+      items = replicate 4 noItem;
+      itemcount = 0;
+      parameters = replicate 255 0;
+      parametercount = 0;
+      value = replicate 14 0;
+      valuesize = 0;
+      out = replicate 262 0;
+      reply = Accepted 0;
+    }
+
+-- the bench b with other tables, another link record or another value
+unfoldable pub withLink : Link → Bench → Bench
+withLink k b =
+    record {
+      link = k;
+      datapoints = b .datapoints;
+      datapointcount = b .datapointcount;
+      items = b .items;
+      itemcount = b .itemcount;
+      parameters = b .parameters;
+      parametercount = b .parametercount;
+      value = b .value;
+      valuesize = b .valuesize;
+      out = b .out;
+      reply = b .reply;
+    }
+
+unfoldable pub withDatapoints : List Datapoint → ℕ → Bench → Bench
+withDatapoints ds n b =
+    record {
+      link = b .link;
+      datapoints = ds;
+      datapointcount = n;
+      items = b .items;
+      itemcount = b .itemcount;
+      parameters = b .parameters;
+      parametercount = b .parametercount;
+      value = b .value;
+      valuesize = b .valuesize;
+      out = b .out;
+      reply = b .reply;
+    }
+
+unfoldable pub withItems : List Item → ℕ → Bench → Bench
+withItems is n b =
+    record {
+      link = b .link;
+      datapoints = b .datapoints;
+      datapointcount = b .datapointcount;
+      items = is;
+      itemcount = n;
+      parameters = b .parameters;
+      parametercount = b .parametercount;
+      value = b .value;
+      valuesize = b .valuesize;
+      out = b .out;
+      reply = b .reply;
+    }
+
+unfoldable pub withParameters : List ℕ → ℕ → Bench → Bench
+withParameters ps n b =
+    record {
+      link = b .link;
+      datapoints = b .datapoints;
+      datapointcount = b .datapointcount;
+      items = b .items;
+      itemcount = b .itemcount;
+      parameters = ps;
+      parametercount = n;
+      value = b .value;
+      valuesize = b .valuesize;
+      out = b .out;
+      reply = b .reply;
+    }
+
+unfoldable pub withValue : ℕ → Bench → Bench
+withValue v b =
+    record {
+      link = b .link;
+      datapoints = b .datapoints;
+      datapointcount = b .datapointcount;
+      items = b .items;
+      itemcount = b .itemcount;
+      parameters = b .parameters;
+      parametercount = b .parametercount;
+      value = v ∷ replicate 13 0;
+      valuesize = 1;
+      out = b .out;
+      reply = b .reply;
+    }
+
+-- one record more, behind the others; a full table stays
+unfoldable pub withDatapoint : Datapoint → Bench → Bench
+withDatapoint d b =
+    if ltb (b .datapointcount) 50 then withDatapoints (set (b .datapoints) (b .datapointcount) d) (b .datapointcount + 1) b
+    else b
+
+unfoldable pub withItem : Item → Bench → Bench
+withItem i b = if ltb (b .itemcount) 4 then withItems (set (b .items) (b .itemcount) i) (b .itemcount + 1) b else b
+
+-- no count goes beyond the width of its table
+pub record Within (b : Bench) : Type 0 where
+  pub datapoints : b .datapointcount ≤ 50
+  pub items : b .itemcount ≤ 4
+  pub parameters : b .parametercount ≤ 255
+  pub value : b .valuesize ≤ 14
+
+unfoldable pub isWithin : Bench → Bool
+isWithin b = leb (b .datapointcount) 50 && leb (b .itemcount) 4 && leb (b .parametercount) 255 && leb (b .valuesize) 14

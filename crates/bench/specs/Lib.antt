@@ -1,0 +1,4 @@
+pub mod Bench
+pub mod Step
+pub mod Run
+pub mod Same

@@ -1,0 +1,134 @@
+// Whether records are the same, field by field.
+ghost use mathlib.Core.Path.{_≡_};
+ghost use Rattle.bench.specs.Same.{Decides, SameTables, LinkIs};
+use crate::bench::Bench;
+use baos::datapoint::Datapoint;
+use baos::item::Item;
+use ft12::record::Link;
+
+fn same_bit(a: bool, b: bool) -> bool
+    ensures { λ r. ⌜ Decides r (a ≡ b) ⌝ }
+{
+    if a {
+        return b;
+    }
+    !b
+}
+
+fn same_datapoint(a: Datapoint, b: Datapoint) -> bool
+    ensures { λ r. ⌜ Decides r (a ≡ b) ⌝ }
+{
+    let v = a.value;
+    let w = b.value;
+    if !check::same(&v, &w) {
+        return false;
+    }
+    if a.id != b.id {
+        return false;
+    }
+    if a.typecode != b.typecode {
+        return false;
+    }
+    if a.flags != b.flags {
+        return false;
+    }
+    if a.dpt != b.dpt {
+        return false;
+    }
+    if a.state != b.state {
+        return false;
+    }
+    same_bit(a.mark, b.mark)
+}
+
+fn same_item(a: Item, b: Item) -> bool
+    ensures { λ r. ⌜ Decides r (a ≡ b) ⌝ }
+{
+    let v = a.bytes;
+    let w = b.bytes;
+    if !check::same(&v, &w) {
+        return false;
+    }
+    if a.id != b.id {
+        return false;
+    }
+    if a.size != b.size {
+        return false;
+    }
+    same_bit(a.writable, b.writable)
+}
+
+fn same_datapoints(a: [Datapoint; 50], b: [Datapoint; 50]) -> bool
+    ensures { λ r. ⌜ Decides r (a ≡ b) ⌝ }
+{
+    let mut i: usize = 0;
+    while i < 50 {
+        if !same_datapoint(a[i], b[i]) {
+            return false;
+        }
+        i = i + 1;
+    }
+    true
+}
+
+fn same_items(a: [Item; 4], b: [Item; 4]) -> bool
+    ensures { λ r. ⌜ Decides r (a ≡ b) ⌝ }
+{
+    let mut i: usize = 0;
+    while i < 4 {
+        if !same_item(a[i], b[i]) {
+            return false;
+        }
+        i = i + 1;
+    }
+    true
+}
+
+// Whether the tables of two benches are the same: the counts, and every record.
+pub fn same_tables(a: Bench, b: Bench) -> bool
+    ensures { λ r. ⌜ Decides r (SameTables a b) ⌝ }
+{
+    let p = a.parameters;
+    let q = b.parameters;
+    if !check::same(&p, &q) {
+        return false;
+    }
+    let i = a.items;
+    let j = b.items;
+    if !same_items(i, j) {
+        return false;
+    }
+    if a.parametercount != b.parametercount {
+        return false;
+    }
+    if a.itemcount != b.itemcount {
+        return false;
+    }
+    if a.datapointcount != b.datapointcount {
+        return false;
+    }
+    let d = a.datapoints;
+    let e = b.datapoints;
+    same_datapoints(d, e)
+}
+
+// Whether a link record has these bits, drops or not, and has this frame outstanding.
+pub fn is_link(link: Link, expected: bool, send: bool, dropping: bool, outstanding: &[u8]) -> bool
+    ensures { λ r. ⌜ Decides r (LinkIs link expected send dropping (now (outstanding .entry))) ⌝ }
+{
+    if !same_bit(link.expected, expected) {
+        return false;
+    }
+    if !same_bit(link.send, send) {
+        return false;
+    }
+    if !same_bit(link.dropping, dropping) {
+        return false;
+    }
+    let n = link.held as usize;
+    if 261 < n {
+        return false;
+    }
+    let frame = link.outstanding;
+    check::same(&frame[..n], outstanding)
+}
