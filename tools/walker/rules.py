@@ -1,0 +1,174 @@
+# The context of a walk, by names, and what each rule of the kit does to it.
+#     t's token is 't, what the parameter p owns is *p, the local x is x (and †x, that it dies); p lent again is *p+ under the token 'p+, with p-kept;
+#     p opened is p-row and p-open, looked into p-row and p-look, an element of it p-cell and p-others; the fields of a struct that is taken apart are p.field, .., p.fields, with p.again
+import re
+
+from .structs import layout
+from .texts import Mistake
+
+
+class Context:
+    def __init__(self, entries, live=()):
+        self.entries = list(entries)
+        self.live = set(live)         # the locals that hold something
+        self.origin = {}              # what an entry was made of, for the rule that puts it back
+        self.fields = {}              # the fields that are still in an entry, of a struct that is taken apart
+
+    def copy(self):
+        c = Context(self.entries, self.live)
+        c.origin = dict(self.origin)
+        c.fields = dict(self.fields)
+        return c
+
+    def fresh(self, name):
+        while name in self.entries:
+            name += '′'
+        return name
+
+    def at(self, name):
+        if name not in self.entries:
+            raise Mistake(f'no entry {name} among {" ".join(e for e in self.entries if not e.startswith("†"))}')
+        return self.entries.index(name)
+
+    def swap(self, old, new):
+        '''the first entries, as many as `old` counts, become `new`'''
+        self.entries[:old] = []
+        self.entries[:0] = new
+
+    def bring(self, names):
+        self.entries = names + [e for e in self.entries if e not in names]
+
+
+def bare(entry):
+    return entry.lstrip("*'")
+
+
+# ---- what each rule does to the first entries of the context. `c` is the context
+def lends(c):
+    e, t = c.entries[:2]
+    b = bare(e)
+    new = [c.fresh(f"'{b}+"), c.fresh(f'*{b}+'), c.fresh(f'{b}-kept')]
+    c.origin[new[2]] = [e, t]
+    c.swap(2, new)
+
+
+def lends_one(c):
+    e = c.entries[0]
+    b = bare(e)
+    new = [c.fresh(f"'{b}+"), c.fresh(f'*{b}+'), c.fresh(f'{b}-kept')]
+    c.origin[new[2]] = [e]
+    c.swap(1, new)
+
+
+def back_of(n):
+    '''the last of n entries is what was kept: what was lent is there again'''
+    def rule(c):
+        kept = c.entries[n - 1]
+        if kept not in c.origin:
+            raise Mistake(f'{kept} is nothing that is kept')
+        c.swap(n, c.origin[kept])
+    return rule
+
+
+def opens(*parts):
+    def rule(c):
+        e, t = c.entries[:2]
+        new = [c.fresh(f'{bare(e)}-{p}') for p in parts]
+        c.origin[new[-1]] = [e, t]
+        c.swap(2, new)
+    return rule
+
+
+def takes(c):
+    row = c.entries[0]
+    b = row[:-4] if row.endswith('-row') else row
+    new = [c.fresh(b + '-cell'), c.fresh(b + '-others')]
+    c.origin[new[1]] = [row]
+    c.swap(1, new)
+
+
+def shuts_part(c):
+    c.swap(2, [c.origin[c.entries[1]][1]])
+
+
+def splits(c):
+    e = c.entries[0]
+    if e in c.fields:             # the struct's fields, and the way back
+        again = e[:-len('fields')] + 'again'
+        c.origin[again] = c.origin[e]
+        c.swap(1, [e, c.fresh(again)])
+    else:
+        c.swap(1, [c.fresh(e + '/1'), c.fresh(e + '/2')])
+
+
+def splits_field(c):
+    e = c.entries[0]
+    if c.fields.get(e):           # the next field, and the others
+        field = e[:-len('fields')] + c.fields[e][0]
+        c.fields[e] = c.fields[e][1:]
+        c.swap(1, [c.fresh(field), e])
+    else:
+        c.swap(1, [c.fresh(e + '/1'), c.fresh(e + '/2')])
+
+
+def joins(c):
+    a, b = c.entries[:2]
+    c.swap(2, [])
+    if a.endswith('/1') and b == a[:-2] + '/2':
+        c.swap(0, [a[:-2]])
+    elif '.' in a:
+        c.swap(0, [c.fresh(a[:a.index('.')] + '.fields')])
+    else:
+        c.swap(0, [c.fresh(b if b.endswith('&') else b + '&')])
+
+
+def apart(c, struct):
+    '''a struct in memory is its fields side by side'''
+    e = c.entries[0]
+    new = c.fresh((e[:-len('-part')] if e.endswith('-part') else e) + '.fields')
+    c.origin[new] = [e]
+    c.fields[new] = list(layout(struct)[0])
+    c.swap(1, [new])
+
+
+def stays(c):
+    pass
+
+
+def drops(c):
+    c.swap(1, [])
+
+
+def empties(c):
+    c.live.discard(c.entries[0])
+
+
+def nothing(c):
+    c.swap(0, [c.fresh('nothing')])
+
+
+RULES = {
+    'lendsS': lends, 'lends': lends, 'lends-as-shr': lends, 'lends-as-ref': lends, 'lends-message': lends,
+    'backsS': back_of(3), 'backs': back_of(3), 'shr-back': back_of(2), 'ref-back-as': back_of(2), 'message-back': back_of(2),
+    'lends-part': lends_one, 'shares-part': lends_one, 'lends-array': lends_one, 'shares-array': lends_one, 'lends-prefix': lends_one, 'shares-prefix': lends_one,
+    'part-back': back_of(3), 'array-back': back_of(3), 'prefix-back': back_of(3), 'part-unshared': back_of(2), 'array-unshared': back_of(2), 'prefix-unshared': back_of(2),
+    'opened-slice': opens('row', 'open'), 'closed-slice': back_of(2), 'looked-slice': opens('row', 'look'), 'shut-slice': back_of(2),
+    'opened-part': opens('part', 'open1', 'open2', 'open3'), 'closed-part': back_of(4), 'opened': opens('part', 'open1', 'open2', 'open3'), 'closed': back_of(4),
+    'looked-part': opens('part', 'look'), 'shut-part': shuts_part,
+    'takes-at': takes, 'back-at': back_of(2), 'puts-at': back_of(2),
+    'split': splits, 'fsplit': splits_field, 'fjoin': joins, 'array-room': empties, 'toss': drops, 'drop': drops, 'nothing': nothing,
+}
+# rules that leave the entries as they are
+for name in '''enter params1 pass0 pass1 assigns assigns-last land lets sets §let rewrite returns returns-within suffices exec first blocks joins goes-flat goes-to
+    calls-any calls-plain calls-mut calls-mutS calls-as-shrS calls-shrS calls-mutR calls-shrR calls-shrS-mutS calls-shrS-shrS calls-mutS-shrS
+    leaves-early tests both cases by-event part-of cell-of local-part part-local as-record as-tuple as-records as-tuples repeated frame done by again loops
+    group qed updating heard'''.split():
+    RULES[name] = stays
+# how many of a rule's last arguments are walks
+WALKS = {'leaves-early': 2, 'tests': 2, 'both': 2, 'cases': 2, 'by-event': 6}
+for name in '''lendsS lends lends-as-shr lends-as-ref lends-message lends-part shares-part lends-array shares-array lends-prefix shares-prefix backsS opened-slice looked-slice opened looked-part
+    takes-at cell-of part-local array-back prefix-back allocs-all calls-any calls-plain calls-mut calls-mutS calls-as-shrS calls-shrS calls-mutR calls-shrR calls-shrS-mutS calls-shrS-shrS calls-mutS-shrS heard'''.split():
+    WALKS[name] = 1
+# terms whose first argument is the place of an entry
+PLACED = set('look look-in look-raw look-tag val init store §put §let store-raw store-in lets sets forget rewrite'.split())
+ENDS = {'frame', 'done', 'by', 'again', 'loops'}
