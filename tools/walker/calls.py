@@ -1,7 +1,7 @@
 # Calls with any number of references: their arguments, and the last values that they leave, by name.
 import re
 
-from .texts import Mistake, balanced, clauses, nest, part, split_tuple
+from .texts import Mistake, balanced, clauses, each_macro, nest, part, split_tuple
 
 
 def one_term(text):
@@ -36,9 +36,9 @@ def lent_next(text):
     '''§args is what the next call's arguments ask for'''
     while '§args' in text:
         i = text.index('§args')
-        j = text.index('§lent{', i)
-        k = balanced(text, j + len('§lent'), '{', '}')
-        text = text[:i] + lent_entries(text[j + len('§lent{'):k]) + text[i + len('§args'):]
+        m = re.compile(r'§lent(?:-lines)?\{').search(text, i)
+        end = balanced(text, m.end() - 1, '{', '}')
+        text = text[:i] + lent_entries(text[m.end():end]) + text[i + len('§args'):]
     return text
 
 
@@ -84,6 +84,21 @@ def lent_tuple(fn, inside):
     return f'(({nest(lives)}, {nest(shares)}, tt, {nest(values)}, {nest(machine)}), tt)'
 
 
+def calls(fn, body):
+    '''§args, §lent{..} and ws§x written out'''
+    body = lent_next(body)
+    regions = ws_regions(body)
+    body = re.sub(r'ws§([^\s(){},;]+)', lambda m: ws_part(regions, m), body)
+    body = each_macro(body, '§lent-lines', lambda t: in_lines(lent_tuple(fn, t)))
+    return each_macro(body, '§lent', lambda t: lent_tuple(fn, t))
+
+
+def in_lines(ghost):
+    '''a tuple of arguments, one part to a line'''
+    y, rest = split_tuple(ghost)
+    return '(\n        (\n' + ''.join(f'          {p},\n' for p in split_tuple(y)) + f'        ),\n        {rest},\n      )'
+
+
 # ---- `ws§x` is the last value of the argument x of the call that is walked
 def argument_names(inside):
     out = []
@@ -97,7 +112,7 @@ def argument_names(inside):
 def ws_regions(text):
     '''where each call's last values are spoken of: from its arguments to the end of the bracket around it'''
     out = []
-    for m in re.finditer(r'§lent\{', text):
+    for m in re.finditer(r'§lent(?:-lines)?\{', text):
         i = balanced(text, m.end() - 1, '{', '}')
         depth, k = 0, i + 1
         while k < len(text) and depth >= 0:

@@ -1,8 +1,8 @@
 # A function whose proof is a walk: its parameters, locals and callees, and what they settle.
 import re
 
-from .rules import Context
-from .texts import Mistake, dashed, matching, nest, part, tokens_of
+from .contexts import Contexts
+from .texts import Mistake, dashed, nest, part
 
 
 class Param:
@@ -10,151 +10,6 @@ class Param:
         self.name, self.data, self.type, self.known, self.lifetime, self.share = name, data, type, known, lifetime, share
         self.number = kind == 'number'                     # plain data that is a number: its machine value fits because the number does
         self.kind = 'data' if self.number else kind        # data, &, &mut, &[] or &mut[]
-
-
-class Shape:
-    def __init__(self, params, lifetimes, locals):
-        self.params = params
-        self.lifetimes = lifetimes    # the names of the lifetimes, in the signature's order
-        self.locals = locals          # the names of all locals: what is returned, the parameters, the others, in MIR's order
-        self.loc0 = None
-        self.text = ''
-
-    def owner(self, lifetime):
-        for p in self.params:
-            if p.lifetime == lifetime:
-                return p.name
-        return lifetime
-
-    def at_entry(self):
-        return ["'" + self.owner(l) for l in self.lifetimes] + ['*' + p.name for p in self.params]
-
-    def allocated(self):
-        return [e for l in reversed(self.locals) for e in (l, '†' + l)]
-
-    # ---- the contexts that the text defines: `Inv`, `Had`, ..
-    def definition(self, name):
-        m = re.search(r'^( *)' + re.escape(name) + r'((?: [^\s=:()]+)*) =((?: .*)?(?:\n\1 +\S.*)*)', self.text, re.M)
-        return (m.group(2).split(), m.group(3)) if m else None
-
-    def context(self, expr):
-        entries, live, rows = [], set(), []
-        self.gather(expr, {}, entries, live)
-        for k, e in enumerate(entries):
-            if isinstance(e, tuple):           # a row, of the slice whose rest stands further on
-                for other in entries:
-                    if isinstance(other, str) and other.endswith(('-open', '-look')) and self.data_of(other[:-5]) == e[1] and other[:-5] + '-row' not in entries:
-                        entries[k] = other[:-5] + '-row'
-                        break
-                else:
-                    entries[k] = f'row{k}'
-        c = Context(entries, live)
-        for e in entries:
-            if e.endswith(('-open', '-look')):
-                c.origin[e] = ['*' + e[:-5], "'" + e[:-5]]
-        return c
-
-    def data_of(self, name):
-        for p in self.params:
-            if p.name == name:
-                return p.data
-
-    def gather(self, expr, env, entries, live):
-        expr = expr.strip()
-        toks = tokens_of(expr, 0, len(expr))
-        if toks and toks[0][2] == '(' and matching(toks, 0) == len(toks) - 1:
-            return self.gather(expr[1:-1], env, entries, live)
-        for op in ('++', '∷'):
-            depth = 0
-            for k, (a, b, t) in enumerate(toks):
-                depth += (t in '({') - (t in ')}')
-                if depth == 0 and t == op:
-                    left, right = expr[:a], expr[b:]
-                    if op == '++':
-                        self.gather(left, env, entries, live)
-                    else:
-                        entries.append(self.entry(left.strip(), len(entries)))
-                    return self.gather(right, env, entries, live)
-        head = toks[0][2]
-        if head == '[]':
-            return
-        if head in env:
-            return self.gather(env[head][0], env[head][1], entries, live)
-        args, k = [], 1
-        while k < len(toks):
-            e = matching(toks, k) if toks[k][2] in '({' else k
-            args.append(expr[toks[k][0]:toks[e][1]])
-            k = e + 1
-        if head == 'stack':
-            for i, v in enumerate(self.listed(args[3])):
-                if v != 'none':
-                    live.add(self.locals[i])
-            entries += self.allocated()
-            return self.gather(args[4], env, entries, live)
-        found = self.definition(head)
-        if not found:
-            raise Mistake(f'{head} is not defined as a context')
-        self.gather(found[1], dict(zip(found[0], [(a, env) for a in args])), entries, live)
-
-    def listed(self, text):
-        text = text.strip()
-        text = text[1:-1] if text.startswith('(') else text
-        out, depth, last = [], 0, 0
-        for m in re.finditer(r'[(){}]|∷', text):
-            if m.group() == '∷':
-                if depth == 0:
-                    out.append(text[last:m.start()].strip())
-                    last = m.end()
-            else:
-                depth += 1 if m.group() in '({' else -1
-        return out
-
-    def entry(self, text, k):
-        m = re.match(r"‵ \((.*)\)$", text, re.S)
-        t = m.group(1) if m else text
-        m = re.match(r'(?:MutS|ShrS|Mut|Shr) \S+ (\S+) ', t)
-        if m:
-            return '*' + self.owner(m.group(1))
-        m = re.match(r'flft (\S+) ', t)
-        if m:
-            return "'" + self.owner(m.group(1))
-        m = re.match(r'(OpenS|LookS) \S+ (\S+) ', t)
-        if m:
-            return self.owner(m.group(2)) + ('-open' if m.group(1) == 'OpenS' else '-look')
-        m = re.match(r'\S+ \.row \.own (\S+) ', t)
-        if m:
-            return '*' + m.group(1)
-        m = re.match(r'row \((\S+) \.row\) ', t)
-        if m:
-            return ('row', m.group(1))
-        return f'entry{k}'
-
-    # ---- where the walks are: `walk`, the lemmas over a context (`Sq W ..`), and what begins with `qed`
-    def walks(self, text):
-        self.text = text
-        found = []
-        for m in re.finditer(r'^( *)(\S+)((?: [^\s=:(){}]+)*) =(?=\s)', text, re.M):
-            name = m.group(2)
-            typed = re.search(r'^ *' + re.escape(name) + r' : (.*(?:\n' + m.group(1) + r' +→.*)*)', text[:m.start()], re.M)
-            if name == 'walk':
-                ctx = Context([])
-            else:
-                types = [t for t in re.finditer(r'^' + m.group(1) + re.escape(name) + r' : (.*(?:\n' + m.group(1) + r' +→.*)*)', text[:m.start()], re.M)]
-                if not types:
-                    continue
-                body = text[m.end():m.end() + 400].lstrip()
-                sq = re.search(r'Sq W (?=\()', types[-1].group(1))
-                if body.startswith('qed W'):
-                    ctx = Context([])
-                elif sq and not re.search(r'Sq W Γ', types[-1].group(1)):
-                    t = types[-1].group(1)
-                    toks = tokens_of(t, sq.end(), len(t))
-                    ctx = self.context(t[toks[0][0]:toks[matching(toks, 0)][1]])
-                else:
-                    continue
-            end = re.compile(r'\n *where\n|\n\n|\Z').search(text, m.end()).start()
-            found.append((m.end(), end, ctx))
-        return found
 
 
 class Callee:
@@ -171,10 +26,19 @@ class Callee:
         return (f'Rattle.{self.crate}.proofs' if self.crate == within else f'Rattle.{self.crate}.proofs') + f'.{self.module}.{self.fn}'
 
 
-class Function(Shape):
-    def __init__(self, path, result, params, lifetimes, shares, locals, callees=()):
-        super().__init__(params, lifetimes, locals)
-        self.me, self.result, self.shares, self.callees = Callee(path), result, shares, list(callees)
+class Function(Contexts):
+    def __init__(self, path, result, params, locals, words=()):
+        self.me, self.result, self.params = Callee(path), result, params
+        self.lifetimes, self.shares = [], []              # in the signature's order: that of the parameters
+        for p in params:
+            if p.lifetime and p.lifetime not in self.lifetimes:
+                self.lifetimes.append(p.lifetime)
+                self.shares.append(p.share)
+        self.locals = ['ret'] + [p.name for p in params] + locals      # in MIR's order: what is returned, the parameters, the others
+        self.words = dict(words)                          # what the head gives a name of its own: `name arms part.s-10` makes §arms
+        self.callees = []
+        self.text = ''
+        self.inv_live, self.loc0 = set(), None            # the locals that the invariant `Inv` knows; where `ret` stands by `loc`
 
     def index(self, p):
         return self.lifetimes.index(p.lifetime)
@@ -205,8 +69,11 @@ class Function(Shape):
                 out.append((p.name, self.type_of(p)))
         return ' '.join(f'({n} : {t})' for n, t in out)
 
-    def knowns(self):
-        return [f'({p.known} : Good {p.data} {p.name})' if p.kind == 'data' else f'({p.known} : Room ({p.data} .row) (length ({p.name} .now)))' for p in self.params if p.known]
+    def knowns(self, first=''):
+        '''what is known of each; a line is broken behind as many as `first` says'''
+        each = [f'({p.known} : Good {p.data} {p.name})' if p.kind == 'data' else f'({p.known} : Room ({p.data} .row) (length ({p.name} .now)))' for p in self.params if p.known]
+        n = int(first or 0)
+        return ' '.join(each[:n]) + '\n    ' + ' '.join(each[n:]) if n else ' '.join(each)
 
     def witness(self, p):
         '''that the machine value of a parameter has MIR's type'''
@@ -223,7 +90,16 @@ class Function(Shape):
     def passes(self, between):
         return f' ${between}'.join(self.passed(p.name) for p in self.params)
 
+    def again(self, indent, local, name, by):
+        '''a slice of the parameters is lent again, in a local, by way of a pointer to its first element: two statements of MIR'''
+        p = next(p for p in self.params if p.name == name)
+        return f'{indent}{by} := (&*{name}.0) : (tt, tt) $\n{indent}{local} := (agg ! ⟦⟨{by}⟩ ⟨{name}.1⟩⟧) : {self.witness(p)} $'
+
     # -- the callees
+    def calls(self, c):
+        self.callees.append(c)
+        return self.use(c)
+
     def use(self, c):
         u = c.place(self.me.crate)
         return f'use {u} as {c.alias}\nuse {u}.Symbol as {c.alias}-def\nuse {u}.Symbol.{{name as #{c.symbol()}}}\nuse {u}.Met as {c.alias}-thm'
@@ -248,7 +124,7 @@ class Function(Shape):
         return f'cited 𝓤 H ({what}) 𝓜 𝓡 code.env #{c.symbol()} {c.alias}-def.routine code.calls-{c.symbol()} ({c.alias}-thm.met 𝓤 H 𝓜 𝓖 𝓡)'
 
     # -- the last lines: the walk, taken to the function's contract
-    def spec(self, cites, needs='', count=0):
+    def spec(self, cites, needs='', count=''):
         '''cites: contracts, triples or record; needs: the name of what is required; count: how many parts of it the walk takes one by one'''
         n, s = len(self.lifetimes), self.me.symbol()
         name = dashed(self.me.fn)
@@ -259,7 +135,7 @@ class Function(Shape):
             lines += [f'    ({self.cited(c, cites == "contracts")})' for c in self.callees]
         args = [f'({part("κs", i)})' for i in range(n)] + [f'({part("qs", i)})' for i in range(n)] + [f'({part("a", i)})' for i in range(len(self.params))]
         args += [f'({part("are", i)}' + (' .0 .1' if p.kind != 'data' else '') + ')' for i, p in enumerate(self.params) if p.known]
-        args += [f'({needs} .{i})' for i in range(count)] if count else [needs] if needs else []
+        args += [f'({needs} .{i})' for i in range(int(count))] if count else [needs] if needs else []
         return f'''pub {name}-spec : {{M : Type 1}} → stated.statement M
 unfolding code.routine tablesOf
 {name}-spec 𝓤 H 𝓜 𝓖 𝓡 =
@@ -293,7 +169,7 @@ unfolding code.routine tablesOf
         return m.group(1) if m else f'{p.name} .now'
 
     def block(self, name):
-        return part('l', self.locals.index(name))
+        return '(' + part('l', self.locals.index(name)) + ')'
 
     def stack(self, given):
         last = max(self.locals.index(n) for n in given)

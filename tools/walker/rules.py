@@ -1,8 +1,6 @@
 # The context of a walk, by names, and what each rule of the kit does to it.
 #     t's token is 't, what the parameter p owns is *p, the local x is x (and †x, that it dies); p lent again is *p+ under the token 'p+, with p-kept;
 #     p opened is p-row and p-open, looked into p-row and p-look, an element of it p-cell and p-others; the fields of a struct that is taken apart are p.field, .., p.fields, with p.again
-import re
-
 from .structs import layout
 from .texts import Mistake
 
@@ -44,20 +42,14 @@ def bare(entry):
 
 
 # ---- what each rule does to the first entries of the context. `c` is the context
-def lends(c):
-    e, t = c.entries[:2]
-    b = bare(e)
-    new = [c.fresh(f"'{b}+"), c.fresh(f'*{b}+'), c.fresh(f'{b}-kept')]
-    c.origin[new[2]] = [e, t]
-    c.swap(2, new)
-
-
-def lends_one(c):
-    e = c.entries[0]
-    b = bare(e)
-    new = [c.fresh(f"'{b}+"), c.fresh(f'*{b}+'), c.fresh(f'{b}-kept')]
-    c.origin[new[2]] = [e]
-    c.swap(1, new)
+def lends(n):
+    '''the first n entries are lent: a token, the reference, and what is kept of them'''
+    def rule(c):
+        b = bare(c.entries[0])
+        new = [c.fresh(f"'{b}+"), c.fresh(f'*{b}+'), c.fresh(f'{b}-kept')]
+        c.origin[new[2]] = c.entries[:n]
+        c.swap(n, new)
+    return rule
 
 
 def back_of(n):
@@ -147,28 +139,29 @@ def nothing(c):
     c.swap(0, [c.fresh('nothing')])
 
 
-RULES = {
-    'lendsS': lends, 'lends': lends, 'lends-as-shr': lends, 'lends-as-ref': lends, 'lends-message': lends,
-    'backsS': back_of(3), 'backs': back_of(3), 'shr-back': back_of(2), 'ref-back-as': back_of(2), 'message-back': back_of(2),
-    'lends-part': lends_one, 'shares-part': lends_one, 'lends-array': lends_one, 'shares-array': lends_one, 'lends-prefix': lends_one, 'shares-prefix': lends_one,
-    'part-back': back_of(3), 'array-back': back_of(3), 'prefix-back': back_of(3), 'part-unshared': back_of(2), 'array-unshared': back_of(2), 'prefix-unshared': back_of(2),
-    'opened-slice': opens('row', 'open'), 'closed-slice': back_of(2), 'looked-slice': opens('row', 'look'), 'shut-slice': back_of(2),
-    'opened-part': opens('part', 'open1', 'open2', 'open3'), 'closed-part': back_of(4), 'opened': opens('part', 'open1', 'open2', 'open3'), 'closed': back_of(4),
-    'looked-part': opens('part', 'look'), 'shut-part': shuts_part,
-    'takes-at': takes, 'back-at': back_of(2), 'puts-at': back_of(2),
-    'split': splits, 'fsplit': splits_field, 'fjoin': joins, 'array-room': empties, 'toss': drops, 'drop': drops, 'nothing': nothing,
+# as which rule each behaves
+LIKE = {
+    lends(2): 'lendsS lends lends-as-shr lends-as-ref lends-message',
+    lends(1): 'lends-part shares-part lends-array shares-array lends-prefix shares-prefix',
+    back_of(2): 'shr-back ref-back-as message-back part-unshared array-unshared prefix-unshared closed-slice shut-slice back-at puts-at',
+    back_of(3): 'backsS backs part-back array-back prefix-back',
+    back_of(4): 'closed-part closed',
+    opens('row', 'open'): 'opened-slice',
+    opens('row', 'look'): 'looked-slice',
+    opens('part', 'look'): 'looked-part',
+    opens('part', 'open1', 'open2', 'open3'): 'opened-part opened',
+    takes: 'takes-at', shuts_part: 'shut-part', splits: 'split', splits_field: 'fsplit', joins: 'fjoin', empties: 'array-room', drops: 'toss drop', nothing: 'nothing',
+    stays: '''enter allocs-all params1 pass0 pass1 assigns assigns-last land lets sets §let rewrite returns returns-within suffices exec first blocks goes-flat goes-to
+        calls-any calls-plain calls-mut calls-mutS calls-as-shrS calls-shrS calls-mutR calls-shrR calls-shrS-mutS calls-shrS-shrS calls-mutS-shrS
+        leaves-early tests both cases by-event part-of cell-of local-part part-local as-record as-tuple as-records as-tuples repeated group frame done by again loops''',
 }
-# rules that leave the entries as they are
-for name in '''enter params1 pass0 pass1 assigns assigns-last land lets sets §let rewrite returns returns-within suffices exec first blocks joins goes-flat goes-to
-    calls-any calls-plain calls-mut calls-mutS calls-as-shrS calls-shrS calls-mutR calls-shrR calls-shrS-mutS calls-shrS-shrS calls-mutS-shrS
-    leaves-early tests both cases by-event part-of cell-of local-part part-local as-record as-tuple as-records as-tuples repeated frame done by again loops
-    group qed updating heard'''.split():
-    RULES[name] = stays
+RULES = {name: rule for rule, names in LIKE.items() for name in names.split()}
 # how many of a rule's last arguments are walks
-WALKS = {'leaves-early': 2, 'tests': 2, 'both': 2, 'cases': 2, 'by-event': 6}
-for name in '''lendsS lends lends-as-shr lends-as-ref lends-message lends-part shares-part lends-array shares-array lends-prefix shares-prefix backsS opened-slice looked-slice opened looked-part
-    takes-at cell-of part-local array-back prefix-back allocs-all calls-any calls-plain calls-mut calls-mutS calls-as-shrS calls-shrS calls-mutR calls-shrR calls-shrS-mutS calls-shrS-shrS calls-mutS-shrS heard'''.split():
-    WALKS[name] = 1
-# terms whose first argument is the place of an entry
-PLACED = set('look look-in look-raw look-tag val init store §put §let store-raw store-in lets sets forget rewrite'.split())
+WALKS = {name: 1 for name in '''allocs-all lendsS lends lends-as-shr lends-as-ref lends-message lends-part shares-part lends-array shares-array lends-prefix shares-prefix
+    backsS array-back prefix-back opened-slice looked-slice opened looked-part takes-at cell-of part-local
+    calls-any calls-plain calls-mut calls-mutS calls-as-shrS calls-shrS calls-mutR calls-shrR calls-shrS-mutS calls-shrS-shrS calls-mutS-shrS'''.split()}
+WALKS.update({'leaves-early': 2, 'tests': 2, 'both': 2, 'cases': 2, 'by-event': 6})
+# rules that end a walk
 ENDS = {'frame', 'done', 'by', 'again', 'loops'}
+# terms whose first argument is the place of an entry
+PLACED = set('look look-in look-raw look-tag val init store store-raw store-in lets sets forget rewrite §put §let'.split())

@@ -13,6 +13,8 @@ SHORT = [
     ('⟨%$x.$k⟩', '(load ! (from ! (fld ! refl (stop !))) (look-in ! %$x (sub ! $k refl (whole !))))'),
     ('⟨*$x in $c⟩', '(load ! (from ! (hop ! (look ! @$x refl) (stop !))) (look-raw ! @$c refl))'),
     ('⟨*%$x in $c⟩', '(load ! (from ! (hop ! (look ! %$x refl) (stop !))) (look-raw ! @$c refl))'),
+    ('⟨*$x.$k in $c⟩', '(load ! (from ! (hop ! (look ! @$x refl) (fld ! refl (stop !)))) (look-in ! @$c (sub ! $k refl (whole !))))'),
+    ('⟨*%$x.$k in $c⟩', '(load ! (from ! (hop ! (look ! %$x refl) (fld ! refl (stop !)))) (look-in ! @$c (sub ! $k refl (whole !))))'),
     ('(&*$x.0)', '(addr ! (from ! (fld ! refl (hop ! (look-in ! @$x (sub ! 0 refl (whole !))) (stop !)))))'),
     ('(&*%$x.0)', '(addr ! (from ! (fld ! refl (hop ! (look-in ! %$x (sub ! 0 refl (whole !))) (stop !)))))'),
     ('(&*$x)', '(addr ! (from ! (hop ! (look ! @$x refl) (stop !))))'),
@@ -30,11 +32,14 @@ SHORT = [
     ('land $x : $W', 'land ! (from ! (stop !)) (§put ! @$x refl $W)'),
     ('land %$x : $W', 'land ! (from ! (stop !)) (§put ! %$x refl $W)'),
     ('§fm', '(fmOf 𝓤 H (W .laws) 𝓣)'),
+    ('plain $D $E by $G', 'use0 W (‵ ($D .row .own $E ($D .val $E ∷ []))) ($D .made 𝓤 H A W $E ($D .val $E ∷ []) $G)'),
+]
+# the same for whole lines, which speak of the parameters
+LINES = [
     ('§enters', 'starts 𝓤 H A W §n ps §κs §qs x ∵ enter ! (𝓣 .C) (𝓣 .Λ) code.function _ _ $ allocs-all ! (code.function .locals)'),
     ('§Walk', 'Walk §n 𝓤 H A W ps §Q (f.clauses 𝓤 H A mem run) 𝓣 code.function §κs §qs x tt'),
     ('§Ends', 'Ends §n 𝓤 H A W ps §Q (f.clauses 𝓤 H A mem run) §κs §qs x tt'),
     ('§ends', 'ends-in §n 𝓤 H A W ps §Q (f.clauses 𝓤 H A mem run) §κs §qs x tt'),
-    ('plain $D $E by $G', 'use0 W (‵ ($D .row .own $E ($D .val $E ∷ []))) ($D .made 𝓤 H A W $E ($D .val $E ∷ []) $G)'),
 ]
 WORD = re.compile(r'[^\s(){}⟨⟩‹›⟦⟧@%.*;]+')
 

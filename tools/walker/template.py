@@ -2,88 +2,79 @@
 import os
 import re
 
-from .calls import lent_next, lent_tuple, ws_part, ws_regions
+from .calls import calls
 from .follow import Follower
 from .function import Callee, Function, Param
 from .places import Names
-from .short import SHORT, spell
+from .short import LINES, spell
 from .structs import ROOT, each_field, layout
 from .texts import Mistake, clauses, each_macro, nest
 
 
 def read_head(head, path):
-    params, lifetimes, shares, locals, result, words_of = [], [], [], [], None, {}
+    params, locals, result, words = [], [], None, {}
     for line in head.split('\n'):
-        words = line.split()
-        if not words or words[0] == '--':
+        w = line.split()
+        if not w or w[0] == '--':
             continue
-        if words[0] == 'result':
-            result = words[1]
-        elif words[0] == 'param':
-            name, kind, data, type = words[1:5]
-            more = words[5:]
-            known = more[more.index('known') + 1] if 'known' in more else ''
-            life, share = more[more.index('lives') + 1:][:2] if 'lives' in more else ('', '')
-            params.append(Param(name, kind, data, type, known, life, share))
-            if life and life not in lifetimes:
-                lifetimes.append(life)
-                shares.append(share)
-        elif words[0] == 'locals':
-            locals += words[1:]
-        elif words[0] == 'name':
-            words_of[words[1]] = words[2]
+        if w[0] == 'result':
+            result = w[1]
+        elif w[0] == 'param':
+            more = dict(zip(w[5::2], w[6::2])) if 'lives' not in w else {**dict(zip(w[5:w.index('lives'):2], w[6:w.index('lives'):2])), 'lives': w[w.index('lives') + 1:]}
+            params.append(Param(*w[1:5], more.get('known', ''), *more.get('lives', ('', ''))))
+        elif w[0] == 'locals':
+            locals += w[1:]
+        elif w[0] == 'name':
+            words[w[1]] = w[2]
         else:
-            raise Mistake(f'head: {line}')
-    names = ['ret'] + [p.name for p in params] + locals
-    twice = {n for n in names if names.count(n) > 1}
+            raise Mistake(f'the head has param, result, locals, name and twin lines: {line}')
+    fn = Function(path, result, params, locals, words)
+    twice = {n for n in fn.locals if fn.locals.count(n) > 1}
     if twice:
         raise Mistake(f'two locals of one name: {" ".join(sorted(twice))}')
-    fn = Function(path, result, params, lifetimes, shares, names)
-    fn.words = words_of               # what the head gives a name of its own: `name arms part.s-10` makes §arms
     return fn
 
 
+# ---- the macros of a body that do not ask for the context
+def macros(fn):
+    '''(pattern, what it becomes), in the order in which they are written out'''
+    def one(make):
+        return lambda m: make(*(g or '' for g in m.groups()))
+    return [(re.compile(p, re.M), one(make)) for p, make in [
+        (r'^§use (\S+)(?: as (\S+))?$', lambda path, alias: fn.calls(Callee(path, alias))),
+        (r'^§own$', fn.own), (r'^§ps$', fn.ps), (r'^( *)§x$', fn.x), (r'^§contracts$', fn.contracts), (r'^§known-record$', fn.known_record),
+        (r'§known-lines\b', lambda: fn.known('\n    ')), (r'§known\b', lambda: fn.known(' ')),
+        (r'§lifetimes\b', fn.lifetimes_text), (r'§values-joined\b', lambda: fn.values(True)), (r'§values\b', fn.values), (r'§knowns\b(?:/(\d+))?', fn.knowns),
+        (r'^§spec (\S+) ?(\S*) ?(\S*)$', fn.spec),
+        (r'^( *)(\S+) := &\*(\S+) by (\S+) \$$', fn.again),
+        (r'§passes-lines\b', lambda: fn.passes('\n      ')), (r'§passes\b', lambda: fn.passes(' ')), (r'§pass\(([^()]*)\)', fn.passed),
+        (r'§κs\b', lambda: nest(fn.lifetimes)), (r'§qs\b', lambda: nest(fn.shares)), (r'§n\b', lambda: str(len(fn.lifetimes))), (r'§Q\b', lambda: fn.result),
+        (r'§size\((\w+)\)', lambda s: str(layout(s)[1])), (r'§offset\((\w+)\.(\w+)\)', lambda s, f: str(layout(s)[0][f])), (r'§index\((\w+)\.(\w+)\)', index),
+        (r'(?<=[^\s⟨]\.)([A-Z]\w*)\.(\w+)(?=[⟩ ])(?=[^⟨]*⟩)', index), (r'(?<=[^\s⟨]\.)(ptr|count)(?=[⟩ ])(?=[^⟨]*⟩)', lambda w: {'ptr': '0', 'count': '1'}[w]),
+        (r'§block\(([^()]*)\)', fn.block),
+    ]]
+
+
+def index(struct, field):
+    return str(list(layout(struct)[0]).index(field))
+
+
+def pairs(text):
+    '''a = x; b = y by z'''
+    return dict(c.split(' = ', 1) for c in clauses(text))
+
+
 def fill(fn, body):
-    '''the macros of a body that do not ask for the context'''
     fn.text = body
-    for short, long in SHORT:
-        if short in ('§enters', '§Walk', '§Ends', '§ends'):
-            body = re.sub(short + r'(?![\w-])', long, body)
-    def use(m):
-        c = Callee(m.group(1), m.group(2))
-        fn.callees.append(c)
-        return fn.use(c)
-    body = re.sub(r'^§use (\S+)(?: as (\S+))?$', use, body, flags=re.M)
-    body = re.sub(r'^( *)§x$', lambda m: fn.x(m.group(1)), body, flags=re.M)
-
-    def knowns(m):
-        ks = fn.knowns()
-        n = int(m.group(1) or 0)
-        return ' '.join(ks[:n]) + '\n    ' + ' '.join(ks[n:]) if n else ' '.join(ks)
-    body = re.sub(r'§knowns(?:/(\d+))?', knowns, body)
-
-    def spec(m):
-        w = m.group(1).split()
-        return fn.spec(w[0], *([w[1]] if len(w) > 1 else []), **({'count': int(w[2])} if len(w) > 2 else {}))
-    body = re.sub(r'^§spec (.*)$', spec, body, flags=re.M)
-    for name, text in (('§own', fn.own), ('§ps', fn.ps), ('§contracts', fn.contracts), ('§known-lines', lambda: fn.known('\n    ')), ('§known-record', fn.known_record), ('§known', lambda: fn.known(' ')),
-                       ('§lifetimes', fn.lifetimes_text), ('§values-joined', lambda: fn.values(True)), ('§values', fn.values), ('§passes-lines', lambda: fn.passes('\n      ')), ('§passes', lambda: fn.passes(' ')),
-                       ('§κs', lambda: nest(fn.lifetimes)), ('§qs', lambda: nest(fn.shares)), ('§n', lambda: str(len(fn.lifetimes))), ('§Q', lambda: fn.result)):
-        if name in body:
-            body = re.sub(re.escape(name) + r'(?![\w-])', lambda m: text(), body)
-    body = re.sub(r'§pass\(([^()]*)\)', lambda m: fn.passed(m.group(1)), body)
-    body = re.sub(r'§size\((\w+)\)', lambda m: str(layout(m.group(1))[1]), body)
-    body = re.sub(r'§offset\((\w+)\.(\w+)\)', lambda m: str(layout(m.group(1))[0][m.group(2)]), body)
-    body = re.sub(r'§index\((\w+)\.(\w+)\)', lambda m: str(list(layout(m.group(1))[0]).index(m.group(2))), body)
-    body = re.sub(r'§block\(([^()]*)\)', lambda m: '(' + fn.block(m.group(1)) + ')', body)
-    body = each_macro(body, '§stack', lambda t: fn.stack(dict(c.split(' = ', 1) for c in clauses(t))))
-    body = each_macro(body, '§lasts', lambda t: fn.last_values({c.split(' = ', 1)[0]: (c.split(' = ', 1)[1].rsplit(' by ', 1) + ['tt'])[:2] for c in clauses(t)}))
-    body = lent_next(body)
+    for short, long in LINES:
+        body = re.sub(short + r'(?![\w-])', long, body)
+    for pattern, make in macros(fn):
+        body = pattern.sub(make, body)
     for word, text in fn.words.items():
         body = re.sub('§' + word + r'(?![\w-])', text, body)
-    regions = ws_regions(body)
-    body = re.sub(r'ws§([^\s(){},;]+)', lambda m: ws_part(regions, m), body)
-    return each_macro(body, '§lent', lambda t: lent_tuple(fn, t))
+    body = each_macro(body, '§stack', lambda t: fn.stack(pairs(t)))
+    body = each_macro(body, '§lasts', lambda t: fn.last_values({n: (v.rsplit(' by ', 1) + ['tt'])[:2] for n, v in pairs(t).items()}))
+    return calls(fn, body)
 
 
 # ---- §close: the brackets that are open, up to the arm that ends here; at the end of a definition, all of them
@@ -129,20 +120,20 @@ def written(template, path):
     '''the proof that a template stands for'''
     head, body = each_field(template).split('\n----\n', 1)
     fn = read_head(head, path)
-    body = spell(fill(fn, closes(body)))
-    fn.text = body
+    body = fn.text = spell(fill(fn, closes(body)))
     inv = fn.definition('Inv')
-    fn.inv_live = set()
     if inv:
         c = fn.context('(Inv ' + ' '.join(inv[0]) + ')')
-        fn.inv_live = c.live
-        fn.loc0 = c.at('ret')
-    m = re.search(r'§loc0(?:/(\d+))?', body)       # where the locals stand: behind the entries of the invariant, or behind as many as the template says
+        fn.inv_live, fn.loc0 = c.live, c.at('ret')
+    m = re.search(r'§loc0(?:/(\d+))?', body)       # where `ret` stands: behind the entries of the invariant and the other locals, or with so many entries in front as the template says
     if m:
         fn.loc0 = int(m.group(1)) + 2 * len(fn.locals) - 2 if m.group(1) else fn.loc0
         body = body.replace(m.group(), str(fn.loc0))
     text = Follower(body, fn, Names(fn)).run()
-    return text.replace('§kit', kit_uses(text.replace('§kit\n', ''))) if '§kit' in text else text
+    left = re.search(r'§\S+', text.replace('§kit', ''))
+    if left:
+        raise Mistake(f'{left.group()} is not known')
+    return text.replace('§kit', kit_uses(text.replace('§kit\n', '')))
 
 
 # ---- the kit's names: which file of crates/walks has each, and the `use` lines that a proof needs

@@ -3,7 +3,10 @@ import re
 
 
 class Mistake(Exception):
-    pass
+    '''what is wrong with a template; `placed`: it says where'''
+    def __init__(self, text, placed=False):
+        super().__init__(text)
+        self.placed = placed
 
 
 TOKEN = re.compile(r'--[^\n]*|@\[[^\]]*\]|[@%§][^\s(){}]+|[(){}]|[^\s(){}]+')
