@@ -6,7 +6,7 @@ class Names:
     '''the places of a template: @x the entry x by its number, %x the local x by `loc`'''
     def __init__(self, fn):
         self.fn = fn
-        self.statements = {'move': self.move, 'keep': self.move, 'forget': self.forget, '§toss': self.toss, '§freed': self.freed, '§forgets': self.forgets, '§kept': self.kept}
+        self.statements = {'move': self.move, 'keep': self.move, 'bring': self.bring, 'forget': self.forget, '§toss': self.toss, '§freed': self.freed, '§forgets': self.forgets, '§kept': self.kept}
 
     def name_at(self, f, k, ctx):
         return f.tok(k)[1:]
@@ -38,6 +38,14 @@ class Names:
         ctx.bring(names)
         if f.tok(i) == 'keep':
             ctx.entries = names
+
+    def bring(self, f, i, j, args, ctx):
+        '''a line of its own: the entries come to the front, if they are not there'''
+        names = f.tok(i + 1)[2:-1].split()
+        there = ctx.entries[:len(names)] == names
+        new = '' if there else 'move ! (' + ''.join(f'{ctx.at(n)} ∷ ' for n in names) + '[]) $'
+        f.changes.append((f.toks[i][0], f.toks[j + 1][0] if there else f.toks[j][1], new))
+        ctx.bring(names)
 
     def forget(self, f, i, j, args, ctx):
         self.place(f, i + 2, ctx, 0)

@@ -10,11 +10,13 @@ class Context:
         self.entries = list(entries)
         self.live = set(live)         # the locals that hold something
         self.origin = {}              # what an entry was made of, for the rule that puts it back
+        self.lent = {}                # the token and the reference that belong to what is kept
         self.fields = {}              # the fields that are still in an entry, of a struct that is taken apart
 
     def copy(self):
         c = Context(self.entries, self.live)
         c.origin = dict(self.origin)
+        c.lent = dict(self.lent)
         c.fields = dict(self.fields)
         return c
 
@@ -46,8 +48,10 @@ def lends(n):
     '''the first n entries are lent: a token, the reference, and what is kept of them'''
     def rule(c):
         b = bare(c.entries[0])
+        if n == 2:
+            with_token(c)
         new = [c.fresh(f"'{b}+"), c.fresh(f'*{b}+'), c.fresh(f'{b}-kept')]
-        c.origin[new[2]] = c.entries[:n]
+        c.origin[new[2]], c.lent[new[2]] = c.entries[:n], new[:2]
         c.swap(n, new)
     return rule
 
@@ -58,13 +62,22 @@ def back_of(n):
         kept = c.entries[n - 1]
         if kept not in c.origin:
             raise Mistake(f'{kept} is nothing that is kept')
+        if c.lent.get(kept, [])[:n - 1] not in ([], c.entries[:n - 1]):
+            raise Mistake(f'{" ".join(c.lent[kept][:n - 1])} belong to {kept}, and not {" ".join(c.entries[:n - 1])}')
         c.swap(n, c.origin[kept])
     return rule
 
 
+def with_token(c):
+    e, t = c.entries[:2]
+    if not e.startswith('*') or not t.startswith("'"):
+        raise Mistake(f'a reference and its token stand first, and not {e} {t}')
+    return e, t
+
+
 def opens(*parts):
     def rule(c):
-        e, t = c.entries[:2]
+        e, t = with_token(c)
         new = [c.fresh(f'{bare(e)}-{p}') for p in parts]
         c.origin[new[-1]] = [e, t]
         c.swap(2, new)
