@@ -40,14 +40,17 @@ class Function(Contexts):
         self.text = ''
         self.inv_live, self.loc0 = set(), None            # the locals that the invariant `Inv` knows; where `ret` stands by `loc`
 
-    def index(self, p):
-        return self.lifetimes.index(p.lifetime)
+    def param(self, name):
+        for p in self.params:
+            if p.name == name:
+                return p
+        raise Mistake(f'no parameter {name}')
 
     # -- the parameters
     def ps(self):
         n = len(self.lifetimes)
         rule = {'data': 'dataP', '&': 'shrP', '&mut': 'mutP', '&[]': 'shrSliceP', '&mut[]': 'mutSliceP'}
-        each = [f'{rule[p.kind]} {n} {p.data}' if p.kind == 'data' else f'{rule[p.kind]} {n} {self.index(p)} tt {p.data}' for p in self.params]
+        each = [f'{rule[p.kind]} {n} {p.data}' if p.kind == 'data' else f'{rule[p.kind]} {n} {self.lifetimes.index(p.lifetime)} tt {p.data}' for p in self.params]
         return f'abbrev ps : List (Param {n})\nps = ' + ''.join(e + ' ∷ ' for e in each) + '[]'
 
     def type_of(self, p):
@@ -84,7 +87,7 @@ class Function(Contexts):
         return f'(number-fits {p.known} .1)' if p.number else f'(of {p.data} {p.name} {p.known})'
 
     def passed(self, name):
-        p = next(p for p in self.params if p.name == name)
+        p = self.param(name)
         return f'pass1 ! (§put ! @{p.name} refl {self.witness(p)})'
 
     def passes(self, between):
@@ -92,8 +95,7 @@ class Function(Contexts):
 
     def again(self, indent, local, name, by):
         '''a slice of the parameters is lent again, in a local, by way of a pointer to its first element: two statements of MIR'''
-        p = next(p for p in self.params if p.name == name)
-        return f'{indent}{by} := (&*{name}.0) : (tt, tt) $\n{indent}{local} := (agg ! ⟦⟨{by}⟩ ⟨{name}.1⟩⟧) : {self.witness(p)} $'
+        return f'{indent}{by} := (&*{name}.0) : (tt, tt) $\n{indent}{local} := (agg ! ⟦⟨{by}⟩ ⟨{name}.1⟩⟧) : {self.witness(self.param(name))} $'
 
     # -- the callees
     def calls(self, c):
@@ -150,7 +152,7 @@ unfolding code.routine tablesOf
     def last_values(self, given):
         '''the last value of each parameter, and that it is as long as it was: `given` has both for those that have changed'''
         for name in given:
-            if not any(p.name == name and p.kind.startswith('&mut') for p in self.params):
+            if not self.param(name).kind.startswith('&mut'):
                 raise Mistake(f'{name} is not lent as `&mut`')
         values, fits = [], []
         for p in self.params:

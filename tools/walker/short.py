@@ -44,8 +44,8 @@ LINES = [
 WORD = re.compile(r'[^\s(){}⟨⟩‹›⟦⟧@%.*;]+')
 
 
-def pattern_of(text):
-    return re.findall(r'\$[a-zA-Z]|[^$]+', text)
+def parts_of(pattern):
+    return re.findall(r'\$[a-zA-Z]|[^$]+', pattern)
 
 
 def upto(text, i, stop):
@@ -54,70 +54,61 @@ def upto(text, i, stop):
     for k in range(i, len(text)):
         if depth == 0 and text.startswith(stop, k):
             return k
-        if text[k] in '({⟨‹⟦':
-            depth += 1
-        elif text[k] in ')}⟩›⟧':
-            depth -= 1
-            if depth < 0:
-                return None
+        depth += (text[k] in '({⟨‹⟦') - (text[k] in ')}⟩›⟧')
+        if depth < 0:
+            return None
     return None
 
 
+def value_end(text, i, mark, after):
+    '''where the value of the mark ends, if one stands at i: a word for a small letter; what goes up to the bracket `after`; or a term'''
+    if mark[1].islower():
+        m = WORD.match(text, i)
+        return m.end() if m else None
+    return upto(text, i, after) if after.strip()[:1] in ('}', ')') else term_end(text, i)
+
+
 def match(text, i, parts):
-    '''the parts matched at i: the end and the values'''
+    '''the pattern at i: where it ends, and the values of its marks'''
     values = {}
     for n, p in enumerate(parts):
-        if p[0] == '$' and len(p) == 2:
-            if p[1].islower():
-                m = WORD.match(text, i)
-                e = m.end() if m else None
-            elif n + 1 < len(parts) and parts[n + 1][0] in ' })' and parts[n + 1].strip()[:1] in ('}', ')') :
-                e = upto(text, i, parts[n + 1])
-            else:
-                e = term_end(text, i)
-            if e is None or values.get(p, text[i:e]) != text[i:e]:
-                return None
-            values[p] = text[i:e]
-            i = e
-        else:
+        if not p.startswith('$'):
             if not text.startswith(p, i):
                 return None
             i += len(p)
+            continue
+        end = value_end(text, i, p, parts[n + 1] if n + 1 < len(parts) else ' ')
+        if end is None or values.setdefault(p, text[i:end]) != text[i:end]:
+            return None
+        i = end
     return i, values
 
 
-def rewrite(text, old, new, begins=None):
-    '''each `old` becomes `new`; `begins`: what may stand before it'''
-    parts, out, last, i = pattern_of(old), [], 0, 0
-    lead = parts[0] if parts[0][0] != '$' else None
-    while True:
-        if lead is not None:
-            i = text.find(lead, i)
-            if i < 0:
-                break
-        elif i >= len(text):
-            break
-        ok = begins is None or begins(text, i)
-        found = match(text, i, parts) if ok else None
+def rewrite(text, old, new, begins=lambda text, i: True):
+    '''each `old` becomes `new`, where it may begin'''
+    parts, out, last, i = parts_of(old), [], 0, 0
+    lead = '' if parts[0].startswith('$') else parts[0]
+    while 0 <= i < len(text):
+        found = match(text, i, parts) if text.startswith(lead, i) and begins(text, i) else None
         if found:
-            e, values = found
+            end, values = found
             out += [text[last:i], re.sub(r'\$[a-zA-Z]', lambda m: values[m.group()], new)]
-            last = i = e
+            last = i = end
         else:
             i += 1
+        i = text.find(lead, i) if lead else i
     return ''.join(out) + text[last:]
 
 
 def statement_begins(text, i):
     '''whether a statement can begin at i'''
-    before = text[max(0, i - 4):i]
-    return text[i:i + 1].strip() != '' and (before.endswith(('$ ', '∵ ', '. ')) or re.search(r'\n *$', text[max(0, i - 40):i]) is not None)
+    return not text[i].isspace() and (text[max(0, i - 2):i] in ('$ ', '∵ ', '. ') or not text[text.rfind('\n', 0, i) + 1:i].strip())
 
 
 def spell(text):
-    '''the short forms written out, the last ones first'''
+    '''the short forms written out, statements before operands'''
     for short, long in reversed(SHORT):
-        text = rewrite(text, short, long, statement_begins if re.match(r'(last |land )?%?\$x( :=| ≔| :)', short) else None)
+        text = rewrite(text, short, long, *([statement_begins] if ' : $W' in short else []))
     return operands_out(text)
 
 

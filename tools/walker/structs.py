@@ -5,8 +5,6 @@ import re
 from .texts import Mistake, each_macro
 
 ROOT = os.path.join(os.path.dirname(os.path.abspath(__file__)), '..', '..')
-
-
 STRUCTS = {}
 
 
@@ -64,20 +62,26 @@ def said_of(text, field):
     return text
 
 
-def each_field(text):
-    '''§each STRUCT .. §end: these lines for each field; §each-back STRUCT: from the last on; but-last: without the last; §all{STRUCT|between|text}, §all{STRUCT back but-last|..}: in a line'''
-    def block(m):
-        fields = list(fields_of(m.group(2)))
-        fields = fields[:-1] if m.group(3) else fields
-        lines = [said_of(l, f) for f in (reversed(fields) if m.group(1) else fields) for l in m.group(4).rstrip('\n').split('\n')]
-        return '\n'.join(l for l in lines if l.strip())
+def chosen(struct, back, but_last):
+    fields = list(fields_of(struct))
+    fields = fields[:-1] if but_last else fields
+    return fields[::-1] if back else fields
 
-    def in_line(t):
-        which, between, one = t.split('|', 2)
-        words = which.split()
-        fields = list(fields_of(words[0]))
-        fields = fields[:-1] if 'but-last' in words else fields
-        return between.join(said_of(one, f) for f in (reversed(fields) if 'back' in words else fields))
+
+def block(m):
+    '''lines for each field'''
+    lines = [said_of(l, f) for f in chosen(m.group(2), m.group(1), m.group(3)) for l in m.group(4).rstrip('\n').split('\n')]
+    return '\n'.join(l for l in lines if l.strip())
+
+
+def in_line(inside):
+    which, between, one = inside.split('|', 2)
+    words = which.split()
+    return between.join(said_of(one, f) for f in chosen(words[0], 'back' in words, 'but-last' in words))
+
+
+def each_field(text):
+    '''§each STRUCT .. §end: these lines for each field; §each-back: from the last on; but-last: without the last; §all{STRUCT back but-last|between|text}: in a line'''
     text = re.sub(r'^ *§each(-back)? (\w+)( but-last)?\n((?:.*\n)*?) *§end$', block, text, flags=re.M)
     text = re.sub(r'§last\((\w+)\)', lambda m: declared()[m.group(1)][-1][0], text)
     text = re.sub(r'^locals each (\w+) (\S+)$', lambda m: 'locals ' + ' '.join(said_of(m.group(2), f) for f in fields_of(m.group(1))), text, flags=re.M)
