@@ -1,23 +1,23 @@
 -- Every answer and every indication has at least 7 and at most 254 bytes.
-use Prim.Native.Nat.{ℕ, zero, suc, _+_, _-_, _≤_, _<_}
-use mathlib.Core.Path.{_≡_, refl, sym, _∙_, ap}
-use mathlib.Core.Bool.{Bool, true, false, not, _&&_, _||_}
-use mathlib.Core.List.{List, [], _∷_, _++_, map, flatten}
+use Prim.Native.Nat.{ℕ, suc, _+_, _-_, _≤_}
+use mathlib.Core.Path.{_≡_, refl, sym, ap}
+use mathlib.Core.Bool.{Bool, true, false, not, _||_}
+use mathlib.Core.List.{List, [], _∷_, map, flatten}
 use native.Mathlib.Omega.{arith}
-use lib.ListN.{length, getD, length-append, length-take}
+use lib.ListN.{length, getD, length-append}
 use lib.Dec.{T, leb, ltb, eqb, leb→le, le→leb}
-use borrow.Author.Tests.{ltb-true, ltb-false, leb-true}
-use Rattle.words.specs.Words.{if_then_else_, twoBytes, isEmpty, every, keep}
-use Rattle.words.proofs.WordLaws.{left, right, both, true-T, every-map, every-true, every-keep}
+use borrow.Author.Tests.{ltb-false, leb-true}
+use Rattle.words.specs.Words.{if_then_else_, isEmpty, every, keep}
+use Rattle.words.proofs.WordLaws.{left, true-T, every-map, every-true, every-keep}
 use Rattle.baos.specs.declared.datapoint.Datapoint.{Datapoint}
 use Rattle.baos.specs.declared.item.Item.{Item}
-use Rattle.baos.specs.Datapoint.{sizeOf, valueOf}
 use Rattle.baos.specs.Table.{Tables}
-use Rattle.baos.specs.Message.{mainService, subService, startOf, numberOf, filterOf, coded, Finding, fine, bad, Served, answerOf, afterOf, served}
+use Rattle.baos.specs.Message.{subService, startOf, numberOf, filterOf, coded, Finding, fine, bad, Served, answerOf, served}
 use Rattle.baos.specs.Get.{AnswerEntry, inRequest, overflow, roomForEntries, listing, getFinding, getting, itemEntry, getServerItem, descriptionEntry, getDatapointDescription, valueEntry, asked, getDatapointValue, parameterEntries, getParameterByte}
 use Rattle.baos.specs.Set.{SetEntry, setFinding, setting, setServerItem, setDatapointValue}
-use Rattle.baos.specs.Service.{service, unanswered, carriedOut}
+use Rattle.baos.specs.Service.{service, carriedOut}
 use Rattle.baos.specs.Indication.{needs, goes, roomAfter, choices, reported, indicationOf, indication}
+use Rattle.baos.proofs.DispatchLaws.{by-service, by-message}
 
 -- the length of an answer; the empty list is no answer
 pub data Sized (a : List ℕ) : Type 0 where
@@ -97,29 +97,23 @@ parameters-have n (x ∷ xs) = parameters-have (suc n) xs
 
 -- ---- every answer
 service-sized : (t : Tables) (m : List ℕ) → Sized (service t m .says)
-unfolding service getServerItem setServerItem getDatapointDescription getDatapointValue setDatapointValue getParameterByte
-service-sized t m = go (eqb (subService m) 1) (eqb (subService m) 2) (eqb (subService m) 3) (eqb (subService m) 5) (eqb (subService m) 6) (eqb (subService m) 7) refl refl refl refl refl refl
+unfolding getServerItem setServerItem getDatapointDescription getDatapointValue setDatapointValue getParameterByte
+service-sized t m =
+    by-service (λ (s : Served). Sized (s .says)) t m
+    (λ e. get-sized 6 false _ t t m (items-have _ (t .items)))
+    (λ e. set-sized 3 _ _ _ t m)
+    (λ e. get-sized 6 false _ t t m (descriptions-have _ (t .datapoints)))
+    (λ e. get-sized 7 (ltb 2 (filterOf m)) _ t _ m (values-have (keep (asked m) (t .datapoints))))
+    (λ e. set-sized 4 _ _ _ t m)
+    (λ e. get-sized 6 false _ t t m (parameters (eqb (startOf m) 0)))
+    (coded-sized m (startOf m) 5)
   where
-    go : (a b c d e f : Bool) → eqb (subService m) 1 ≡ a → eqb (subService m) 2 ≡ b → eqb (subService m) 3 ≡ c → eqb (subService m) 5 ≡ d → eqb (subService m) 6 ≡ e → eqb (subService m) 7 ≡ f → Sized (service t m .says)
-    go true b c d e f e1 e2 e3 e5 e6 e7 = simp e1 (get-sized 6 false _ t t m (items-have _ (t .items)))
-    go false true c d e f e1 e2 e3 e5 e6 e7 = simp (e1, e2) (set-sized 3 _ _ _ t m)
-    go false false true d e f e1 e2 e3 e5 e6 e7 = simp (e1, e2, e3) (get-sized 6 false _ t t m (descriptions-have _ (t .datapoints)))
-    go false false false true e f e1 e2 e3 e5 e6 e7 = simp (e1, e2, e3, e5) (get-sized 7 (ltb 2 (filterOf m)) _ t _ m (values-have (keep (asked m) (t .datapoints))))
-    go false false false false true f e1 e2 e3 e5 e6 e7 = simp (e1, e2, e3, e5, e6) (set-sized 4 _ _ _ t m)
-    go false false false false false true e1 e2 e3 e5 e6 e7 = simp (e1, e2, e3, e5, e6, e7) (get-sized 6 false _ t t m (parameters (eqb (startOf m) 0)))
-      where
-        parameters : (u : Bool) → T (every hasBytes (if u then [] else keep (λ (e : AnswerEntry). inRequest m (e .id)) (parameterEntries 1 (t .parameters))))
-        parameters true = tt
-        parameters false = every-keep (λ (e : AnswerEntry). inRequest m (e .id)) hasBytes (parameterEntries 1 (t .parameters)) (parameters-have 1 (t .parameters))
-    go false false false false false false e1 e2 e3 e5 e6 e7 = simp (e1, e2, e3, e5, e6, e7) (coded-sized m (startOf m) 5)
+    parameters : (u : Bool) → T (every hasBytes (if u then [] else keep (λ (e : AnswerEntry). inRequest m (e .id)) (parameterEntries 1 (t .parameters))))
+    parameters true = tt
+    parameters false = every-keep (λ (e : AnswerEntry). inRequest m (e .id)) hasBytes (parameterEntries 1 (t .parameters)) (parameters-have 1 (t .parameters))
 
 pub answer-sized : (t : Tables) (m : List ℕ) → Sized (carriedOut t m .says)
-unfolding carriedOut
-answer-sized t m = go (unanswered m) refl
-  where
-    go : (u : Bool) → unanswered m ≡ u → Sized (carriedOut t m .says)
-    go true e = simp e (none refl)
-    go false e = simp e (service-sized t m)
+answer-sized t m = by-message (λ (s : Served). Sized (s .says)) t m (none refl) (service-sized t m)
 
 -- ---- every indication
 chosenBytes : ℕ → List Datapoint → List ℕ

@@ -1,17 +1,17 @@
 -- One record: the state byte's arithmetic means the paper's bits, and each change of a well-formed record leaves it well formed.
 use Prim.Native.Nat.{ℕ, zero, suc, _+_, _-_, _*_, _/_, _%_, _≤_, _<_}
-use mathlib.Core.Path.{_≡_, refl, sym, _∙_, ap}
-use mathlib.Core.Bool.{Bool, true, false, not, _&&_, _||_}
-use mathlib.Core.List.{List, [], _∷_, _++_}
+use mathlib.Core.Path.{_≡_, refl, ap}
+use mathlib.Core.Bool.{Bool, true, false, _||_}
+use mathlib.Core.List.{List, [], _∷_}
 use native.Mathlib.Omega.{arith}
-use lib.ListN.{length, getD, take, replicate}
+use lib.ListN.{length, getD, replicate}
 use lib.Seq.{take-at}
 use lib.Dec.{T, leb, ltb, eqb, leb→le, ltb→lt, lt→ltb, eqb→eq}
-use Rattle.words.specs.Words.{if_then_else_, pad, every, isPadded}
+use Rattle.words.specs.Words.{pad, every, isPadded}
 use Rattle.words.proofs.WordLaws.{left, right, both, parts4, join4, pad-padded, padded-decided}
 use Rattle.baos.specs.declared.datapoint.Datapoint.{Datapoint}
 use Rattle.baos.specs.declared.item.Item.{Item}
-use Rattle.baos.specs.Datapoint.{sizeOf, limitOf, unusedBitsOk, isValue, valueOf, datapointOk, withValid, withoutUpdated, withRequest, withStatus, fromBus, withState, withValue, withMark, handedOut, busValue, outcome, commanded}
+use Rattle.baos.specs.Datapoint.{sizeOf, unusedBitsOk, isValue, valueOf, datapointOk, withValid, withoutUpdated, withRequest, withStatus, fromBus, withState, withValue, withMark, handedOut, busValue, outcome, commanded}
 use Rattle.baos.specs.Item.{itemOk, withBytes}
 
 -- ---- the state byte

@@ -1,19 +1,20 @@
 -- A law for each answer of the code of a set entry; values kept in a record's memory.
 use Prim.Native.Nat.{ℕ, zero, suc, _+_, _-_, _/_, _%_, _≤_, _<_}
 use mathlib.Core.Path.{_≡_, refl, _∙_, ap}
-use mathlib.Core.Bool.{true, false}
+use mathlib.Core.Bool.{Bool, true, false, _||_}
 use mathlib.Core.List.{List, [], _∷_, _++_}
 use native.Mathlib.Omega.{arith}
 use lib.ListN.{length, getD, take, drop, replicate}
 use lib.Seq.{sets, length-take-le, take-suc}
-use borrow.Author.Tests.{lt-ltb, le-ltb, eq-eqb, ne-eqb}
+use lib.Dec.{eqb}
+use borrow.Author.Tests.{eq-eqb, ne-eqb}
 use Rattle.words.specs.Words.{pad, put, isEmpty}
 use Rattle.words.proofs.ByteLaws.{put-sets, put-put}
 use Rattle.baos.specs.declared.datapoint.Datapoint.{Datapoint}
 use Rattle.baos.specs.declared.item.Item.{Item}
 use Rattle.baos.specs.Datapoint.{sizeOf, valueOf, unusedBitsOk}
 use Rattle.baos.specs.Get.{valueEntry}
-use Rattle.baos.specs.Set.{itemCode, datapointCode}
+use Rattle.baos.specs.Set.{itemCode, takesCommand, datapointCode}
 
 -- ---- a value in memory that was 0
 drop-zeros : (k n : ℕ) → drop {A = ℕ} k (replicate n 0) ≡ replicate (n - k) 0
@@ -34,34 +35,38 @@ not-empty : (v : List ℕ) → (length v ≡ 0 → ⊥) → isEmpty v ≡ false
 not-empty [] n = absurd (n refl)
 not-empty (x ∷ v) n = refl
 
+or-last : (a : Bool) → (a || true) ≡ true
+or-last true = refl
+or-last false = refl
+
 module _ (d : Datapoint) (c : ℕ) (v : List ℕ) where
-  pub code-of-command : 5 < c → datapointCode d c v ≡ 8
+  pub code-of-command : takesCommand c ≡ false → datapointCode d c v ≡ 8
   unfolding datapointCode
-  code-of-command h = simp (lt-ltb 5 c h)
+  code-of-command h = simp h
 
-  pub code-of-none-1 : c ≡ 1 → length v ≡ 0 → datapointCode d c v ≡ 9
+  pub code-of-none-1 : takesCommand c ≡ true → c ≡ 1 → length v ≡ 0 → datapointCode d c v ≡ 9
   unfolding datapointCode
-  code-of-none-1 e n = rw e (simp (is-empty v n))
+  code-of-none-1 h e n = simp (h, is-empty v n, eq-eqb c 1 e)
 
-  pub code-of-none-3 : c ≡ 3 → length v ≡ 0 → datapointCode d c v ≡ 9
+  pub code-of-none-3 : takesCommand c ≡ true → c ≡ 3 → length v ≡ 0 → datapointCode d c v ≡ 9
   unfolding datapointCode
-  code-of-none-3 e n = rw e (simp (is-empty v n))
+  code-of-none-3 h e n = simp (h, is-empty v n, eq-eqb c 3 e, or-last (eqb c 1))
 
-  pub code-of-none : c ≤ 5 → (c ≡ 1 → ⊥) → (c ≡ 3 → ⊥) → length v ≡ 0 → datapointCode d c v ≡ 0
+  pub code-of-none : takesCommand c ≡ true → (c ≡ 1 → ⊥) → (c ≡ 3 → ⊥) → length v ≡ 0 → datapointCode d c v ≡ 0
   unfolding datapointCode
-  code-of-none h n1 n3 n = simp (le-ltb 5 c h, is-empty v n, ne-eqb c 1 n1, ne-eqb c 3 n3)
+  code-of-none h n1 n3 n = simp (h, is-empty v n, ne-eqb c 1 n1, ne-eqb c 3 n3)
 
-  pub code-of-size : c ≤ 5 → (length v ≡ 0 → ⊥) → (length v ≡ sizeOf (d .typecode) → ⊥) → datapointCode d c v ≡ 9
+  pub code-of-size : takesCommand c ≡ true → (length v ≡ 0 → ⊥) → (length v ≡ sizeOf (d .typecode) → ⊥) → datapointCode d c v ≡ 9
   unfolding datapointCode
-  code-of-size h n k = simp (le-ltb 5 c h, not-empty v n, ne-eqb (length v) (sizeOf (d .typecode)) k)
+  code-of-size h n k = simp (h, not-empty v n, ne-eqb (length v) (sizeOf (d .typecode)) k)
 
-  pub code-of-bits : c ≤ 5 → (length v ≡ 0 → ⊥) → length v ≡ sizeOf (d .typecode) → unusedBitsOk (d .typecode) v ≡ false → datapointCode d c v ≡ 8
+  pub code-of-bits : takesCommand c ≡ true → (length v ≡ 0 → ⊥) → length v ≡ sizeOf (d .typecode) → unusedBitsOk (d .typecode) v ≡ false → datapointCode d c v ≡ 8
   unfolding datapointCode
-  code-of-bits h n k u = simp (le-ltb 5 c h, not-empty v n, eq-eqb (length v) (sizeOf (d .typecode)) k, u)
+  code-of-bits h n k u = simp (h, not-empty v n, eq-eqb (length v) (sizeOf (d .typecode)) k, u)
 
-  pub code-of-value : c ≤ 5 → (length v ≡ 0 → ⊥) → length v ≡ sizeOf (d .typecode) → unusedBitsOk (d .typecode) v ≡ true → datapointCode d c v ≡ 0
+  pub code-of-value : takesCommand c ≡ true → (length v ≡ 0 → ⊥) → length v ≡ sizeOf (d .typecode) → unusedBitsOk (d .typecode) v ≡ true → datapointCode d c v ≡ 0
   unfolding datapointCode
-  code-of-value h n k u = simp (le-ltb 5 c h, not-empty v n, eq-eqb (length v) (sizeOf (d .typecode)) k, u)
+  code-of-value h n k u = simp (h, not-empty v n, eq-eqb (length v) (sizeOf (d .typecode)) k, u)
 
 module _ (i : Item) (v : List ℕ) where
   pub code-of-fixed : i .writable ≡ false → itemCode i v ≡ 4

@@ -1,7 +1,7 @@
 -- The two passes over a table that gather entries: where IDs rise, ending at the first record behind the range leaves nothing out.
 use Prim.Native.Nat.{ℕ, zero, suc, _+_, _-_, _≤_, _<_}
 use mathlib.Core.Path.{_≡_, refl, sym, _∙_, ap}
-use mathlib.Core.Bool.{Bool, true, false, not, _&&_, _||_}
+use mathlib.Core.Bool.{Bool, true, false, _&&_, _||_}
 use mathlib.Core.List.{List, [], _∷_, _++_, map, flatten}
 use native.Mathlib.Omega.{arith}
 use lib.ListN.{length, getD, take, drop, length-append, length-map, take-append-drop}
@@ -15,9 +15,9 @@ use Rattle.baos.specs.declared.inner.Wanted.{Wanted}
 use Rattle.baos.specs.declared.inner.Gathered.{Gathered}
 use Rattle.baos.specs.Datapoint.{datapointId, handedOut}
 use Rattle.baos.specs.Item.{itemId}
-use Rattle.baos.specs.Table.{Tables, rising}
-use Rattle.baos.specs.Message.{startOf, numberOf, filterOf, fine, bad}
-use Rattle.baos.specs.Get.{AnswerEntry, overflow, roomForEntries, listing, getFinding, inRequest, itemEntry, descriptionEntry, valueEntry, passes, asked, handingOut}
+use Rattle.baos.specs.Table.{rising}
+use Rattle.baos.specs.Message.{startOf, numberOf, filterOf}
+use Rattle.baos.specs.Get.{AnswerEntry, overflow, roomForEntries, listing, inRequest, itemEntry, descriptionEntry, valueEntry, passes, asked}
 use Rattle.baos.specs.Inner.Gather.{isBehind, isWithin, isWanted, entryOf, leftOf, ended, withEntry, measured, walked, nothingGathered, built, left}
 
 -- ---- rising IDs taken apart
@@ -163,10 +163,6 @@ before idOf wanted over x = wanted x && noneOrAbove (idOf x) over
 and-false : (a : Bool) → (a && false) ≡ false
 and-false true = refl
 and-false false = refl
-
-positive-of : (n : ℕ) → (n ≡ 0 → ⊥) → 1 ≤ n
-positive-of zero f = absurd (f refl)
-positive-of (suc n) f = omega arith
 
 before-all : {A : Type 0} (idOf : A → ℕ) (wanted : A → Bool) (over : ℕ) → over ≡ 0 → (xs : List A) → keep (before idOf wanted over) xs ≡ keep wanted xs
 before-all idOf wanted over e [] = refl
@@ -317,24 +313,6 @@ module _ {A : Type 0} (idOf : A → ℕ) (wanted : A → Bool) (entry : A → An
     pub over-none : overflow (roomForEntries - g .size) (map entry (keep wanted xs)) ≡ [] → walked measuring g xs .over ≡ 0
     over-none e = measure .over ∙ ap (λ (ids : List ℕ). getD ids 0 0) e
 
-    pub over-some : (id : ℕ) → overflow (roomForEntries - g .size) (map entry (keep wanted xs)) ≡ id ∷ [] → (walked measuring g xs .over ≡ id) × (1 ≤ id)
-    over-some id e = (p, go)
-      where
-        p : outcome .over ≡ id
-        p = measure .over ∙ ap (λ (ids : List ℕ). getD ids 0 0) e
-
-        q : eqb (outcome .over) 0 ≡ false
-        q = over-decides ∙ ap (λ (ids : List ℕ). isEmpty ids) e
-
-        go : 1 ≤ id
-        go = let n : (outcome .over ≡ 0 → ⊥) = eqb-false (outcome .over) 0 q in positive-of id (λ z. n (p ∙ z))
-
-    pub count-all : walked measuring g xs .over ≡ 0 → walked measuring g xs .count ≡ g .count + length (keep wanted xs)
-    count-all e = measure .count ∙ ap (λ (ys : List A). g .count + length ys) (before-all idOf wanted (outcome .over) e xs)
-
-    pub size-all : walked measuring g xs .over ≡ 0 → walked measuring g xs .size ≡ g .size + length (entryBytes (map entry (keep wanted xs)))
-    size-all e = measure .size ∙ ap (λ (ys : List A). g .size + length (entryBytes (map entry ys))) (before-all idOf wanted (outcome .over) e xs)
-
 -- ---- a pass may begin behind records that are in front of the range
 abbrev pub inFront : {A : Type 0} → (A → ℕ) → ℕ → A → Bool
 inFront idOf start x = ltb (idOf x) start
@@ -399,17 +377,6 @@ pub record Passed (es : List AnswerEntry) (g : Gathered) (bytes : List ℕ) : Ty
   pub count : g .over ≡ 0 → g .count ≡ length es
   pub size : g .over ≡ 0 → g .size ≡ length (entryBytes es)
   pub built : bytes ≡ entryBytes es
-
--- rows 2 and 3, from the first pass alone
-pub passed-finding : (es : List AnswerEntry) (g : Gathered) (bytes : List ℕ) → Passed es g bytes → (size : ℕ) (badFilter : Bool) (m : List ℕ)
-    → getFinding size badFilter m es
-    ≡ (if not (eqb (length m) size) then bad (startOf m) 10
-    else if eqb (numberOf m) 0 || badFilter then bad (startOf m) 6
-    else if eqb (g .count) 0 && eqb (g .over) 0 then bad (startOf m) 2
-    else if eqb (g .over) 0 then fine
-    else bad (g .over) 3)
-unfolding getFinding
-passed-finding es g bytes p size badFilter m = rw (p .empty, p .fits, p .over)
 
 -- where all entries fit, the listing is the head with their number, and the bytes built
 pub passed-listing : (es : List AnswerEntry) (g : Gathered) (bytes : List ℕ) → Passed es g bytes → g .over ≡ 0 → (sub start : ℕ)
@@ -605,14 +572,3 @@ module _ (m : List ℕ) (k : ℕ) where
   items-asked-pass filter values is rises front =
       rw (← keep-same (λ (i : Item). isWithin (wantedBy m filter values) (i .id)) (λ (i : Item). inRequest m (i .id)) (λ i. unfold isWithin inRequest in refl) is)
       (items-pass (wantedBy m filter values) (omega arith) k is rises front)
-
-  -- the tables after GetDatapointValue
-  pub handed-out-left : (t : Tables) → T (rising 0 (map datapointId (t .datapoints))) → T (every (inFront datapointId (startOf m)) (take k (t .datapoints)))
-      → handingOut m t
-      ≡ record {
-        datapoints = take k (t .datapoints) ++ datapointsLeft (wantedBy m (filterOf m) true) (drop k (t .datapoints));
-        items = t .items;
-        parameters = t .parameters;
-      }
-  unfolding handingOut
-  handed-out-left t rises front = rw (values-left (t .datapoints) rises front)

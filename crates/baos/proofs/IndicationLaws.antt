@@ -5,7 +5,7 @@ use mathlib.Core.Bool.{Bool, true, false, not}
 use mathlib.Core.List.{List, [], _∷_, _++_, map, flatten, append-assoc}
 use native.Mathlib.Omega.{arith}
 use lib.ListN.{length, getD, set, take, drop, length-append, length-take, length-map, length-set, drop-of-length-le, take-append-drop}
-use lib.Seq.{drop-at, length-take-le}
+use lib.Seq.{drop-at}
 use lib.Dec.{T, leb, ltb}
 use borrow.Author.Tests.{lt-leb, le-leb, leb-true, ltb-true, ltb-false}
 use Rattle.words.specs.Words.{put, twoBytes, every}
@@ -14,12 +14,12 @@ use Rattle.ft12.proofs.EventLaws.{put-none}
 use Rattle.walks.proofs.Branches.{no-T}
 use Rattle.baos.specs.declared.datapoint.Datapoint.{Datapoint}
 use Rattle.baos.specs.declared.inner.Told.{Told}
-use Rattle.baos.specs.Datapoint.{sizeOf, valueOf, datapointId, datapointOk, withMark, handedOut, zeroDatapoint}
+use Rattle.baos.specs.Datapoint.{sizeOf, datapointId, datapointOk, withMark, handedOut, zeroDatapoint}
 use Rattle.baos.specs.Table.{tableOk, datapointsOnly}
 use Rattle.baos.specs.Get.{roomForEntries, valueEntry, listing}
 use Rattle.baos.specs.Inner.Gather.{entriesTold}
 use Rattle.baos.specs.Indication.{needs, goes, roomAfter, Choice, choices, reported, afterReport, indicationOf, indication}
-use Rattle.baos.proofs.DatapointLaws.{parts, size-fits}
+use Rattle.baos.proofs.DatapointLaws.{parts}
 use Rattle.baos.proofs.AnswerLaws.{entries-fit}
 use Rattle.baos.proofs.WideLaws.{value-size}
 use Rattle.baos.proofs.PassLaws.{drop-next, take-next, take-set, drop-set, rest-ok, here-ok, code-fits, Putting, putting-all, putting-none, putting-next, entry-fits}

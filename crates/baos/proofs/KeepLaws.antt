@@ -1,25 +1,25 @@
 -- Well-formed tables stay well formed, whatever message is carried out and whatever is indicated.
-use Prim.Native.Nat.{ℕ, zero, suc, _+_, _-_, _≤_, _<_}
-use mathlib.Core.Path.{_≡_, refl, sym, _∙_, ap}
-use mathlib.Core.Bool.{Bool, true, false, not, _&&_, _||_}
-use mathlib.Core.List.{List, [], _∷_, _++_, map}
+use Prim.Native.Nat.{ℕ, suc, _-_}
+use mathlib.Core.Path.{_≡_, refl, ap}
+use mathlib.Core.Bool.{Bool, true, false, not, _||_}
+use mathlib.Core.List.{List, [], _∷_, map}
 use native.Mathlib.Omega.{arith}
-use lib.ListN.{length, getD, take, drop}
-use lib.Dec.{T, leb, ltb, eqb, eqb→eq}
-use borrow.Author.Tests.{eqb-true, eqb-false}
+use lib.ListN.{length, drop}
+use lib.Dec.{T, leb, eqb, eqb→eq}
 use Rattle.words.specs.Words.{if_then_else_, isEmpty, every}
-use Rattle.words.proofs.WordLaws.{left, right, both, parts3, join3, true-T, T-true, every-imp, every-true}
+use Rattle.words.proofs.WordLaws.{left, right, both, parts3, join3, T-true, every-imp, every-true}
 use Rattle.baos.specs.declared.datapoint.Datapoint.{Datapoint}
 use Rattle.baos.specs.declared.item.Item.{Item}
-use Rattle.baos.specs.Datapoint.{datapointId, datapointOk, sizeOf, unusedBitsOk, isValue, withState, withMark, handedOut, commanded}
+use Rattle.baos.specs.Datapoint.{datapointId, datapointOk, sizeOf, unusedBitsOk, isValue, withState, withMark, handedOut}
 use Rattle.baos.specs.Item.{itemId, itemOk, withBytes}
-use Rattle.baos.specs.Table.{Tables, rising, tableOk, wellFormed, found}
-use Rattle.baos.specs.Message.{mainService, subService, startOf, numberOf, filterOf, coded, Finding, fine, bad, Served, answerOf, afterOf, served}
+use Rattle.baos.specs.Table.{Tables, withDatapoints, rising, tableOk, wellFormed, found}
+use Rattle.baos.specs.Message.{startOf, numberOf, Finding, fine, bad, Served, afterOf, served}
 use Rattle.baos.specs.Get.{roomForEntries, getting, getServerItem, getDatapointDescription, asked, handingOut, getDatapointValue, getParameterByte}
-use Rattle.baos.specs.Set.{SetEntry, firstItemEntry, firstDatapointEntry, fills, setEntries, itemCode, datapointCode, judgedItem, judgedDatapoint, firstBad, setFinding, applied, setting, setItem, setServerItem, setDatapoint, setDatapointValue}
-use Rattle.baos.specs.Service.{service, unanswered, carriedOut}
+use Rattle.baos.specs.Set.{SetEntry, firstItemEntry, firstDatapointEntry, fills, setEntries, itemCode, takesCommand, datapointCode, judgedItem, judgedDatapoint, firstBad, setFinding, setting, setItem, setServerItem, setDatapoint, setDatapointValue}
+use Rattle.baos.specs.Service.{service, carriedOut}
 use Rattle.baos.specs.Indication.{goes, roomAfter, Choice, choices, reported, afterReport, indicationOf, indication}
 use Rattle.baos.proofs.TableLaws
+use Rattle.baos.proofs.DispatchLaws.{by-service, by-message}
 use Rattle.baos.proofs.DatapointLaws
 
 -- ---- the three tables
@@ -41,7 +41,7 @@ whole t p =
     (p .datapoints) (p .items) (p .parameters)
 
 -- other datapoints, the rest as it was
-pub with-datapoints : (t : Tables) (ds : List Datapoint) → T (wellFormed t) → T (tableOk 1000 datapointId datapointOk ds) → T (wellFormed (record { datapoints = ds; items = t .items; parameters = t .parameters }))
+pub with-datapoints : (t : Tables) (ds : List Datapoint) → T (wellFormed t) → T (tableOk 1000 datapointId datapointOk ds) → T (wellFormed (withDatapoints ds t))
 with-datapoints t ds w d = whole _ (record { datapoints = d; items = parts t w .items; parameters = parts t w .parameters })
 
 after-keeps : (f : Finding) (t t′ : Tables) → T (wellFormed t) → (f ≡ fine → T (wellFormed t′)) → T (wellFormed (afterOf f t t′))
@@ -143,9 +143,9 @@ datapointFits o d = if DatapointLaws.takesValue (o .command) then isValue (d .ty
 datapoint-judged : (o : SetEntry) (d : Datapoint) → T (eqb (judgedDatapoint (d ∷ []) o) 0) → T (datapointFits o d)
 unfolding judgedDatapoint datapointCode datapointFits DatapointLaws.takesValue isValue
 datapoint-judged o d t =
-    go (eqb (o .command) 1 || eqb (o .command) 3) (ltb 5 (o .command)) (isEmpty (o .value)) (eqb (length (o .value)) (sizeOf (d .typecode))) (unusedBitsOk (d .typecode) (o .value)) refl refl refl refl refl
+    go (eqb (o .command) 1 || eqb (o .command) 3) (not (takesCommand (o .command))) (isEmpty (o .value)) (eqb (length (o .value)) (sizeOf (d .typecode))) (unusedBitsOk (d .typecode) (o .value)) refl refl refl refl refl
   where
-    go : (a b c e f : Bool) → (eqb (o .command) 1 || eqb (o .command) 3) ≡ a → ltb 5 (o .command) ≡ b → isEmpty (o .value) ≡ c → eqb (length (o .value)) (sizeOf (d .typecode)) ≡ e → unusedBitsOk (d .typecode) (o .value) ≡ f → T (datapointFits o d)
+    go : (a b c e f : Bool) → (eqb (o .command) 1 || eqb (o .command) 3) ≡ a → not (takesCommand (o .command)) ≡ b → isEmpty (o .value) ≡ c → eqb (length (o .value)) (sizeOf (d .typecode)) ≡ e → unusedBitsOk (d .typecode) (o .value) ≡ f → T (datapointFits o d)
     go false b c e f p1 p2 p3 p4 p5 = simp p1 tt
     go true true c e f p1 p2 p3 p4 p5 = absurd (simp p2 at t)
     go true false true e f p1 p2 p3 p4 p5 = absurd (simp (p2, p3, p1) at t)
@@ -177,25 +177,19 @@ values-keep t m w =
 
 -- ---- every message
 service-keeps : (t : Tables) (m : List ℕ) → T (wellFormed t) → T (wellFormed (service t m .after))
-unfolding service getServerItem getDatapointDescription getDatapointValue getParameterByte getting served
-service-keeps t m w = go (eqb (subService m) 1) (eqb (subService m) 2) (eqb (subService m) 3) (eqb (subService m) 5) (eqb (subService m) 6) (eqb (subService m) 7) refl refl refl refl refl refl
-  where
-    go : (a b c d e f : Bool) → eqb (subService m) 1 ≡ a → eqb (subService m) 2 ≡ b → eqb (subService m) 3 ≡ c → eqb (subService m) 5 ≡ d → eqb (subService m) 6 ≡ e → eqb (subService m) 7 ≡ f → T (wellFormed (service t m .after))
-    go true b c d e f e1 e2 e3 e5 e6 e7 = simp e1 (after-keeps _ t t w (λ p. w))
-    go false true c d e f e1 e2 e3 e5 e6 e7 = simp (e1, e2) (items-keep t m w)
-    go false false true d e f e1 e2 e3 e5 e6 e7 = simp (e1, e2, e3) (after-keeps _ t t w (λ p. w))
-    go false false false true e f e1 e2 e3 e5 e6 e7 = simp (e1, e2, e3, e5) (after-keeps _ t _ w (λ p. out-keeps m t w))
-    go false false false false true f e1 e2 e3 e5 e6 e7 = simp (e1, e2, e3, e5, e6) (values-keep t m w)
-    go false false false false false true e1 e2 e3 e5 e6 e7 = simp (e1, e2, e3, e5, e6, e7) (after-keeps _ t t w (λ p. w))
-    go false false false false false false e1 e2 e3 e5 e6 e7 = simp (e1, e2, e3, e5, e6, e7) w
+unfolding getServerItem getDatapointDescription getDatapointValue getParameterByte getting served
+service-keeps t m w =
+    by-service (λ (s : Served). T (wellFormed (s .after))) t m
+    (λ e. after-keeps _ t t w (λ p. w))
+    (λ e. items-keep t m w)
+    (λ e. after-keeps _ t t w (λ p. w))
+    (λ e. after-keeps _ t _ w (λ p. out-keeps m t w))
+    (λ e. values-keep t m w)
+    (λ e. after-keeps _ t t w (λ p. w))
+    w
 
 pub carried-out-keeps : (t : Tables) (m : List ℕ) → T (wellFormed t) → T (wellFormed (carriedOut t m .after))
-unfolding carriedOut
-carried-out-keeps t m w = go (unanswered m) refl
-  where
-    go : (u : Bool) → unanswered m ≡ u → T (wellFormed (carriedOut t m .after))
-    go true e = simp e w
-    go false e = simp e (service-keeps t m w)
+carried-out-keeps t m w = by-message (λ (s : Served). T (wellFormed (s .after))) t m w (service-keeps t m w)
 
 -- ---- the indication
 told : Choice → Datapoint

@@ -7,13 +7,13 @@ use native.Mathlib.Omega.{arith}
 use lib.ListN.{length, drop, length-drop}
 use lib.Seq.{drop-drop}
 use borrow.Author.Tests.{eq-eqb, eqb-true}
-use lib.Dec.{T, leb, ltb, eqb, leb→le, le→leb}
+use lib.Dec.{T, leb, eqb, leb→le, le→leb}
 use Rattle.words.specs.Words.{if_then_else_, every, isEmpty, isPadded, areZero}
 use Rattle.words.proofs.WordLaws.{left, right, true-T, T-true}
 use Rattle.baos.specs.declared.datapoint.Datapoint.{Datapoint}
 use Rattle.baos.specs.declared.item.Item.{Item}
 use Rattle.baos.specs.Message.{Finding, bad, verdictOf, fine}
-use Rattle.baos.specs.Set.{SetEntry, span, fills, setEntries, firstBad, applied, allShort, setDatapoint, setItem, datapointCode, itemCode, judgedDatapoint, judgedItem}
+use Rattle.baos.specs.Set.{SetEntry, span, fills, setEntries, firstBad, applied, allShort, setDatapoint, setItem, takesCommand, datapointCode, itemCode, judgedDatapoint, judgedItem}
 use Rattle.baos.specs.Datapoint.{datapointId, sizeOf, unusedBitsOk}
 use Rattle.baos.specs.Item.{itemId, itemOk, withBytes}
 use Rattle.baos.specs.Table.{rising, tableOk, found, changed}
@@ -159,7 +159,7 @@ by-tests over empty sized taken clear = if over then 8 else if empty then (if ta
 short-datapoint : (ds : List Datapoint) (e : SetEntry) → judgedDatapoint ds e ≡ 0 → T (leb (length (e .value)) 14)
 unfolding judgedDatapoint datapointCode
 short-datapoint [] e z = absurd (omega (arith, z))
-short-datapoint (d ∷ ds) e z = go (ltb 5 (e .command)) (isEmpty (e .value)) (eqb (length (e .value)) (sizeOf (d .typecode))) refl refl z
+short-datapoint (d ∷ ds) e z = go (not (takesCommand (e .command))) (isEmpty (e .value)) (eqb (length (e .value)) (sizeOf (d .typecode))) refl refl z
   where
     empty : (v : List ℕ) → isEmpty v ≡ true → T (leb (length v) 14)
     empty [] q = tt

@@ -4,6 +4,7 @@ pub mod AnsweredLaws
 pub mod ApplyLaws
 pub mod CarryJoins
 pub mod DatapointLaws
+pub mod DispatchLaws
 pub mod EntriesLaws
 pub mod EntryLaws
 pub mod FieldsFit
@@ -12,6 +13,7 @@ pub mod GatherLaws
 pub mod GetLaws
 pub mod IndicationLaws
 pub mod KeepLaws
+pub mod LastLaws
 pub mod LeftLaws
 pub mod MeasureLaws
 pub mod Pairs

@@ -8,7 +8,7 @@ use lib.ListN.{length}
 use lib.Seq.{length-take-le}
 use lib.Dec.{T, nleb→lt}
 use borrow.Author.Tests.{lt-ltb, le-ltb, le-leb, leb-false, eq-eqb, ne-eqb}
-use Rattle.baos.specs.Datapoint.{sizeOf, valueOf, handedOut}
+use Rattle.baos.specs.Datapoint.{sizeOf, handedOut}
 use Rattle.baos.specs.Inner.Gather.{filterAsked, sizeAsked, requestFinding, isBehind, isWithin, isWanted, entryOf, leftOf, ended, withEntry, measured}
 use Rattle.baos.specs.Get.{AnswerEntry, itemEntry, descriptionEntry, valueEntry, passes}
 use Rattle.baos.specs.Item.{bytesOf}

@@ -3,12 +3,12 @@ use mathlib.Core.Path.{_≡_, refl, sym, _∙_, ap, subst}
 use Prim.Native.Nat.{ℕ, zero, suc, _<_, _≤_}
 use native.Mathlib.Omega.{arith}
 use native.Mathlib.Nat.{not-suc-le-zero, le-of-suc-le-suc}
-use mathlib.Core.Bool.{Bool, true, false, not, _&&_}
+use mathlib.Core.Bool.{Bool, true, false, _&&_}
 use mathlib.Core.List.{List, [], _∷_, map}
 use lib.ListN.{length, getD, set, drop}
 use lib.Dec.{T, leb, ltb, eqb, ltb→lt, lt→ltb, leb→le, le→leb}
 use borrow.Author.Tests.{lt-ltb, le-ltb, ltb-true, ltb-false, ne-eqb}
-use Rattle.words.specs.Words.{if_then_else_, isEmpty, every}
+use Rattle.words.specs.Words.{if_then_else_, every}
 use Rattle.words.proofs.WordLaws.{left, right, both, parts3, true-T, same-test}
 use Rattle.baos.specs.Table.{rising, tableOk, found, changed, place}
 
@@ -48,10 +48,6 @@ module _ {A : Type 0} (idOf : A → ℕ) (blank : A) where
   rises last (x ∷ xs) t i zero u l = absurd (not-suc-le-zero u)
   rises last (x ∷ xs) t zero (suc j) u l = above (idOf x) xs (rest-rises last x xs t) j (le-of-suc-le-suc l)
   rises last (x ∷ xs) t (suc i) (suc j) u l = rises (idOf x) xs (rest-rises last x xs t) i j (le-of-suc-le-suc u) (le-of-suc-le-suc l)
-
-  pub ok-rises : (most : ℕ) (ok : A → Bool) (xs : List A) → T (tableOk most idOf ok xs) → Rising xs
-  unfolding tableOk
-  ok-rises most ok xs t = rises 0 xs (parts3 (leb (length xs) most) (rising 0 (map idOf xs)) (every ok xs) t .1)
 
   pub ok-few : (most : ℕ) (ok : A → Bool) (xs : List A) → T (tableOk most idOf ok xs) → length xs ≤ most
   unfolding tableOk
@@ -169,14 +165,6 @@ module _ {A : Type 0} (idOf : A → ℕ) (blank : A) where
       go false false e d r =
           simp (e, d, place-none n (idOf x) xs (rest-rises last x xs t) (ltb-false (idOf x) n e))
           (found-none n (idOf x) xs (rest-rises last x xs t) (ltb-false (idOf x) n e) ∙ sym (neither (ltb 0 (length (x ∷ xs))) (x ∷ []) []))
-
-  -- an ID is absent exactly if the record at its place has another, or there is none
-  pub absent-at : (n last : ℕ) (xs : List A) → T (rising last (map idOf xs)) → isEmpty (found idOf n xs) ≡ not (stands n xs)
-  absent-at n last xs t = ap isEmpty (found-at n last xs t) ∙ go (stands n xs)
-    where
-      go : (u : Bool) → isEmpty (if u then getD xs (place idOf n xs) blank ∷ [] else []) ≡ not u
-      go true = refl
-      go false = refl
 
   -- `changed` is `set` at the place, if the record there has the ID
   pub changed-at : (n : ℕ) (f : A → A) (last : ℕ) (xs : List A) → T (rising last (map idOf xs))

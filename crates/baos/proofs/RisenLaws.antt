@@ -38,12 +38,16 @@ twice : (y : Bool) → not (not y) ≡ y
 twice true = refl
 twice false = refl
 
+-- the answer y of a test, turned round
+pub turned : {p y b : Bool} → y ≡ p → not y ≡ b → p ≡ not b
+turned {y = y} e n = sym e ∙ sym (twice y) ∙ ap not n
+
 -- a test of several parts, part by part, where y was the part's answer: it fails, or it holds and the rest decides
 pub stops-at : {p y : Bool} (s : Bool) → y ≡ p → not y ≡ true → false ≡ p && s
-stops-at {y = y} s e fails = sym (ap (λ (z : Bool). z && s) (sym e ∙ sym (twice y) ∙ ap not fails))
+stops-at s e fails = sym (ap (λ (z : Bool). z && s) (turned e fails))
 
 pub and-also : {p y s r : Bool} → y ≡ p → not y ≡ false → r ≡ s → r ≡ p && s
-and-also {y = y} {s = s} e holds rest = rest ∙ sym (ap (λ (z : Bool). z && s) (sym e ∙ sym (twice y) ∙ ap not holds))
+and-also {s = s} e holds rest = rest ∙ sym (ap (λ (z : Bool). z && s) (turned e holds))
 
 module _ {A : Type 0} (idOf : A → ℕ) (ok : A → Bool) where
   -- the record may stand behind one with the ID `last`

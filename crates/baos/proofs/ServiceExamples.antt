@@ -1,12 +1,11 @@
 -- A reading is handed out once: the state byte is shown as it was, then bit 3 is cleared, and a second request for updated readings finds none.
 use Prim.Native.Nat.{ℕ}
 use mathlib.Core.Path.{_≡_, refl}
-use mathlib.Core.Bool.{Bool, true, false}
+use mathlib.Core.Bool.{true}
 use mathlib.Core.List.{List, [], _∷_, flatten}
 use Rattle.words.specs.Words.{pad}
-use Rattle.baos.specs.declared.datapoint.Datapoint.{Datapoint}
 use Rattle.baos.specs.Datapoint.{sizeOf, valueOf, withState, handedOut}
-use Rattle.baos.specs.Table.{Tables}
+use Rattle.baos.specs.Table.{Tables, datapointsOnly}
 use Rattle.baos.specs.Message.{mainService, subService, startOf, numberOf, filterOf, coded, answerOf, afterOf, served}
 use Rattle.baos.specs.Get.{inRequest, overflow, listing, getFinding, getting, valueEntry, passes, asked, handingOut, getDatapointValue}
 use Rattle.baos.specs.Service.{service, unanswered, carriedOut}
@@ -14,11 +13,7 @@ use Rattle.baos.specs.Service.{service, unanswered, carriedOut}
 -- datapoint 5, one byte, valid, with this state
 unfoldable reading : ℕ → Tables
 reading state =
-    record {
-      datapoints = record { id = 5; typecode = 7; flags = 0; dpt = 5; state = state; value = pad 14 (0x2A ∷ []); mark = true } ∷ [];
-      items = [];
-      parameters = [];
-    }
+    datapointsOnly (record { id = 5; typecode = 7; flags = 0; dpt = 5; state = state; value = pad 14 (0x2A ∷ []); mark = true } ∷ [])
 
 -- GetDatapointValue from 1 on, up to 9 of them, updated ones only
 unfoldable updatedOnly : List ℕ

@@ -6,14 +6,15 @@ use mathlib.Core.List.{List, [], _∷_, map}
 use native.Mathlib.Omega.{arith}
 use lib.ListN.{length, getD, drop, length-map}
 use lib.Dec.{leb, ltb, eqb}
-use borrow.Author.Tests.{eq-eqb, ne-eqb, ltb-false, eqb-true, leb-false}
+use borrow.Author.Tests.{eq-eqb, ne-eqb, ltb-false, leb-false}
 use Rattle.words.specs.Words.{if_then_else_, keep}
 use Rattle.words.proofs.WordLaws.{true-T}
 use Rattle.baos.specs.declared.datapoint.Datapoint.{Datapoint}
 use Rattle.baos.specs.declared.item.Item.{Item}
 use Rattle.baos.specs.Datapoint.{datapointId, zeroDatapoint, withState, handedOut}
 use Rattle.baos.specs.Item.{itemId}
-use Rattle.baos.specs.Table.{Tables, found, datapointsOnly, itemsOnly, parametersOnly}
+use Rattle.baos.specs.Table.{Tables, found, datapointsOnly, itemsOnly, parametersOnly, withDatapoints, withItems}
+use Rattle.baos.proofs.TableLaws.{same-tables}
 use Rattle.baos.specs.Message.{mainService, subService, startOf, numberOf, filterOf, coded, Finding, fine, bad, Served, answerOf, afterOf, served}
 use Rattle.baos.specs.Get.{AnswerEntry, inRequest, listing, getFinding, getting, itemEntry, descriptionEntry, valueEntry, asked, parameterEntries, getServerItem, getDatapointDescription, handingOut, getDatapointValue, getParameterByte}
 use Rattle.baos.specs.Set.{SetEntry, firstItemEntry, firstDatapointEntry, setEntries, setFinding, judgedItem, judgedDatapoint, setting, setServerItem, setDatapointValue}
@@ -94,10 +95,6 @@ module _ (t : Tables) (m : List ℕ) where
   unfolding getServerItem getting served
   items-leave-all = after-all _ t
 
-  pub items-after : getServerItem t m .after .items ≡ getServerItem (itemsOnly (t .items)) m .after .items
-  unfolding getServerItem getting served
-  items-after = after-same itemsOf _ t t (itemsOnly (t .items)) (itemsOnly (t .items)) refl refl
-
   pub set-items-say : setServerItem t m .says ≡ setServerItem (itemsOnly (t .items)) m .says
   unfolding setServerItem setting served
   set-items-say = refl
@@ -122,33 +119,29 @@ module _ (t : Tables) (m : List ℕ) where
   unfolding getParameterByte getting served
   parameters-leave-all = after-all _ t
 
-  pub descriptions-leave-all : getDatapoints false t m .after ≡ t
-  unfolding getDatapoints getDatapointDescription getting served
-  descriptions-leave-all = after-all _ t
-
   -- each service as a whole, by what it does with its own table
   pub get-datapoints-whole : (values : Bool)
       → getDatapoints values t m
       ≡ record {
         says = getDatapoints values (datapointsOnly (t .datapoints)) m .says;
-        after = record { datapoints = getDatapoints values (datapointsOnly (t .datapoints)) m .after .datapoints; items = t .items; parameters = t .parameters };
+        after = withDatapoints (getDatapoints values (datapointsOnly (t .datapoints)) m .after .datapoints) t;
       }
   get-datapoints-whole values =
       λ i. record {
         says = datapoints-say values i;
-        after = record { datapoints = datapoints-after values i; items = datapoints-keep-items values i; parameters = datapoints-keep-parameters values i };
+        after = same-tables (datapoints-after values) (datapoints-keep-items values) (datapoints-keep-parameters values) i;
       }
 
   pub set-datapoints-whole :
       setDatapointValue t m
       ≡ record {
         says = setDatapointValue (datapointsOnly (t .datapoints)) m .says;
-        after = record { datapoints = setDatapointValue (datapointsOnly (t .datapoints)) m .after .datapoints; items = t .items; parameters = t .parameters };
+        after = withDatapoints (setDatapointValue (datapointsOnly (t .datapoints)) m .after .datapoints) t;
       }
   set-datapoints-whole =
       λ i. record {
         says = set-datapoints-say i;
-        after = record { datapoints = set-datapoints-after i; items = set-datapoints-keep-items i; parameters = set-datapoints-keep-parameters i };
+        after = same-tables set-datapoints-after set-datapoints-keep-items set-datapoints-keep-parameters i;
       }
 
   pub get-items-whole : getServerItem t m ≡ record { says = getServerItem (itemsOnly (t .items)) m .says; after = t }
@@ -158,12 +151,12 @@ module _ (t : Tables) (m : List ℕ) where
       setServerItem t m
       ≡ record {
         says = setServerItem (itemsOnly (t .items)) m .says;
-        after = record { datapoints = t .datapoints; items = setServerItem (itemsOnly (t .items)) m .after .items; parameters = t .parameters };
+        after = withItems (setServerItem (itemsOnly (t .items)) m .after .items) t;
       }
   set-items-whole =
       λ i. record {
         says = set-items-say i;
-        after = record { datapoints = set-items-keep-datapoints i; items = set-items-after i; parameters = set-items-keep-parameters i };
+        after = same-tables set-items-keep-datapoints set-items-after set-items-keep-parameters i;
       }
 
   pub get-parameters-whole : getParameterByte t m ≡ record { says = getParameterByte (parametersOnly (t .parameters)) m .says; after = t }
@@ -187,14 +180,8 @@ module _ (m : List ℕ) (u : unanswered m ≡ false) where
   pub answered-long : 6 ≤ length m
   answered-long = omega (arith, ltb-false (length m) 6 (three .0))
 
-  pub answered-main : mainService m ≡ 0xF0
-  answered-main = eqb-true (mainService m) 0xF0 (three .1)
-
   pub answered-sub : subService m < 0x80
   answered-sub = omega (arith, leb-false 0x80 (subService m) (three .2))
-
-  pub answered-shape : (6 ≤ length m) × (subService m < 0x80)
-  answered-shape = (answered-long, answered-sub)
 
 -- ---- which service a sub-service is
 module _ (t : Tables) (m : List ℕ) (u : unanswered m ≡ false) where

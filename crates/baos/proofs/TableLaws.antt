@@ -1,17 +1,17 @@
 -- Tables of records with rising IDs: one set of laws for items and datapoints.
-use Prim.Native.Nat.{ℕ, zero, suc, _+_, _-_, _≤_, _<_}
-use mathlib.Core.Path.{_≡_, refl, sym, _∙_, ap}
+use Prim.Native.Nat.{ℕ, zero, suc, _-_, _≤_, _<_}
+use mathlib.Core.Path.{_≡_, refl}
 use mathlib.Core.Logic.{_↔_}
-use mathlib.Core.Bool.{Bool, true, false, not, _&&_}
-use mathlib.Core.List.{List, [], _∷_, _++_, map}
+use mathlib.Core.Bool.{Bool, true, false}
+use mathlib.Core.List.{List, [], _∷_, map}
 use native.Mathlib.Omega.{arith}
 use native.Mathlib.Nat.{not-suc-le-zero, le-of-suc-le-suc}
 use lib.ListN.{length, getD, length-map}
 use lib.Dec.{T, leb, ltb, eqb, ltb→lt, lt→ltb}
 use borrow.Author.Tests.{ne-eqb, eqb-true}
 use Rattle.words.specs.Words.{if_then_else_, every}
-use Rattle.words.proofs.WordLaws.{left, right, both, parts3, join3, true-T}
-use Rattle.baos.specs.Table.{rising, Rises, tableOk, found, changed}
+use Rattle.words.proofs.WordLaws.{left, right, both, parts3, join3}
+use Rattle.baos.specs.Table.{Tables, rising, Rises, tableOk, found, changed}
 use Rattle.baos.specs.Set.{SetEntry, applied}
 
 -- ---- "IDs are 1 or more and strictly rise": the test decides it
@@ -72,6 +72,10 @@ module _ {A : Type 0} (idOf : A → ℕ) where
   pub ids-rise : (most : ℕ) (ok : A → Bool) (xs : List A) → T (tableOk most idOf ok xs) → T (rising 0 (map idOf xs))
   unfolding tableOk
   ids-rise most ok xs t = parts3 (leb (length xs) most) (rising 0 (map idOf xs)) (every ok xs) t .1
+
+  pub entries-ok : (most : ℕ) (ok : A → Bool) (xs : List A) → T (tableOk most idOf ok xs) → T (every ok xs)
+  unfolding tableOk
+  entries-ok most ok xs t = parts3 (leb (length xs) most) (rising 0 (map idOf xs)) (every ok xs) t .2
 
   -- the record of one ID changed by f
   pub table-changed : (most : ℕ) (ok fit : A → Bool) (n : ℕ) (f : A → A) → ((x : A) → idOf (f x) ≡ idOf x) → ((x : A) → T (fit x) → T (ok x) → T (ok (f x)))
@@ -144,3 +148,7 @@ module _ {A : Type 0} (idOf : A → ℕ) where
           both (every (at (p .id) (fit p)) (changed idOf (o .id) (f o) xs)) (every (λ r. every (at (r .id) (fit r)) (changed idOf (o .id) (f o) xs)) ps)
           (rw (fit-kept fit f h k o p xs) (left (every (at (p .id) (fit p)) xs) (every (λ r. every (at (r .id) (fit r)) xs) ps) q))
           (kept ps (right (every (at (p .id) (fit p)) xs) (every (λ r. every (at (r .id) (fit r)) xs) ps) q))
+
+-- ---- tables that have the same records are the same
+pub same-tables : {s t : Tables} → s .datapoints ≡ t .datapoints → s .items ≡ t .items → s .parameters ≡ t .parameters → s ≡ t
+same-tables d i p = λ k. record { datapoints = d k; items = i k; parameters = p k }

@@ -1,14 +1,13 @@
 -- An entry written with all of its value's memory: it is the entry and some bytes behind it, and those are gone when what follows is written.
-use Prim.Native.Nat.{ℕ, zero, suc, _+_, _-_, _/_, _%_, _≤_, _<_}
+use Prim.Native.Nat.{ℕ, _+_, _-_, _/_, _%_, _≤_}
 use mathlib.Core.Path.{_≡_, refl, sym, _∙_, ap}
 use mathlib.Core.Bool.{Bool, true, false}
 use mathlib.Core.List.{List, [], _∷_, _++_, append-assoc, append-nil}
-use native.Mathlib.Numerals.{towards-suc}
 use native.Mathlib.Omega.{arith}
-use lib.ListN.{length, getD, set, take, drop, length-drop, take-append-drop}
-use lib.Seq.{drop-cons, drop-drop, drop-append-add, length-take-le, take-append-seam}
+use lib.ListN.{length, take, drop, take-append-drop}
+use lib.Seq.{drop-drop, drop-append-add, length-take-le, take-append-seam}
 use Rattle.words.specs.Words.{if_then_else_, put}
-use Rattle.words.proofs.ByteLaws.{length-put, put-put, put-sets}
+use Rattle.words.proofs.ByteLaws.{length-put, put-put}
 use Rattle.baos.specs.declared.datapoint.Datapoint.{Datapoint}
 use Rattle.baos.specs.declared.inner.Wanted.{Wanted}
 use Rattle.baos.specs.Datapoint.{sizeOf, valueOf}

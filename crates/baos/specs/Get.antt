@@ -10,7 +10,7 @@ use Rattle.baos.specs.declared.datapoint.Datapoint.{Datapoint}
 use Rattle.baos.specs.declared.item.Item.{Item}
 use Rattle.baos.specs.Datapoint.{sizeOf, valueOf, isValid, isUpdated, handedOut}
 use Rattle.baos.specs.Item.{bytesOf}
-use Rattle.baos.specs.Table.{Tables}
+use Rattle.baos.specs.Table.{Tables, withDatapoints}
 use Rattle.baos.specs.Message.{subService, startOf, numberOf, filterOf, Finding, fine, bad, Served, served}
 
 -- an entry of an answer: whose ID it is, and its bytes
@@ -79,12 +79,7 @@ asked m d = inRequest m (d .id) && passes (filterOf m) d
 
 -- the datapoints that were asked for, handed out; all others as they are
 unfoldable pub handingOut : List ℕ → Tables → Tables
-handingOut m t =
-    record {
-      datapoints = map (λ (d : Datapoint). if asked m d then handedOut d else d) (t .datapoints);
-      items = t .items;
-      parameters = t .parameters;
-    }
+handingOut m t = withDatapoints (map (λ (d : Datapoint). if asked m d then handedOut d else d) (t .datapoints)) t
 
 unfoldable pub getDatapointValue : Tables → List ℕ → Served
 getDatapointValue t m = getting 7 (ltb 2 (filterOf m)) (map valueEntry (keep (asked m) (t .datapoints))) t (handingOut m t) m

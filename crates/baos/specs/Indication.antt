@@ -7,7 +7,7 @@ use lib.Dec.{leb}
 use Rattle.words.specs.Words.{if_then_else_, keep}
 use Rattle.baos.specs.declared.datapoint.Datapoint.{Datapoint}
 use Rattle.baos.specs.Datapoint.{withMark, handedOut}
-use Rattle.baos.specs.Table.{Tables}
+use Rattle.baos.specs.Table.{Tables, withDatapoints}
 use Rattle.baos.specs.Message.{Served}
 use Rattle.baos.specs.Get.{valueEntry, roomForEntries, listing}
 
@@ -51,5 +51,5 @@ unfoldable pub indication : Tables → Served
 indication t =
     record {
       says = indicationOf (reported (choices roomForEntries (t .datapoints)));
-      after = record { datapoints = afterReport (choices roomForEntries (t .datapoints)); items = t .items; parameters = t .parameters };
+      after = withDatapoints (afterReport (choices roomForEntries (t .datapoints))) t;
     }

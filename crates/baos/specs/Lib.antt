@@ -1,9 +1,9 @@
 pub mod Datapoint
-pub mod Get
-pub mod Indication
 pub mod Item
-pub mod Message
-pub mod Service
-pub mod Set
 pub mod Table
+pub mod Message
+pub mod Get
+pub mod Set
+pub mod Service
+pub mod Indication
 pub mod Inner

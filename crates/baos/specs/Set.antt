@@ -3,13 +3,13 @@ use Prim.Native.Nat.{ℕ, zero, suc, _+_, _-_}
 use mathlib.Core.Bool.{Bool, true, false, not, _&&_, _||_}
 use mathlib.Core.List.{List, [], _∷_}
 use lib.ListN.{length, getD, take, drop}
-use lib.Dec.{leb, ltb, eqb}
+use lib.Dec.{leb, eqb}
 use Rattle.words.specs.Words.{if_then_else_, ofTwoBytes, isEmpty, every}
 use Rattle.baos.specs.declared.datapoint.Datapoint.{Datapoint}
 use Rattle.baos.specs.declared.item.Item.{Item}
 use Rattle.baos.specs.Datapoint.{datapointId, sizeOf, unusedBitsOk, commanded}
 use Rattle.baos.specs.Item.{itemId, withBytes}
-use Rattle.baos.specs.Table.{Tables, found, changed}
+use Rattle.baos.specs.Table.{Tables, withDatapoints, withItems, found, changed}
 use Rattle.baos.specs.Message.{startOf, numberOf, coded, Finding, fine, bad, Served, served}
 
 -- an entry of a set request: an ID, a command (an item's entry has none: 0) and the bytes sent
@@ -47,11 +47,15 @@ itemCode i value =
     else if not (eqb (length value) (i .size)) then 9
     else 0
 
--- Rows 8, 9 and 8: the code of an entry for this datapoint. "command above 5, reserved bits included"; "datapoint length neither 0 nor the type's; or 0
--- with command 1 or 3"; "a value whose unused bits are set".
+-- "command above 5, reserved bits included": none of those is taken
+unfoldable pub takesCommand : ℕ → Bool
+takesCommand c = leb c 5
+
+-- Rows 8, 9 and 8: the code of an entry for this datapoint. "datapoint length neither 0 nor the type's; or 0 with command 1 or 3";
+-- "a value whose unused bits are set".
 unfoldable pub datapointCode : Datapoint → ℕ → List ℕ → ℕ
 datapointCode d command value =
-    if ltb 5 command then 8
+    if not (takesCommand command) then 8
     else if isEmpty value then (if eqb command 1 || eqb command 3 then 9 else 0)
     else if not (eqb (length value) (sizeOf (d .typecode))) then 9
     else if not (unusedBitsOk (d .typecode) value) then 8
@@ -94,7 +98,7 @@ setItem e i = withBytes (e .value) i
 unfoldable pub setServerItem : Tables → List ℕ → Served
 setServerItem t m =
     setting 3 firstItemEntry (λ e. judgedItem (found itemId (e .id) (t .items)) e)
-    (λ es. record { datapoints = t .datapoints; items = applied itemId setItem es (t .items); parameters = t .parameters }) t m
+    (λ es. withItems (applied itemId setItem es (t .items)) t) t m
 
 unfoldable pub setDatapoint : SetEntry → Datapoint → Datapoint
 setDatapoint e d = commanded (e .command) (e .value) d
@@ -102,7 +106,7 @@ setDatapoint e d = commanded (e .command) (e .value) d
 unfoldable pub setDatapointValue : Tables → List ℕ → Served
 setDatapointValue t m =
     setting 4 firstDatapointEntry (λ e. judgedDatapoint (found datapointId (e .id) (t .datapoints)) e)
-    (λ es. record { datapoints = applied datapointId setDatapoint es (t .datapoints); items = t .items; parameters = t .parameters }) t m
+    (λ es. withDatapoints (applied datapointId setDatapoint es (t .datapoints)) t) t m
 
 -- no entry has more bytes of value than a record has room for
 unfoldable pub allShort : ℕ → List SetEntry → Bool

@@ -18,15 +18,28 @@ pub record Tables : Type 0 where
 abbrev pub tablesOf : List Datapoint → List Item → List ℕ → Tables
 tablesOf ds is ps = record { datapoints = ds; items = is; parameters = ps }
 
+abbrev pub noTables : Tables
+noTables = tablesOf [] [] []
+
+-- one table replaced, the others as they are
+abbrev pub withDatapoints : List Datapoint → Tables → Tables
+withDatapoints ds t = tablesOf ds (t .items) (t .parameters)
+
+abbrev pub withItems : List Item → Tables → Tables
+withItems is t = tablesOf (t .datapoints) is (t .parameters)
+
+abbrev pub withParameters : List ℕ → Tables → Tables
+withParameters ps t = tablesOf (t .datapoints) (t .items) ps
+
 -- tables of which one alone is looked at
 abbrev pub datapointsOnly : List Datapoint → Tables
-datapointsOnly ds = record { datapoints = ds; items = []; parameters = [] }
+datapointsOnly ds = withDatapoints ds noTables
 
 abbrev pub itemsOnly : List Item → Tables
-itemsOnly is = record { datapoints = []; items = is; parameters = [] }
+itemsOnly is = withItems is noTables
 
 abbrev pub parametersOnly : List ℕ → Tables
-parametersOnly ps = record { datapoints = []; items = []; parameters = ps }
+parametersOnly ps = withParameters ps noTables
 
 -- the numbers rise strictly, from above `last`
 unfoldable pub rising : ℕ → List ℕ → Bool

@@ -1,13 +1,13 @@
 -- Bus events: what a record takes and what it becomes, and what is found, answered and changed by the record that stands where the ID belongs.
 use Prim.Native.Nat.{ℕ, _≤_, _<_}
-use mathlib.Core.Bool.{Bool, true, false, not, _&&_}
+use mathlib.Core.Bool.{Bool, true, false, _&&_}
 use mathlib.Core.List.{List, [], _∷_, map}
 use mathlib.Core.Path.{_≡_, refl, sym, _∙_, ap, subst}
 use native.Mathlib.Omega.{arith}
 use lib.Dec.{T, eqb, eqb→eq}
 use lib.ListN.{length, getD, set}
 use borrow.Author.Tests.{eq-eqb, ne-eqb}
-use Rattle.words.specs.Words.{if_then_else_, isEmpty}
+use Rattle.words.specs.Words.{if_then_else_}
 use Rattle.words.proofs.WordLaws.{left, right, T-true, true-T}
 use Rattle.baos.specs.declared.datapoint.Datapoint.{Datapoint}
 use Rattle.baos.specs.Datapoint.{datapointId, datapointOk, zeroDatapoint, sizeOf, unusedBitsOk, isValue, busValue, outcome}
@@ -21,7 +21,7 @@ use Rattle.calls.specs.declared.event.Event.the-variants.{BusValue, Tran
 use Rattle.calls.specs.declared.event.Outcome.{Outcome}
 use Rattle.calls.specs.declared.event.Outcome.the-variants.{Sent, Failed, InProgress}
 use Rattle.calls.specs.declared.reply.Reply.the-variants.{Refused, Accepted}
-use Rattle.calls.specs.Event.{statusOf, atDatapoint, valueFits, busOk}
+use Rattle.calls.specs.Event.{statusOf}
 use Rattle.calls.specs.Promise.{takes, taken, foundTakes, BusEventTaken}
 
 -- ---- one record: whether it is the one of the ID and takes the event
@@ -124,22 +124,6 @@ module _ (e : Event) (id : ℕ) (v : List ℕ) (ds : List Datapoint) (ok : table
 
 -- ---- the call's definitions, by what a bus event does at one record
 module _ (id : ℕ) (v : List ℕ) (t : Tables) where
-  pub value-found : busOk (BusValue id) v t ≡ foundTakes (BusValue id) v (found datapointId id (t .datapoints))
-  unfolding busOk valueFits foundTakes takes
-  value-found = go (found datapointId id (t .datapoints))
-    where
-      go : (ds : List Datapoint) → valueFits ds v ≡ foundTakes (BusValue id) v ds
-      go [] = refl
-      go (d ∷ ds) = refl
-
-  pub outcome-found : (o : Outcome) → busOk (TransmissionOutcome id o) v t ≡ foundTakes (TransmissionOutcome id o) v (found datapointId id (t .datapoints))
-  unfolding busOk foundTakes takes
-  outcome-found o = go (found datapointId id (t .datapoints))
-    where
-      go : (ds : List Datapoint) → not (isEmpty ds) ≡ foundTakes (TransmissionOutcome id o) v ds
-      go [] = refl
-      go (d ∷ ds) = refl
-
   -- the record after it
   pub value-taken : (d : Datapoint) → taken (BusValue id) v d ≡ busValue v d
   unfolding taken
@@ -148,12 +132,3 @@ module _ (id : ℕ) (v : List ℕ) (t : Tables) where
   pub outcome-taken : (o : Outcome) (d : Datapoint) → taken (TransmissionOutcome id o) v d ≡ outcome (statusOf o) d
   unfolding taken
   outcome-taken o d = refl
-
-  -- the table after it
-  pub value-at : atDatapoint id (busValue v) t .datapoints ≡ changed datapointId id (taken (BusValue id) v) (t .datapoints)
-  unfolding atDatapoint taken changed
-  value-at = refl
-
-  pub outcome-at : (o : Outcome) → atDatapoint id (outcome (statusOf o)) t .datapoints ≡ changed datapointId id (taken (TransmissionOutcome id o) v) (t .datapoints)
-  unfolding atDatapoint taken changed
-  outcome-at o = refl

@@ -11,7 +11,7 @@ use borrow.Author.Tests.{ltb-true, ltb-false, eqb-true, eqb-false}
 use Rattle.words.specs.Words.{isEmpty, put}
 use Rattle.ft12.specs.declared.record.Link.{Link}
 use Rattle.ft12.specs.Record.{Line, lineOf, linkOf, inRange}
-use Rattle.ft12.specs.Rules.{Up, nothing, onHostByte, onIdleMark, onAckWaitOver}
+use Rattle.ft12.specs.Rules.{onHostByte, onIdleMark, onAckWaitOver}
 use Rattle.ft12.specs.Promise.{AckWaited}
 use Rattle.words.proofs.WordLaws.{T-true, true-T}
 use Rattle.ft12.proofs.EventLaws.{range-stays}
@@ -93,19 +93,16 @@ pub same-event : (e d : Event) (v : List ℕ) (t : Tables) (k : Link) (out : Lis
 same-event e d v t k out h {r} {t′} {k′} {out′} z = subst (λ (y : Event). Leaves (call y v t k out) r t′ k′ out′) (sym h) z
 
 -- ---- what the events come to
--- ack wait over hands up nothing
-waited-up : (l : Line) → onAckWaitOver l .up ≡ nothing
-unfolding onAckWaitOver
-waited-up l = go (isEmpty (l .outstanding)) (ltb (l .resends) 3) refl refl
+-- ack wait over hands up no message
+pub waited : (l : Line) (t : Tables) → onMoved (onAckWaitOver l) t ≡ record { sent = onAckWaitOver l .sent; tables = t; line = onAckWaitOver l .line }
+unfolding onMoved handedUp onAckWaitOver
+waited l t = go (isEmpty (l .outstanding)) (ltb (l .resends) 3) refl refl
   where
-    go : (a b : Bool) → isEmpty (l .outstanding) ≡ a → ltb (l .resends) 3 ≡ b → onAckWaitOver l .up ≡ nothing
+    go : (a b : Bool) → isEmpty (l .outstanding) ≡ a → ltb (l .resends) 3 ≡ b
+        → onMoved (onAckWaitOver l) t ≡ record { sent = onAckWaitOver l .sent; tables = t; line = onAckWaitOver l .line }
     go true b p q = simp p
     go false true p q = simp (p, q)
     go false false p q = simp (p, q)
-
-waited : (l : Line) (t : Tables) → onMoved (onAckWaitOver l) t ≡ record { sent = onAckWaitOver l .sent; tables = t; line = onAckWaitOver l .line }
-unfolding onMoved handedUp
-waited l t = ap (λ (u : Up). handedUp u (onAckWaitOver l .sent) t (onAckWaitOver l .line)) (waited-up l)
 
 put-first : (out s : List ℕ) → put out 0 s ≡ s ++ drop (length s) out
 unfolding put

@@ -1,8 +1,8 @@
 -- One call: when it is refused and what a refusal leaves, and that an accepted call leaves what the next one does not refuse.
-use Prim.Native.Nat.{ℕ, _+_, _-_, _≤_, _<_}
+use Prim.Native.Nat.{ℕ, _-_, _≤_, _<_}
 use mathlib.Core.Path.{_≡_, refl}
 use mathlib.Core.Logic.{_≢_}
-use mathlib.Core.Bool.{Bool, true, false, not}
+use mathlib.Core.Bool.{Bool, true, false}
 use mathlib.Core.List.{List, [], _∷_}
 use native.Mathlib.Omega.{arith}
 use lib.ListN.{length}
@@ -11,7 +11,7 @@ use borrow.Author.Tests.{ltb-false, lt-ltb, le-ltb, ne-eqb}
 use Rattle.words.specs.Words.{if_then_else_, isEmpty, every}
 use Rattle.ft12.specs.declared.record.Link.{Link}
 use Rattle.ft12.specs.Record.{Line, lineOf, lineOk, memoryOk, inRange}
-use Rattle.ft12.specs.Rules.{Up, nothing, acknowledged, reset, message}
+use Rattle.ft12.specs.Rules.{Up, nothing, acknowledged, dropped, reset, message}
 use Rattle.words.proofs.WordLaws.{right, both, true-T}
 use Rattle.ft12.proofs.RecordLaws.{line-in-range}
 use Rattle.ft12.proofs.RulesLaws.{host-byte-ok, idle-mark-ok, ack-wait-ok, message-ok}
@@ -96,6 +96,7 @@ handed-up-lasts : (u : Up) (s : List ℕ) (t : Tables) (l : Line) → T (wellFor
 unfolding handedUp saying
 handed-up-lasts nothing s t l w o = record { tables = w; line = o }
 handed-up-lasts acknowledged s t l w o = record { tables = w; line = o }
+handed-up-lasts dropped s t l w o = record { tables = w; line = o }
 handed-up-lasts reset s t l w o = record { tables = w; line = o }
 handed-up-lasts (message m) s t l w o = record { tables = KeepLaws.carried-out-keeps t m w; line = message-ok (carriedOut t m .says) l o }
 

@@ -10,7 +10,6 @@ use Rattle.words.specs.Words.{isEmpty, put}
 use Rattle.ft12.specs.declared.record.Link.{Link}
 use Rattle.ft12.specs.Record.{Line, lineOf, linkOf, inRange}
 use Rattle.ft12.specs.Rules.{Moved, onMessage}
-use Rattle.words.proofs.ByteLaws.{length-put}
 use Rattle.ft12.proofs.RangeLaws.{empty-take}
 use Rattle.ft12.proofs.PlaceLaws.{held-fits, outstanding-places}
 use Rattle.ft12.proofs.EventLaws.{range-stays}
@@ -59,12 +58,6 @@ module _ (ds : List Datapoint) (k : Link) (o : List ℕ) (t : T (inRange k)) (r 
 
   short : length (v .says) ≤ 254
   short = sized-short (v .says) (indication-sized (datapointsOnly ds))
-
-  pub poll-end : 5 + length (v .says) ≤ 259
-  poll-end = omega (arith, short)
-
-  pub poll-length : length o₁ ≡ length o
-  poll-length = length-put o 5 (v .says) (omega (arith, short, r))
 
   handed : m ≡ v .says
   handed = message-stands o 5 (5 + length (v .says) - 5) (v .says) (omega arith) (omega (arith, short, r))

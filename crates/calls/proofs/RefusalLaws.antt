@@ -1,27 +1,20 @@
 -- The refusals that do not look at the event: one law for each answer of the code, what an answer of 0 says, and how they join the refusal of a call.
 use Prim.Native.Nat.{ℕ, _≤_, _<_}
-use mathlib.Core.Path.{_≡_, refl, sym, _∙_}
-use mathlib.Core.Logic.{_≢_}
+use mathlib.Core.Path.{_≡_, sym}
 use mathlib.Core.Bool.{Bool, true, false, not, and-false}
 use mathlib.Core.List.{List}
-use native.Mathlib.Omega.{arith}
 use lib.ListN.{length}
 use lib.Dec.{T, ltb}
 use borrow.Author.Tests.{ltb-true, ltb-false, lt-ltb, le-ltb, le-leb, lt-leb}
 use Rattle.ft12.specs.declared.record.Link.{Link}
 use Rattle.ft12.specs.Record.{inRange}
-use Rattle.words.proofs.WordLaws.{T-true, true-T}
 use Rattle.walks.proofs.Branches.{no-T, yes-T, is-T}
 use Rattle.baos.specs.declared.datapoint.Datapoint.{Datapoint}
 use Rattle.baos.specs.declared.item.Item.{Item}
 use Rattle.baos.specs.Datapoint.{datapointId, datapointOk}
 use Rattle.baos.specs.Item.{itemId, itemOk}
 use Rattle.baos.specs.Table.{Tables, tablesOf, tableOk, wellFormed}
-use Rattle.calls.specs.declared.event.Event.{Event}
-use Rattle.calls.specs.Event.{busOk}
-use Rattle.calls.specs.Call.{refusal}
 use Rattle.calls.specs.Promise.{lentRefusal}
-use Rattle.calls.proofs.CallLaws.{refusal-0, refusal-1, refusal-2, refusal-3, refusal-4}
 
 -- ---- by the tests
 module _ (t : Tables) (k : Link) (room : ℕ) where
@@ -76,40 +69,3 @@ module _ (ds : List Datapoint) (is : List Item) (ps : List ℕ) (k : Link) (room
 
     pub lent-none : T (not (not (inRange k))) → T (not (ltb room 262)) → 0 ≡ lentRefusal t k room
     lent-none r h = sym (lent-0 t k room all-formed (yes-T (inRange k) r) (ltb-false room 262 (no-T (ltb room 262) h)))
-
--- ---- what the answer says
-module _ (t : Tables) (k : Link) (room : ℕ) where
-  -- 0: all that is lent is in order
-  pub lent-refusal-0 : lentRefusal t k room ≡ 0 → T (wellFormed t) × T (inRange k) × (262 ≤ room)
-  lent-refusal-0 h = go (wellFormed t) (inRange k) (ltb room 262) refl refl refl
-    where
-      go : (a b c : Bool) → wellFormed t ≡ a → inRange k ≡ b → ltb room 262 ≡ c → T (wellFormed t) × T (inRange k) × (262 ≤ room)
-      go false b c p q r = absurd (omega (arith, h, lent-1 t k room p))
-      go true false c p q r = absurd (omega (arith, h, lent-2 t k room p q))
-      go true true true p q r = absurd (omega (arith, h, lent-3 t k room p q (ltb-true room 262 r)))
-      go true true false p q r = (true-T p, true-T q, ltb-false room 262 r)
-
-  module _ (e : Event) (v : List ℕ) where
-    -- another number: the call is refused with it
-    pub lent-refused : lentRefusal t k room ≢ 0 → refusal e v t k room ≡ lentRefusal t k room
-    lent-refused h = go (wellFormed t) (inRange k) (ltb room 262) refl refl refl
-      where
-        go : (a b c : Bool) → wellFormed t ≡ a → inRange k ≡ b → ltb room 262 ≡ c → refusal e v t k room ≡ lentRefusal t k room
-        go false b c p q r = refusal-1 e v t k room p ∙ sym (lent-1 t k room p)
-        go true false c p q r = refusal-2 e v t k room p q ∙ sym (lent-2 t k room p q)
-        go true true true p q r = refusal-3 e v t k room p q (ltb-true room 262 r) ∙ sym (lent-3 t k room p q (ltb-true room 262 r))
-        go true true false p q r = absurd (h (lent-0 t k room p q (ltb-false room 262 r)))
-
-    pub lent-refused-some : lentRefusal t k room ≢ 0 → refusal e v t k room ≢ 0
-    lent-refused-some h z = h (sym (lent-refused h) ∙ z)
-
-    -- 0: the event alone decides
-    pub lent-accepted : lentRefusal t k room ≡ 0 → busOk e v t ≡ true → refusal e v t k room ≡ 0
-    lent-accepted h b =
-        let s = lent-refusal-0 h in
-        refusal-0 e v t k room (T-true (wellFormed t) (s .0)) (T-true (inRange k) (s .1)) (s .2) b
-
-    pub lent-bus-refused : lentRefusal t k room ≡ 0 → busOk e v t ≡ false → refusal e v t k room ≡ 4
-    lent-bus-refused h b =
-        let s = lent-refusal-0 h in
-        refusal-4 e v t k room (T-true (wellFormed t) (s .0)) (T-true (inRange k) (s .1)) (s .2) b

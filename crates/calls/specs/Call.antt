@@ -7,7 +7,7 @@ use lib.Dec.{ltb, eqb}
 use Rattle.words.specs.Words.{if_then_else_, isEmpty}
 use Rattle.ft12.specs.declared.record.Link.{Link}
 use Rattle.ft12.specs.Record.{Line, lineOf, linkOf, inRange}
-use Rattle.ft12.specs.Rules.{Up, nothing, acknowledged, reset, message, Moved, onHostByte, onIdleMark, onAckWaitOver, onMessage}
+use Rattle.ft12.specs.Rules.{Up, nothing, acknowledged, dropped, reset, message, Moved, onHostByte, onIdleMark, onAckWaitOver, onMessage}
 use Rattle.baos.specs.Datapoint.{busValue, outcome}
 use Rattle.baos.specs.Table.{Tables, wellFormed}
 use Rattle.baos.specs.Message.{Served}
@@ -32,10 +32,11 @@ quiet t l = record { sent = []; tables = t; line = l }
 unfoldable pub saying : List ℕ → Served → Line → Done
 saying s v l = record { sent = s ++ (onMessage (v .says) l) .sent; tables = v .after; line = (onMessage (v .says) l) .line }
 
--- a message that the link hands up is carried out; an acknowledgement and a reset leave the tables
+-- a message that the link hands up is carried out; that a frame was acknowledged or dropped, and a reset, leave the tables
 unfoldable pub handedUp : Up → List ℕ → Tables → Line → Done
 handedUp nothing s t l = record { sent = s; tables = t; line = l }
 handedUp acknowledged s t l = record { sent = s; tables = t; line = l }
+handedUp dropped s t l = record { sent = s; tables = t; line = l }
 handedUp reset s t l = record { sent = s; tables = t; line = l }
 handedUp (message m) s t l = saying s (carriedOut t m) l
 

@@ -5,7 +5,7 @@ use mathlib.Core.List.{List, [], _∷_}
 use Rattle.words.specs.Words.{isEmpty}
 use Rattle.baos.specs.declared.datapoint.Datapoint.{Datapoint}
 use Rattle.baos.specs.Datapoint.{datapointId, isValue}
-use Rattle.baos.specs.Table.{Tables, found, changed}
+use Rattle.baos.specs.Table.{Tables, withDatapoints, found, changed}
 use Rattle.calls.specs.declared.event.Event.{Event}
 use Rattle.calls.specs.declared.event.Event.the-variants.{HostByte, IdleMark, AckWaitOver, Poll, BusValue, TransmissionOutcome}
 use Rattle.calls.specs.declared.event.Outcome.{Outcome}
@@ -28,7 +28,7 @@ numbersOf (TransmissionOutcome id o) = 6 ∷ id ∷ statusOf o ∷ []
 
 -- the tables with the datapoint of this ID changed
 unfoldable pub atDatapoint : ℕ → (Datapoint → Datapoint) → Tables → Tables
-atDatapoint id f t = record { datapoints = changed datapointId id f (t .datapoints); items = t .items; parameters = t .parameters }
+atDatapoint id f t = withDatapoints (changed datapointId id f (t .datapoints)) t
 
 -- the datapoint that was found takes this value
 unfoldable pub valueFits : List Datapoint → List ℕ → Bool

@@ -1,6 +1,6 @@
-pub mod Call
 pub mod Event
-pub mod Exported
-pub mod Numbers
-pub mod Promise
 pub mod Reply
+pub mod Call
+pub mod Promise
+pub mod Numbers
+pub mod Exported

@@ -1,20 +1,18 @@
 -- Benches and events: a law for each answer of a definition.
-use Prim.Native.Nat.{ℕ, suc, _+_, _≤_, _<_}
-use mathlib.Core.Path.{_≡_, refl, sym, _∙_, ap}
-use mathlib.Core.Bool.{Bool, true, false, _&&_, and-true, and-false}
-use mathlib.Core.List.{List, [], _∷_, _++_}
+use Prim.Native.Nat.{ℕ, _+_, _≤_, _<_}
+use mathlib.Core.Path.{_≡_, refl}
+use mathlib.Core.Bool.{Bool, true, false, _&&_, and-false}
 use native.Mathlib.Omega.{arith}
 use lib.ListN.{set}
-use lib.Dec.{ltb, leb, eqb}
+use lib.Dec.{leb}
 use borrow.Author.Tests.{le-ltb, lt-ltb, le-leb, lt-leb, leb-true}
 use Rattle.baos.specs.declared.datapoint.Datapoint.{Datapoint}
 use Rattle.baos.specs.declared.item.Item.{Item}
 use Rattle.calls.specs.declared.event.Event.{Event}
-use Rattle.calls.specs.declared.event.Event.the-variants.{HostByte}
 use Rattle.cases.specs.declared.bench.Bench.{Bench}
 use Rattle.cases.specs.Bench.{withDatapoints, withItems, withDatapoint, withItem, Within, isWithin}
 use Rattle.cases.specs.Step.{stepped}
-use Rattle.cases.specs.Run.{happened, quiet, heard, allQuiet}
+use Rattle.cases.specs.Run.{happened}
 
 -- ---- one record more
 pub datapoint-full : (b : Bench) (d : Datapoint) → 50 ≤ b .datapointcount → withDatapoint d b ≡ b

@@ -1,6 +1,6 @@
 -- Frames as the host's side builds them.
-use Prim.Native.Nat.{ℕ, suc, _+_, _-_, _≤_}
-use mathlib.Core.Path.{_≡_, refl, sym, _∙_, ap}
+use Prim.Native.Nat.{ℕ, _+_, _-_, _≤_}
+use mathlib.Core.Path.{_≡_, refl, _∙_, ap}
 use mathlib.Core.List.{List, [], _∷_, _++_}
 use native.Mathlib.Omega.{arith}
 use native.Mathlib.Numerals.{add-one}
@@ -9,7 +9,7 @@ use Rattle.words.specs.Words.{put}
 use Rattle.ft12.specs.Frame.{checksum, dataFrame}
 use Rattle.words.proofs.ByteLaws.{put-put, put-read}
 use Rattle.ft12.proofs.FrameLaws.{frame-length}
-use Rattle.cases.proofs.WrittenLaws.{Written, none-written, one-written, some-written}
+use Rattle.cases.proofs.WrittenLaws.{none-written, one-written, some-written}
 
 -- head, message and end, one behind the other
 module _ (o : List ℕ) (at c sum : ℕ) (m : List ℕ) (h : at + length m + 7 ≤ length o) where

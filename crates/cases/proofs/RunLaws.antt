@@ -1,15 +1,14 @@
 -- Bytes from the host, one after the other: the loop that feeds them, and bytes in two parts.
-use Prim.Native.Nat.{ℕ, zero, suc, _+_, _≤_, _<_}
+use Prim.Native.Nat.{ℕ, _+_, _≤_, _<_}
 use mathlib.Core.Path.{_≡_, refl, sym, _∙_, ap}
-use mathlib.Core.Bool.{Bool, true, false, _&&_, and-true, and-assoc}
-use mathlib.Core.List.{List, [], _∷_, _++_}
+use mathlib.Core.Bool.{Bool, true, _&&_, and-true, and-assoc}
+use mathlib.Core.List.{List, [], _∷_}
 use native.Mathlib.Omega.{arith}
 use native.Mathlib.Numerals.{add-one}
-use lib.ListN.{length, take, drop, getD, take-append-drop, drop-of-length-le}
+use lib.ListN.{length, drop, getD, drop-of-length-le}
 use lib.Seq.{drop-cons}
 use Rattle.calls.specs.declared.event.Event.the-variants.{HostByte}
 use Rattle.cases.specs.declared.bench.Bench.{Bench}
-use Rattle.cases.specs.declared.run.Fed.{Fed}
 use Rattle.cases.specs.Run.{happened, quiet, heard, allQuiet, fed}
 
 -- ---- the loop: what is left of the bytes does the rest

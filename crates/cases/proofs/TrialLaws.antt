@@ -1,13 +1,11 @@
 -- A trial goes on: what is shown of each part of it is shown of the whole.
-use Prim.Native.Nat.{ℕ, suc, _+_, _-_, _≤_, _<_}
+use Prim.Native.Nat.{ℕ, suc, _+_, _-_, _≤_}
 use mathlib.Core.Path.{_≡_, refl, sym, _∙_, ap, subst}
 use mathlib.Core.Bool.{Bool, true, false}
 use mathlib.Core.List.{List, [], _∷_, _++_}
 use native.Mathlib.Omega.{arith}
-use native.Mathlib.Numerals.{add-one}
 use lib.ListN.{length, take, getD}
 use lib.Seq.{take-suc, take-all}
-use Rattle.ft12.specs.declared.record.Link.{Link}
 use Rattle.ft12.specs.Frame.{dataFrame}
 use Rattle.calls.specs.declared.event.Event.the-variants.{HostByte}
 use Rattle.calls.specs.Reply.{sentCount}
@@ -17,7 +15,7 @@ use Rattle.cases.specs.declared.run.Fed.{Fed}
 use Rattle.cases.specs.Run.{happened, sent, heard, allQuiet, fed}
 use Rattle.cases.specs.Same.{Decides, LinkIs}
 use Rattle.cases.specs.Trial.{Shows, Goes, Sends, Draws, Answered, Damaged}
-use Rattle.cases.proofs.SameLaws.{false-true, refuted, failed, left-to}
+use Rattle.cases.proofs.SameLaws.{false-true, refuted, left-to}
 
 -- what is right in the end is what a test decides
 pub goes : (t r : Trial) (b b′ : Bench) {q : Bool} {P : Type 0} → b ≡ b′ → Decides q P → Goes t b (q ≡ true) r → Goes t b′ P r

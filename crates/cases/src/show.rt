@@ -4,7 +4,7 @@ use crate::print;
 use baos::datapoint::Datapoint;
 use baos::item::Item;
 use ft12::record::Link;
-use records::datapoint::size_of;
+use records::value::size_of;
 
 // ID and data.
 fn item(i: Item) {

@@ -13,6 +13,7 @@ use Rattle.words.proofs.WordLaws.{left, right, beq→eq, sameBy→eq, same→eq
 use Rattle.baos.specs.declared.datapoint.Datapoint.{Datapoint}
 use Rattle.baos.specs.declared.item.Item.{Item}
 use Rattle.baos.specs.Table.{Tables}
+use Rattle.baos.proofs.TableLaws.{same-tables}
 use Rattle.demands.specs.Run.{Ran}
 use Rattle.demands.specs.Example.{Case, found, stated, lineAt, exchange, item1, ask1, answer1, case1, case2, ask1even, case2even, datapoint, datapoint5, answer3, set5, case3, case4, oneByteFrom, oneBytes, entriesFrom, case5, case5more, parameterBytes, case6, case6more, case9, case9one, cases}
 use Rattle.demands.proofs.Opened.{opened}
@@ -105,11 +106,8 @@ pub tables-eq : (a b : Tables) → T (sameTables a b) → a ≡ b
 unfolding sameTables
 tables-eq a b t =
     let g : (k : ℕ) → T (getD (tablesTests a b) k true) = nth (tablesTests a b) t in
-    λ i. record {
-      datapoints = sameBy→eq sameDatapoint datapoint-eq (a .datapoints) (b .datapoints) (g 0) i;
-      items = sameBy→eq sameItem item-eq (a .items) (b .items) (g 1) i;
-      parameters = same→eq (a .parameters) (b .parameters) (g 2) i;
-    }
+    same-tables (sameBy→eq sameDatapoint datapoint-eq (a .datapoints) (b .datapoints) (g 0))
+    (sameBy→eq sameItem item-eq (a .items) (b .items) (g 1)) (same→eq (a .parameters) (b .parameters) (g 2))
 
 ran-eq : (a b : Ran) → T (all-pass (ranTests a b)) → a ≡ b
 ran-eq a b t =

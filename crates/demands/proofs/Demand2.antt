@@ -11,6 +11,7 @@ use Rattle.calls.proofs.CallLaws.{reply-told}
 use Rattle.demands.specs.Answers.{SameOutcome, Demand2}
 use Rattle.demands.proofs.ErrorLaws.{errors-change-nothing, error-calls-change-nothing}
 use Rattle.demands.proofs.ReadBack.{sent-frames-read}
+use Rattle.demands.proofs.HostHearsLaws.{host-hears, sent-again, host-hears-all}
 
 module _ (c : Called) where
   same-outcome : (r₁ r₂ : Reply) (t₁ t₂ : Tables) (k₁ k₂ : Link) (out₁ out₂ : List ℕ) → Leaves c r₁ t₁ k₁ out₁ → Leaves c r₂ t₂ k₂ out₂ → SameOutcome r₁ r₂ t₁ t₂ k₁ k₂ out₁ out₂
@@ -39,4 +40,7 @@ demand-2 =
       errors-change-nothing = errors-change-nothing;
       error-calls-change-nothing = error-calls-change-nothing;
       sent-frames-read = sent-frames-read;
+      host-hears = host-hears;
+      sent-again = sent-again;
+      host-hears-all = host-hears-all;
     }

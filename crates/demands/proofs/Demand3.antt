@@ -1,52 +1,30 @@
 -- Demand 3, proved over the calls: a request that is delivered more than once, sound or damaged, is carried out once.
-use Prim.Native.Nat.{ℕ, suc, _≤_}
+use Prim.Native.Nat.{ℕ, suc}
 use mathlib.Core.Path.{_≡_, refl, sym, _∙_, ap, subst}
-use mathlib.Core.Logic.{_≢_}
-use mathlib.Core.Bool.{Bool, true, false, not, _||_}
+use mathlib.Core.Bool.{Bool, true, false, not}
 use mathlib.Core.List.{List, [], _∷_, _++_}
 use native.Mathlib.Decide.{ℕ-discrete}
-use lib.ListN.{length, getD, take}
-use lib.Dec.{T, ltb, eqb}
-use borrow.Author.Tests.{le-ltb, eq-eqb}
-use Rattle.words.specs.Words.{if_then_else_, isEmpty}
+use lib.ListN.{getD, take}
+use lib.Dec.{T, eqb}
+use borrow.Author.Tests.{eq-eqb}
+use Rattle.words.specs.Words.{isEmpty}
 use Rattle.ft12.specs.declared.record.Link.{Link}
-use Rattle.ft12.specs.Frame.{acknowledgement, longestMessage, dataFrame}
-use Rattle.ft12.specs.Record.{Line, lineOf, linkOf, hostControl, serverControl, memoryOk, lineOk, inRange}
-use Rattle.ft12.specs.Rules.{atStart, cleared, holding, expecting, onIdleMark, onMessage}
-use Rattle.ft12.specs.Delivery.{Delivery, sound, changed, lost, isSound, arrives, Possible, Run, delivered}
+use Rattle.ft12.specs.Frame.{acknowledgement, dataFrame}
+use Rattle.ft12.specs.Record.{Line, lineOf, linkOf, hostControl, memoryOk, lineOk, inRange}
+use Rattle.ft12.specs.Rules.{atStart, cleared}
+use Rattle.ft12.specs.Delivery.{Delivery, sound, changed, lost, isSound, arrives, Possible, delivered}
 use Rattle.words.proofs.WordLaws.{left, right}
 use Rattle.ft12.proofs.RecordLaws.{lineOf-linkOf}
 use Rattle.ft12.proofs.EventLaws.{range-stays}
-use Rattle.ft12.proofs.HearingLaws.{quiet, acknowledges, repeat-heard}
-use Rattle.ft12.proofs.DeliveryLaws.{damaged-nothing, damaged-acknowledges, host-control}
-use Rattle.baos.specs.Table.{Tables, wellFormed}
-use Rattle.baos.specs.Service.{carriedOut}
-use Rattle.baos.proofs.AnswerLaws.{Sized, none, some, answer-sized}
-use Rattle.calls.specs.Call.{Done, saying}
+use Rattle.ft12.proofs.HearingLaws.{acknowledges}
+use Rattle.ft12.proofs.DeliveryLaws.{damaged-acknowledges, host-control}
+use Rattle.baos.specs.Table.{Tables}
+use Rattle.calls.specs.Call.{Done}
 use Rattle.demands.specs.Run.{Ran}
-use Rattle.demands.specs.Exchange.{inTurn, Lent, thenIdle, delivery, Exchange, exchange, Start, Request, requestFrame, EachPossible, someSound, answerFrame, draws, Rest, same, acknowledged, noneBeginsE5, Once, Demand3}
-use Rattle.demands.proofs.ExchangeLaws.{noMessage, thenMarked, delivery-leaves, request-carried}
-use Rattle.demands.proofs.CallRuns.{ranOf, idle-run, idle-lasts, deliveries-accepted}
-
--- ---- words
-not-not : (b : Bool) → not (not b) ≡ b
-not-not true = refl
-not-not false = refl
-
--- taking a message back leaves the expected bit
-message-expected : (s : List ℕ) (l : Line) → onMessage s l .line .expected ≡ l .expected
-message-expected s l = go (isEmpty s || ltb longestMessage (length s) || not (isEmpty (l .outstanding))) refl
-  where
-    go : (u : Bool) → (isEmpty s || ltb longestMessage (length s) || not (isEmpty (l .outstanding))) ≡ u → onMessage s l .line .expected ≡ l .expected
-    go true e = unfold onMessage in simp e
-    go false e = unfold onMessage holding in simp e
-
--- an answer is framed and sent, where there is one
-message-sent : (s : List ℕ) (l : Line) → Sized s → isEmpty (l .outstanding) ≡ true → onMessage s l .sent ≡ (if isEmpty s then [] else dataFrame (serverControl (l .send)) s)
-unfolding onMessage
-message-sent s l (none e) o = rw e
-message-sent [] l (some a b) o = refl
-message-sent (x ∷ s) l (some a b) o = simp (le-ltb 254 (length (x ∷ s)) b, o)
+use Rattle.demands.specs.Exchange.{Lent, delivery, Exchange, exchange, Start, Request, requestFrame, EachPossible, someSound, answerFrame, draws, Rest, same, acknowledged, noneBeginsE5, Once, Demand3}
+use Rattle.demands.proofs.ExchangeLaws.{noMessage}
+use Rattle.demands.proofs.OneDelivery.{Carried, Ready, ran, Roomy, unheeded, unheeded-ready, unheard, repeated, done, first-drawn, first-ready, first-expected, first-sent, first-carried}
+use Rattle.demands.proofs.CallRuns.{deliveries-accepted}
 
 -- an acknowledgement, or an E5 that is ignored: the line is l, or l with its outstanding frame acknowledged
 data Acted (l l′ : Line) : Type 0 where
@@ -82,50 +60,14 @@ acknowledges-no-message l = go (isEmpty (l .outstanding)) refl
     go true e = unfold noMessage in simp e tt
     go false e = unfold noMessage in simp e tt
 
--- behind an idle mark the receiver is at a frame start
-marked-start : (l : Line) → onIdleMark l .line ≡ atStart (onIdleMark l .line)
-unfolding onIdleMark atStart
-marked-start l = refl
-
-delivered-start : (bs : List ℕ) (l : Line) → delivered bs l .line ≡ atStart (delivered bs l .line)
-unfolding delivered
-delivered-start bs l = marked-start _
-
--- where the exchange stands between two deliveries
-record Ready (t : Tables) (l : Line) : Type 0 where
-  tables : T (wellFormed t)
-  line : T (lineOk l)
-  start : l ≡ atStart l
-
-abbrev ran : List ℕ → Tables → Line → Ran
-ran s t l = record { sent = s; tables = t; link = linkOf l }
-
--- calls with output room that none refuses
-abbrev Roomy : (ℕ → Lent) → Type 0
-Roomy lent = (n : ℕ) → 262 ≤ length (lent n .output)
-
 module _ (m : List ℕ) (request : Request m) (bit : Bool) where
+  carried : Carried m
+  carried = record { short = request .short; bytes = request .bytes }
+
   abbrev f : List ℕ
   f = dataFrame (hostControl bit) m
 
   -- ---- one delivery
-  -- with no message handed up: what the link sends, and the line it leaves
-  module _ (d : Delivery) (t : Tables) (l : Line) (ready : Ready t l) (r : Run) (e : delivered (arrives f d) l ≡ r) (n : T (noMessage (r .ups))) where
-    unheeded : (lent : ℕ → Lent) → Roomy lent → delivery lent f d t (linkOf l) ≡ ran (r .sent) t (r .line)
-    unfolding delivery
-    unheeded lent room =
-        idle-run (arrives f d) lent t l room (ready .tables) (ready .line) ∙ ap ranOf (delivery-leaves (arrives f d) t l (rw e n)) ∙ ap (λ (x : Run). ran (x .sent) t (x .line)) e
-
-    unheeded-ready : Ready t (r .line)
-    unheeded-ready =
-        let lasts = idle-lasts (arrives f d) t l (ready .tables) (ready .line) in
-        let same = delivery-leaves (arrives f d) t l (rw e n) ∙ ap (λ (x : Run). record { sent = x .sent; tables = t; line = x .line }) e in
-        record {
-          tables = ready .tables;
-          line = subst (λ (x : Done). T (lineOk (x .line))) same (lasts .line);
-          start = subst (λ (x : Run). x .line ≡ atStart (x .line)) e (delivered-start (arrives f d) l);
-        }
-
   -- "a damaged one draws none": at most it acts as the acknowledgement of what is outstanding
   record Leaves (d : Delivery) (t : Tables) (l : Line) : Type 0 where
     line : Line
@@ -137,9 +79,6 @@ module _ (m : List ℕ) (request : Request m) (bit : Bool) where
   damaged : (d : Delivery) (t : Tables) (l : Line) → Ready t l → isSound d ≡ false → Possible f d → Leaves d t l
   damaged d t l ready u p = go (ℕ-discrete (getD (arrives f d) 0 0) 0xE5)
     where
-      nothing-else : getD (arrives f d) 0 0 ≢ 0xE5 → delivered (arrives f d) l ≡ quiet l
-      nothing-else r = damaged-nothing (hostControl bit) (host-control bit) m d l (request .short) (request .bytes) u p r (ready .start)
-
       echo : getD (arrives f d) 0 0 ≡ 0xE5 → delivered (arrives f d) l ≡ acknowledges l
       echo e = damaged-acknowledges (hostControl bit) (host-control bit) m d l (request .first) e (ready .start)
 
@@ -147,7 +86,7 @@ module _ (m : List ℕ) (request : Request m) (bit : Bool) where
       go (no r) =
           record {
             line = l;
-            drawn = unheeded d t l ready (quiet l) (nothing-else r) (unfold noMessage in tt);
+            drawn = unheard m carried bit d t l ready u p r;
             ready = ready;
             acted = kept refl;
             silent = λ h. refl;
@@ -155,55 +94,11 @@ module _ (m : List ℕ) (request : Request m) (bit : Bool) where
       go (yes e) =
           record {
             line = acknowledges l .line;
-            drawn = unheeded d t l ready (acknowledges l) (echo e) (acknowledges-no-message l);
-            ready = unheeded-ready d t l ready (acknowledges l) (echo e) (acknowledges-no-message l);
+            drawn = unheeded m carried bit d t l ready (acknowledges l) (echo e) (acknowledges-no-message l);
+            ready = unheeded-ready m carried bit d t l ready (acknowledges l) (echo e) (acknowledges-no-message l);
             acted = acknowledges-acts l;
             silent = λ h. absurd (simp (eq-eqb (getD (arrives f d) 0 0) 0xE5 e) at h);
           }
-
-  -- "Other bit: E5, message dropped."
-  repeated : (t : Tables) (l : Line) → Ready t l → l .expected ≡ not bit → (lent : ℕ → Lent) → Roomy lent → delivery lent f sound t (linkOf l) ≡ ran acknowledgement t l
-  repeated t l ready x = unheeded sound t l ready (record { sent = acknowledgement; ups = []; line = l }) heard (unfold noMessage in tt)
-    where
-      other : hostControl bit ≡ hostControl (not (l .expected))
-      other = ap hostControl (sym (not-not bit) ∙ ap not (sym x))
-
-      heard : delivered (arrives f sound) l ≡ record { sent = acknowledgement; ups = []; line = l }
-      heard = unfold delivered arrives onIdleMark in rw (repeat-heard (hostControl bit) m l (request .short) (ready .start) other) (ap (λ (k : Line). record { sent = acknowledgement; ups = []; line = k }) (sym (ready .start)))
-
-  -- the first sound one
-  module _ (t : Tables) (l : Line) (ready : Ready t l) (x : l .expected ≡ bit) (o : isEmpty (l .outstanding) ≡ true) where
-    done : Done
-    done = thenMarked (saying acknowledgement (carriedOut t m) (expecting (not (l .expected)) l))
-
-    carries : inTurn (thenIdle f) t l ≡ done
-    unfolding done
-    carries = request-carried (hostControl bit) m t l (request .short) (ready .start) (ap hostControl (sym x)) o
-
-    first-drawn : (lent : ℕ → Lent) → Roomy lent → delivery lent f sound t (linkOf l) ≡ ranOf done
-    unfolding delivery arrives
-    first-drawn lent room = idle-run f lent t l room (ready .tables) (ready .line) ∙ ap ranOf carries
-
-    first-ready : Ready (done .tables) (done .line)
-    first-ready =
-        let lasts = idle-lasts f t l (ready .tables) (ready .line) in
-        record {
-          tables = subst (λ (d : Done). T (wellFormed (d .tables))) carries (lasts .tables);
-          line = subst (λ (d : Done). T (lineOk (d .line))) carries (lasts .line);
-          start = unfold done in marked-start _;
-        }
-
-    first-expected : done .line .expected ≡ not bit
-    unfolding done saying onIdleMark atStart
-    first-expected = message-expected (carriedOut t m .says) _ ∙ (unfold expecting in ap not x)
-
-    first-sent : done .sent ≡ acknowledgement ++ answerFrame t (linkOf l) m
-    unfolding done saying answerFrame linkOf expecting
-    first-sent = ap (λ (s : List ℕ). acknowledgement ++ s) (message-sent (carriedOut t m .says) (expecting (not (l .expected)) l) (answer-sized t m) o)
-
-    first-carried : done .tables ≡ carriedOut t m .after
-    unfolding done saying
-    first-carried = refl
 
   -- ---- the exchange
   -- what it shows from here on: the answer's frame that is still to be sent, the tables that are left, the line after the first sound delivery, and the
@@ -246,7 +141,7 @@ module _ (m : List ℕ) (request : Request m) (bit : Bool) where
     repeats : (ds : List Delivery) (lent : ℕ → ℕ → Lent) → ((i : ℕ) → Roomy (lent i)) → (n : Line) → Ready t n → Acted l n → EachPossible f ds → Went [] t l n ds (exchange lent f ds t (linkOf n))
     repeats [] lent room n ready a p = record { drawn = unfold exchange draws in refl; tables = unfold exchange in refl; line = n; link = unfold exchange in refl; acted = a; undisturbed = λ h. refl }
     repeats (sound ∷ ds) lent room n ready a p =
-        step lent sound ds [] [] t t t _ n acknowledgement (repeated t n ready (acted-expected a ∙ x) (lent 0) (room 0)) (sound-draws ds []) l n n (λ h. refl)
+        step lent sound ds [] [] t t t _ n acknowledgement (repeated m carried bit t n ready (acted-expected a ∙ x) (lent 0) (room 0)) (sound-draws ds []) l n n (λ h. refl)
         (repeats ds (λ i. lent (suc i)) (λ i. room (suc i)) n ready a (p .1))
     repeats (changed i b ∷ ds) lent room n ready a p =
         let leaves = damaged (changed i b) t n ready (unfold isSound in refl) (p .0) in
@@ -263,7 +158,7 @@ module _ (m : List ℕ) (request : Request m) (bit : Bool) where
     answer = answerFrame t (linkOf l) m
 
     abbrev after : Done
-    after = done t l ready x o
+    after = done m carried bit t l ready x o
 
     abbrev WentOn : (ℕ → ℕ → Lent) → List Delivery → Type 0
     WentOn lent ds = Went answer (after .tables) (after .line) (after .line) ds (exchange lent f ds t (linkOf l))
@@ -279,9 +174,9 @@ module _ (m : List ℕ) (request : Request m) (bit : Bool) where
     goes [] lent room p s = absurd s
     goes (sound ∷ ds) lent room p s =
         step lent sound ds answer [] t (after .tables) (after .tables) _ (after .line) (acknowledgement ++ answer)
-        (first-drawn t l ready x o (lent 0) (room 0) ∙ ap (λ (r : List ℕ). ran r (after .tables) (after .line)) (first-sent t l ready x o)) (sound-draws ds answer)
+        (first-drawn m carried bit t l ready x o (lent 0) (room 0) ∙ ap (λ (r : List ℕ). ran r (after .tables) (after .line)) (first-sent m carried bit t l ready x o)) (sound-draws ds answer)
         (after .line) (after .line) (after .line) (λ h. refl)
-        (repeats (after .tables) (after .line) (first-expected t l ready x o) ds (λ i. lent (suc i)) (λ i. room (suc i)) (after .line) (first-ready t l ready x o) (kept refl) (p .1))
+        (repeats (after .tables) (after .line) (first-expected m carried bit t l ready x o) ds (λ i. lent (suc i)) (λ i. room (suc i)) (after .line) (first-ready m carried bit t l ready x o) (kept refl) (p .1))
     goes (changed i b ∷ ds) lent room p s = unharmed lent (room 0) (changed i b) ds refl (p .0) (goes ds (λ j. lent (suc j)) (λ j. room (suc j)) (p .1) s)
     goes (lost i ∷ ds) lent room p s = unharmed lent (room 0) (lost i) ds refl (p .0) (goes ds (λ j. lent (suc j)) (λ j. room (suc j)) (p .1) s)
 
@@ -296,10 +191,11 @@ from-line : (lent : ℕ → ℕ → Lent) → ((i : ℕ) → Roomy (lent i)) →
 unfolding requestFrame linkOf
 from-line lent room m request ds t l ready o p s =
     let went = goes m request (l .expected) t l ready refl o ds lent room p s in
-    let first = first-drawn m request (l .expected) t l ready refl o (lent 0) (room 0) in
+    let c = carried m request (l .expected) in
+    let first = first-drawn m c (l .expected) t l ready refl o (lent 0) (room 0) in
     record {
-      alone = ap (λ (r : Ran). r .sent) first ∙ first-sent m request (l .expected) t l ready refl o;
-      carried = ap (λ (r : Ran). r .tables) first ∙ first-carried m request (l .expected) t l ready refl o;
+      alone = ap (λ (r : Ran). r .sent) first ∙ first-sent m c (l .expected) t l ready refl o;
+      carried = ap (λ (r : Ran). r .tables) first ∙ first-carried m c (l .expected) t l ready refl o;
       drawn = went .drawn;
       tables = went .tables ∙ sym (ap (λ (r : Ran). r .tables) first);
       expected = ap (λ (j : Link). j .expected) (went .link) ∙ acted-expected (went .acted) ∙ sym (ap (λ (r : Ran). r .link .expected) first);

@@ -14,17 +14,19 @@ use Rattle.ft12.specs.declared.rules.Heard.{Heard}
 use Rattle.ft12.specs.declared.rules.Heard.the-variants.{Gathered, Dropped, Ignored, Acknowledged, Reset, Repeat, Request}
 use Rattle.ft12.specs.Frame.{acknowledgement, dataFrame, longestMessage, messageOf}
 use Rattle.ft12.specs.Record.{Line, lineOf, serverControl}
-use Rattle.ft12.specs.Rules.{heardAt, onHeard, onHostByte, onIdleMark, onAckWaitOver, onMessage}
+use Rattle.ft12.specs.Rules.{heardAt, onHeard, onHostByte, onIdleMark, onMessage}
 use Rattle.ft12.proofs.FrameLaws.{frame-message}
 use Rattle.baos.specs.Table.{Tables}
-use Rattle.baos.specs.Message.{subService, startOf, numberOf, filterOf, coded, Finding, fine, bad, answerOf, afterOf, served}
+use Rattle.baos.specs.Message.{subService, startOf, numberOf, filterOf, coded, Finding, fine, bad, Served, answerOf, afterOf, served}
 use Rattle.baos.specs.Get.{AnswerEntry, listing, getFinding, getting, getServerItem, getDatapointDescription, getDatapointValue, getParameterByte}
 use Rattle.baos.specs.Set.{SetEntry, setFinding, setting, setServerItem, setDatapointValue}
-use Rattle.baos.specs.Service.{service, unanswered, carriedOut}
+use Rattle.baos.specs.Service.{service, carriedOut}
 use Rattle.baos.specs.Indication.{indication}
+use Rattle.baos.proofs.DispatchLaws.{by-service, by-message}
 use Rattle.calls.specs.declared.event.Event.{Event}
 use Rattle.calls.specs.declared.event.Event.the-variants.{HostByte, IdleMark, AckWaitOver, Poll, BusValue, TransmissionOutcome}
-use Rattle.calls.specs.Call.{saying, handedUp, onMoved, onPoll, happens, refusal, refused, accepted, call}
+use Rattle.calls.specs.Call.{Done, saying, handedUp, onMoved, onPoll, happens, refusal, refused, accepted, call}
+use Rattle.calls.proofs.CallJoins.{waited}
 use Rattle.demands.specs.Run.{sentOf}
 use Rattle.demands.specs.Answers.{ErrorAnswer, ErrorsChangeNothing, ErrorCallsChangeNothing}
 
@@ -69,27 +71,19 @@ set-leaves h first judge done t m a = served-leaves (setFinding h first judge m)
 
 -- ---- every message
 service-leaves : (t : Tables) (m : List ℕ) → ErrorAnswer (service t m .says) → service t m .after ≡ t
-unfolding service getServerItem setServerItem getDatapointDescription getDatapointValue setDatapointValue getParameterByte
+unfolding getServerItem setServerItem getDatapointDescription getDatapointValue setDatapointValue getParameterByte
 service-leaves t m =
-    go (eqb (subService m) 1) (eqb (subService m) 2) (eqb (subService m) 3) (eqb (subService m) 5) (eqb (subService m) 6) (eqb (subService m) 7) refl refl refl refl refl refl
-  where
-    go : (a b c d e f : Bool) → eqb (subService m) 1 ≡ a → eqb (subService m) 2 ≡ b → eqb (subService m) 3 ≡ c → eqb (subService m) 5 ≡ d → eqb (subService m) 6 ≡ e → eqb (subService m) 7 ≡ f
-        → ErrorAnswer (service t m .says) → service t m .after ≡ t
-    go true b c d e f e1 e2 e3 e5 e6 e7 = simp e1 (get-leaves 6 false _ t t m)
-    go false true c d e f e1 e2 e3 e5 e6 e7 = simp (e1, e2) (set-leaves 3 _ _ _ t m)
-    go false false true d e f e1 e2 e3 e5 e6 e7 = simp (e1, e2, e3) (get-leaves 6 false _ t t m)
-    go false false false true e f e1 e2 e3 e5 e6 e7 = simp (e1, e2, e3, e5) (get-leaves 7 (ltb 2 (filterOf m)) _ t _ m)
-    go false false false false true f e1 e2 e3 e5 e6 e7 = simp (e1, e2, e3, e5, e6) (set-leaves 4 _ _ _ t m)
-    go false false false false false true e1 e2 e3 e5 e6 e7 = simp (e1, e2, e3, e5, e6, e7) (get-leaves 6 false _ t t m)
-    go false false false false false false e1 e2 e3 e5 e6 e7 = simp (e1, e2, e3, e5, e6, e7) (λ a. refl)
+    by-service (λ (s : Served). ErrorAnswer (s .says) → s .after ≡ t) t m
+    (λ e. get-leaves 6 false _ t t m)
+    (λ e. set-leaves 3 _ _ _ t m)
+    (λ e. get-leaves 6 false _ t t m)
+    (λ e. get-leaves 7 (ltb 2 (filterOf m)) _ t _ m)
+    (λ e. set-leaves 4 _ _ _ t m)
+    (λ e. get-leaves 6 false _ t t m)
+    (λ a. refl)
 
 pub errors-change-nothing : ErrorsChangeNothing
-unfolding carriedOut
-errors-change-nothing t m = go (unanswered m) refl
-  where
-    go : (u : Bool) → unanswered m ≡ u → ErrorAnswer (carriedOut t m .says) → carriedOut t m .after ≡ t
-    go true e = simp e (λ a. refl)
-    go false e = simp e (service-leaves t m)
+errors-change-nothing t m = by-message (λ (s : Served). ErrorAnswer (s .says) → s .after ≡ t) t m (λ a. refl) (service-leaves t m)
 
 -- ---- over calls
 carries-same : (c c′ : ℕ) (m m′ : List ℕ) → dataFrame c m ≡ dataFrame c′ m′ → m ≡ m′
@@ -133,15 +127,6 @@ module _ (c : ℕ) (a : List ℕ) (error : ErrorAnswer a) where
   heard-leaves Repeat b t l h = refl
   heard-leaves (Request n) b t l h = unfold saying in said-leaves t _ _ (unfold saying in h)
 
-  wait-leaves : (t : Tables) (l : Line) → onMoved (onAckWaitOver l) t .tables ≡ t
-  unfolding onMoved handedUp onAckWaitOver
-  wait-leaves t l = go (isEmpty (l .outstanding)) (ltb (l .resends) 3) refl refl
-    where
-      go : (u v : Bool) → isEmpty (l .outstanding) ≡ u → ltb (l .resends) 3 ≡ v → onMoved (onAckWaitOver l) t .tables ≡ t
-      go true v e d = simp (e, onAckWaitOver)
-      go false true e d = simp (e, d, onAckWaitOver)
-      go false false e d = simp (e, d, onAckWaitOver)
-
   poll-leaves : (t : Tables) (l : Line) → onPoll t l .sent ≡ acknowledgement ++ dataFrame c a → onPoll t l .tables ≡ t
   unfolding onPoll saying
   poll-leaves t l = go (isEmpty (l .outstanding)) refl
@@ -157,7 +142,7 @@ module _ (c : ℕ) (a : List ℕ) (error : ErrorAnswer a) where
   unfolding happens
   happens-leaves (HostByte b) v t l h = unfold onHostByte in heard-leaves (heardAt b l) b t l (unfold onHostByte in h)
   happens-leaves IdleMark v t l h = unfold onMoved handedUp onIdleMark in refl
-  happens-leaves AckWaitOver v t l h = wait-leaves t l
+  happens-leaves AckWaitOver v t l h = ap (λ (d : Done). d .tables) (waited l t)
   happens-leaves Poll v t l h = poll-leaves t l h
   happens-leaves (BusValue id) v t l h = absurd (not-nothing h)
   happens-leaves (TransmissionOutcome id x) v t l h = absurd (not-nothing h)

@@ -10,7 +10,7 @@ use Rattle.words.specs.Words.{isEmpty}
 use Rattle.ft12.specs.Frame.{acknowledgement, dataFrame}
 use Rattle.ft12.specs.Receiver.{isBeginning}
 use Rattle.ft12.specs.Record.{Line, hostControl}
-use Rattle.ft12.specs.Rules.{Up, nothing, acknowledged, reset, message, atStart, gathering, expecting, onHostByte, onIdleMark}
+use Rattle.ft12.specs.Rules.{Up, nothing, acknowledged, dropped, reset, message, atStart, gathering, expecting, onHostByte, onIdleMark}
 use Rattle.ft12.specs.Delivery.{Run, told, run, delivered}
 use Rattle.words.proofs.WordLaws.{true-T}
 use Rattle.ft12.proofs.HearingLaws.{beginning-runs, frame-reads, request-heard}
@@ -40,6 +40,7 @@ unfoldable pub noMessage : List Up → Bool
 noMessage [] = true
 noMessage (nothing ∷ us) = noMessage us
 noMessage (acknowledged ∷ us) = noMessage us
+noMessage (dropped ∷ us) = noMessage us
 noMessage (reset ∷ us) = noMessage us
 noMessage (message m ∷ us) = false
 
@@ -56,6 +57,7 @@ module _ (bs : List ℕ) (t : Tables) (s : List ℕ) (l : Line) where
   unfolding noMessage told handedUp following
   handed-leaves nothing n r = rw (r n)
   handed-leaves acknowledged n r = rw (r n)
+  handed-leaves dropped n r = rw (r n)
   handed-leaves reset n r = rw (r n)
   handed-leaves (message m) n r = absurd n
 
@@ -85,6 +87,7 @@ last-told : (u : Up) (m : List ℕ) → told u [] ≡ message m ∷ [] → u ≡
 unfolding told noMessage
 last-told nothing m e = absurd (true-T (sym (ap noMessage e)))
 last-told acknowledged m e = absurd (true-T (sym (ap noMessage e)))
+last-told dropped m e = absurd (true-T (sym (ap noMessage e)))
 last-told reset m e = absurd (true-T (sym (ap noMessage e)))
 last-told (message x) m e = cc
 

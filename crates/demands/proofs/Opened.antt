@@ -11,7 +11,7 @@ use Rattle.baos.specs.Item.{itemOk, bytesOf, withBytes}
 use Rattle.baos.specs.Table.{rising, tableOk, wellFormed, found, changed}
 use Rattle.baos.specs.Message.{mainService, subService, startOf, numberOf, filterOf, coded, answerOf, afterOf, served}
 use Rattle.baos.specs.Get.{inRequest, overflow, listing, getFinding, getting, itemEntry, getServerItem, descriptionEntry, getDatapointDescription, valueEntry, passes, asked, handingOut, getDatapointValue, parameterEntries, getParameterByte}
-use Rattle.baos.specs.Set.{firstItemEntry, firstDatapointEntry, span, fills, setEntries, itemCode, datapointCode, judgedItem, judgedDatapoint, firstBad, setFinding, applied, setting, setItem, setServerItem, setDatapoint, setDatapointValue}
+use Rattle.baos.specs.Set.{firstItemEntry, firstDatapointEntry, span, fills, setEntries, itemCode, takesCommand, datapointCode, judgedItem, judgedDatapoint, firstBad, setFinding, applied, setting, setItem, setServerItem, setDatapoint, setDatapointValue}
 use Rattle.baos.specs.Service.{service, unanswered, carriedOut}
 use Rattle.baos.specs.Indication.{needs, goes, roomAfter, choices, reported, afterReport, indicationOf, indication}
 use Rattle.calls.specs.Event.{statusOf, atDatapoint, valueFits, busOk}
@@ -19,5 +19,5 @@ use Rattle.calls.specs.Call.{saying, handedUp, onMoved, onPoll, happens, refusa
 use Rattle.demands.specs.Run.{sentOf, before, run}
 
 unfoldable pub opened : Bool
-unfolding flatten areZero isPadded areBytes fixedFrame total checksum dataFrame messageOf isWhole judgedFirst judgedFixed judgedData judged isMore gathers isBeginning lineOf linkOf hostControl serverControl receiverOk outstandingOk lineOk memoryOk inRange atStart startDropping gathering cleared holding expecting caseOfAcknowledgement caseOfFixed caseOfData caseOf heardAt onHeard onHostByte onIdleMark onAckWaitOver onMessage sizeOf limitOf unusedBitsOk isValue valueOf datapointOk withState withValue withMark handedOut busValue outcome commanded itemOk bytesOf withBytes rising tableOk wellFormed found changed mainService subService startOf numberOf filterOf coded answerOf afterOf served inRequest overflow listing getFinding getting itemEntry getServerItem descriptionEntry getDatapointDescription valueEntry passes asked handingOut getDatapointValue parameterEntries getParameterByte firstItemEntry firstDatapointEntry span fills setEntries itemCode datapointCode judgedItem judgedDatapoint firstBad setFinding applied setting setItem setServerItem setDatapoint setDatapointValue service unanswered carriedOut needs goes roomAfter choices reported afterReport indicationOf indication statusOf atDatapoint valueFits busOk saying handedUp onMoved onPoll happens refusal refused accepted call sentOf before run
+unfolding flatten areZero isPadded areBytes fixedFrame total checksum dataFrame messageOf isWhole judgedFirst judgedFixed judgedData judged isMore gathers isBeginning lineOf linkOf hostControl serverControl receiverOk outstandingOk lineOk memoryOk inRange atStart startDropping gathering cleared holding expecting caseOfAcknowledgement caseOfFixed caseOfData caseOf heardAt onHeard onHostByte onIdleMark onAckWaitOver onMessage sizeOf limitOf unusedBitsOk isValue valueOf datapointOk withState withValue withMark handedOut busValue outcome commanded itemOk bytesOf withBytes rising tableOk wellFormed found changed mainService subService startOf numberOf filterOf coded answerOf afterOf served inRequest overflow listing getFinding getting itemEntry getServerItem descriptionEntry getDatapointDescription valueEntry passes asked handingOut getDatapointValue parameterEntries getParameterByte firstItemEntry firstDatapointEntry span fills setEntries itemCode takesCommand datapointCode judgedItem judgedDatapoint firstBad setFinding applied setting setItem setServerItem setDatapoint setDatapointValue service unanswered carriedOut needs goes roomAfter choices reported afterReport indicationOf indication statusOf atDatapoint valueFits busOk saying handedUp onMoved onPoll happens refusal refused accepted call sentOf before run
 opened = true

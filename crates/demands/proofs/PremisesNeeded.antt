@@ -4,20 +4,20 @@ use mathlib.Core.Path.{_≡_, refl, sym, _∙_, ap, subst}
 use mathlib.Core.Bool.{Bool, true, false, not, _&&_}
 use mathlib.Core.List.{List, [], _∷_, _++_}
 use native.Mathlib.Omega.{arith}
-use lib.ListN.{length, getD}
+use lib.ListN.{length, getD, replicate}
 use lib.Dec.{T, eqb, eqb→eq}
 use Rattle.words.specs.Words.{isEmpty, same}
 use Rattle.ft12.specs.declared.record.Link.{Link}
-use Rattle.ft12.specs.Record.{linkOf}
+use Rattle.ft12.specs.Record.{linkOf, inRange}
 use Rattle.ft12.specs.Delivery.{sound, changed, lost, isSound, arrives}
 use Rattle.words.proofs.WordLaws.{left, right, same→eq}
 use Rattle.ft12.proofs.RecordLaws.{line-in-range}
 use Rattle.baos.specs.Datapoint.{zeroDatapoint}
-use Rattle.baos.specs.Table.{Tables, wellFormed}
+use Rattle.baos.specs.Table.{Tables, datapointsOnly, wellFormed}
 use Rattle.demands.specs.Run.{Ran}
 use Rattle.demands.specs.Example.{lineAt, item1, ask1, answer1, datapoint, datapoint5, set5, answer3}
 use Rattle.demands.specs.Exchange.{Lent, calls, thenIdle, delivery, exchange, isAccepted, allAccepted, noneRefused, Start, Request, requestFrame, EachPossible, someSound, answerFrame, draws}
-use Rattle.demands.specs.Needed.{Demand3For, StartUnchecked, StartAnywhere, StartHolding, AnyRequest, AtLeastOneSound, AnyNumberSound, AnyDeliveries, restingLink, roomy, unmarked, marked, twoChanged, statusEntries, spelt, spelling, Needed}
+use Rattle.demands.specs.Needed.{Demand3For, StartAnyTables, StartAnyLink, StartAnyRoom, StartAnywhere, StartHolding, AnyRequest, AtLeastOneSound, AnyNumberSound, AnyDeliveries, restingLink, roomy, unmarked, marked, twoChanged, statusEntries, spelt, spelling, Needed}
 use Rattle.demands.proofs.Opened.{opened}
 use Rattle.demands.proofs.ComputedExamples.{sameDatapoint, sameItem, sameTables, tables-eq}
 
@@ -83,15 +83,48 @@ one-sound : T (someSound (sound ∷ []))
 unfolding someSound isSound
 one-sound = tt
 
+resting-range : T (inRange restingLink)
+resting-range = unfold restingLink in line-in-range _ (unfold opened lineAt in tt)
+
+item1-ok : T (wellFormed item1)
+unfolding opened item1
+item1-ok = tt
+
+-- a datapoint of type code 15
+badTable : Tables
+badTable = datapointsOnly (record { id = 1; typecode = 15; flags = 0; dpt = 0; state = 0; value = replicate 14 0; mark = false } ∷ [])
+
+well-formed : Demand3For StartAnyTables Request EachPossible AtLeastOneSound → ⊥
+well-formed h = refused (h lent ask (sound ∷ []) badTable restingLink start asked (tt, tt) one-sound .accepted)
+  where
+    start : StartAnyTables lent badTable restingLink
+    start = record { link = resting-range; output = room; received = unfold opened restingLink lineAt in refl; dropping = unfold opened restingLink lineAt in refl; held = unfold opened restingLink lineAt in refl }
+
+    refused : T (noneRefused lent (requestFrame restingLink ask) (sound ∷ []) badTable restingLink) → ⊥
+    refused = unfold opened roomy restingLink lineAt ask badTable requestFrame arrives thenIdle isAccepted allAccepted noneRefused in λ t. t
+
+-- nothing outstanding, and yet sent again once
+badLink : Link
+badLink = linkOf (record { gathered = []; dropping = false; expected = true; send = true; outstanding = []; resends = 1 })
+
+in-range : Demand3For StartAnyLink Request EachPossible AtLeastOneSound → ⊥
+in-range h = refused (h lent ask (sound ∷ []) item1 badLink start asked (tt, tt) one-sound .accepted)
+  where
+    start : StartAnyLink lent item1 badLink
+    start = record { tables = item1-ok; output = room; received = unfold opened badLink in refl; dropping = unfold opened badLink in refl; held = unfold opened badLink in refl }
+
+    refused : T (noneRefused lent (requestFrame badLink ask) (sound ∷ []) item1 badLink) → ⊥
+    refused = unfold opened roomy badLink ask item1 requestFrame arrives thenIdle isAccepted allAccepted noneRefused in λ t. t
+
 -- no output room
 cramped : ℕ → ℕ → Lent
 cramped i n = record { value = []; output = [] }
 
-not-refused : Demand3For StartUnchecked Request EachPossible AtLeastOneSound → ⊥
-not-refused h = refused (h cramped ask (sound ∷ []) item1 restingLink start asked (tt, tt) one-sound .accepted)
+roomy-enough : Demand3For StartAnyRoom Request EachPossible AtLeastOneSound → ⊥
+roomy-enough h = refused (h cramped ask (sound ∷ []) item1 restingLink start asked (tt, tt) one-sound .accepted)
   where
-    start : StartUnchecked cramped item1 restingLink
-    start = unfold opened restingLink lineAt in record { received = refl; dropping = refl; held = refl }
+    start : StartAnyRoom cramped item1 restingLink
+    start = record { tables = item1-ok; link = resting-range; received = unfold opened restingLink lineAt in refl; dropping = unfold opened restingLink lineAt in refl; held = unfold opened restingLink lineAt in refl }
 
     refused : T (noneRefused cramped (requestFrame restingLink ask) (sound ∷ []) item1 restingLink) → ⊥
     refused = unfold opened cramped restingLink lineAt ask item1 requestFrame arrives thenIdle isAccepted allAccepted noneRefused in λ t. t
@@ -145,16 +178,12 @@ module _ (t : Tables) (w : T (wellFormed t)) where
   resting =
       record {
         tables = w;
-        link = unfold restingLink in line-in-range _ (unfold opened lineAt in tt);
+        link = resting-range;
         output = room;
         received = unfold opened restingLink lineAt in refl;
         dropping = unfold opened restingLink lineAt in refl;
         held = unfold opened restingLink lineAt in refl;
       }
-
-item1-ok : T (wellFormed item1)
-unfolding opened item1
-item1-ok = tt
 
 datapoint5-ok : T (wellFormed (datapoint5 0x00 0))
 unfolding opened datapoint5 datapoint
@@ -217,7 +246,9 @@ pub needed : Needed
 needed =
     record {
       as-stated = λ d. d;
-      not-refused = not-refused;
+      well-formed = well-formed;
+      in-range = in-range;
+      roomy-enough = roomy-enough;
       frame-start = frame-start;
       nothing-outstanding = nothing-outstanding;
       first-byte = first-byte;

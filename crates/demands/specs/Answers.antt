@@ -15,6 +15,7 @@ use Rattle.calls.specs.Call.{call}
 use Rattle.calls.specs.Promise.{Leaves}
 use Rattle.demands.specs.Run.{sentOf}
 use Rattle.demands.specs.SentFrames.{SentFramesRead}
+use Rattle.demands.specs.HostHears.{HostHears, SentAgain, HostHearsAll}
 
 -- ---- "Every answer, every byte sent and every table entry afterwards is what [..] define."
 -- The call's promise is `Leaves (call ..)`: reply, tables, link record and output are those that the definitions give. "Show that no second outcome satisfies it":
@@ -66,3 +67,6 @@ pub record Demand2 : Type 0 where
   pub errors-change-nothing : ErrorsChangeNothing
   pub error-calls-change-nothing : ErrorCallsChangeNothing
   pub sent-frames-read : SentFramesRead
+  pub host-hears : HostHears
+  pub sent-again : SentAgain
+  pub host-hears-all : HostHearsAll

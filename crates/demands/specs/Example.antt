@@ -1,17 +1,20 @@
 -- The examples of document 01 that are marked P: one list, and what it means that one of them holds.
 use Prim.Native.Nat.{ℕ, zero, suc, _+_, _≤_}
 use mathlib.Core.Path.{_≡_}
-use mathlib.Core.Bool.{Bool, true, false, _||_}
+use mathlib.Core.Bool.{Bool, true, false}
 use mathlib.Core.List.{List, [], _∷_, _++_, map}
 use lib.ListN.{length, drop, replicate}
-use lib.Dec.{T, ltb, eqb}
-use Rattle.words.specs.Words.{pad, keep, every}
+use lib.Dec.{T, ltb}
+use Rattle.words.specs.Words.{if_then_else_, isEmpty, pad, keep, every}
 use Rattle.ft12.specs.Frame.{dataFrame}
 use Rattle.ft12.specs.Record.{Line, linkOf}
 use Rattle.baos.specs.declared.datapoint.Datapoint.{Datapoint}
 use Rattle.baos.specs.declared.item.Item.{Item}
-use Rattle.baos.specs.Table.{Tables}
+use Rattle.baos.specs.Datapoint.{datapointId}
+use Rattle.baos.specs.Item.{itemId}
+use Rattle.baos.specs.Table.{Tables, datapointsOnly, itemsOnly, parametersOnly, wellFormed, found as entryOf}
 use Rattle.baos.specs.Message.{mainService, subService, startOf, numberOf, filterOf, coded}
+use Rattle.baos.specs.Get.{AnswerEntry, listing, itemEntry, descriptionEntry, valueEntry, passes}
 use Rattle.baos.specs.Set.{fills, firstDatapointEntry}
 use Rattle.baos.specs.Service.{carriedOut}
 use Rattle.calls.specs.declared.event.Event.the-variants.{HostByte}
@@ -52,11 +55,7 @@ exchange t m answer t′ =
 -- 1: item 1 = 00 00 C5 07 00 02
 unfoldable pub item1 : Tables
 item1 =
-    record {
-      datapoints = [];
-      items = record { id = 1; size = 6; writable = false; bytes = pad 16 (0x00 ∷ 0x00 ∷ 0xC5 ∷ 0x07 ∷ 0x00 ∷ 0x02 ∷ []) } ∷ [];
-      parameters = [];
-    }
+    itemsOnly (record { id = 1; size = 6; writable = false; bytes = pad 16 (0x00 ∷ 0x00 ∷ 0xC5 ∷ 0x07 ∷ 0x00 ∷ 0x02 ∷ []) } ∷ [])
 
 unfoldable pub ask1 : List ℕ
 ask1 = 0x68 ∷ 0x07 ∷ 0x07 ∷ 0x68 ∷ 0x73 ∷ 0xF0 ∷ 0x01 ∷ 0x00 ∷ 0x01 ∷ 0x00 ∷ 0x01 ∷ 0x66 ∷ 0x16 ∷ []
@@ -82,7 +81,7 @@ unfoldable pub datapoint : ℕ → ℕ → ℕ → List ℕ → Datapoint
 datapoint id typecode state value = record { id = id; typecode = typecode; flags = 0; dpt = 1; state = state; value = pad 14 value; mark = false }
 
 unfoldable pub datapoint5 : ℕ → ℕ → Tables
-datapoint5 state value = record { datapoints = datapoint 5 0 state (value ∷ []) ∷ []; items = []; parameters = [] }
+datapoint5 state value = datapointsOnly (datapoint 5 0 state (value ∷ []) ∷ [])
 
 unfoldable pub answer3 : List ℕ
 answer3 = 0x68 ∷ 0x08 ∷ 0x08 ∷ 0x68 ∷ 0xF3 ∷ 0xF0 ∷ 0x86 ∷ 0x00 ∷ 0x05 ∷ 0x00 ∷ 0x00 ∷ 0x00 ∷ 0x6E ∷ 0x16 ∷ []
@@ -110,7 +109,7 @@ oneByteFrom id zero = []
 oneByteFrom id (suc n) = datapoint id 7 0x10 (id ∷ []) ∷ oneByteFrom (suc id) n
 
 unfoldable pub oneBytes : ℕ → Tables
-oneBytes n = record { datapoints = oneByteFrom 1 n; items = []; parameters = [] }
+oneBytes n = datapointsOnly (oneByteFrom 1 n)
 
 unfoldable pub entriesFrom : ℕ → ℕ → List ℕ
 entriesFrom id zero = []
@@ -124,7 +123,7 @@ case5more = exchange (oneBytes 50) (0xF0 ∷ 0x05 ∷ 0x00 ∷ 0x01 ∷ 0x00 ∷
 
 -- 6: n parameter bytes
 unfoldable pub parameterBytes : ℕ → Tables
-parameterBytes n = record { datapoints = []; items = []; parameters = replicate n 0xAB }
+parameterBytes n = parametersOnly (replicate n 0xAB)
 
 unfoldable pub case6 : Case
 case6 = exchange (parameterBytes 248) (0xF0 ∷ 0x07 ∷ 0x00 ∷ 0x01 ∷ 0x00 ∷ 248 ∷ []) (0xF0 ∷ 0x87 ∷ 0x00 ∷ 0x01 ∷ 0x00 ∷ 248 ∷ replicate 248 0xAB) (parameterBytes 248)
@@ -155,29 +154,27 @@ case9one =
       lineAfter = lineAt false true [];
     }
 
--- ---- 7: "start FFFF, number FFFF: only ID 65535 can answer", for any number, any table of two-byte IDs and each of the four gets
-unfoldable pub isGet : ℕ → Bool
-isGet sub = eqb sub 0x01 || eqb sub 0x03 || eqb sub 0x05 || eqb sub 0x07
-
--- the tables with the entries of ID 65535 alone; there is no parameter byte of that index
-unfoldable pub lastIds : Tables → Tables
-lastIds t =
-    record {
-      datapoints = keep (λ (d : Datapoint). eqb (d .id) 0xFFFF) (t .datapoints);
-      items = keep (λ (i : Item). eqb (i .id) 0xFFFF) (t .items);
-      parameters = [];
-    }
-
--- IDs of two bytes, parameter bytes as a well-formed table has them
+-- ---- 7: "start FFFF, number FFFF: only ID 65535 can answer", for any number from 1 on, any tables that no call refuses and each of the four gets
+-- IDs of two bytes
 pub record TwoByteIds (t : Tables) : Type 0 where
   pub datapoints : T (every (λ (d : Datapoint). ltb (d .id) 0x1_0000) (t .datapoints))
   pub items : T (every (λ (i : Item). ltb (i .id) 0x1_0000) (t .items))
-  pub parameters : length (t .parameters) ≤ 255
+
+-- the request m is answered with these entries, or with code 2 where there are none
+abbrev pub AnsweredWith : Tables → List ℕ → List AnswerEntry → Type 0
+AnsweredWith t m es = carriedOut t m .says ≡ (if isEmpty es then coded m 0xFFFF 2 else listing (subService m + 0x80) 0xFFFF es)
+
+pub record LastId (t : Tables) (m : List ℕ) : Type 0 where
+  pub item : subService m ≡ 0x01 → length m ≡ 6 → AnsweredWith t m (map itemEntry (entryOf itemId 0xFFFF (t .items)))
+  pub description : subService m ≡ 0x03 → length m ≡ 6 → AnsweredWith t m (map descriptionEntry (entryOf datapointId 0xFFFF (t .datapoints)))
+  pub value : subService m ≡ 0x05 → length m ≡ 7 → filterOf m ≤ 2
+      → AnsweredWith t m (map valueEntry (keep (passes (filterOf m)) (entryOf datapointId 0xFFFF (t .datapoints))))
+  -- there is no parameter byte of that index
+  pub parameter : subService m ≡ 0x07 → length m ≡ 6 → AnsweredWith t m []
 
 abbrev pub LastIdOnly : Type 0
 LastIdOnly =
-    (t : Tables) (m : List ℕ) → TwoByteIds t → T (isGet (subService m)) → startOf m ≡ 0xFFFF
-    → carriedOut t m .says ≡ carriedOut (lastIds t) m .says
+    (t : Tables) (m : List ℕ) → T (wellFormed t) → TwoByteIds t → mainService m ≡ 0xF0 → startOf m ≡ 0xFFFF → 1 ≤ numberOf m → LastId t m
 
 -- ---- 8: "empty datapoint table"
 -- the request m is answered with this code and ID, and no table changes

@@ -3,6 +3,8 @@ pub mod Example
 pub mod Host
 pub mod Refusals
 pub mod SentFrames
+pub mod HostHears
+pub mod HandedOut
 pub mod Answers
 pub mod Exchange
 pub mod Needed

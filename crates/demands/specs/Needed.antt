@@ -22,8 +22,26 @@ Demand3For Starts Requests Deliveries SomeSound =
     (lent : ℕ → ℕ → Lent) (m : List ℕ) (ds : List Delivery) (t : Tables) (k : Link) → Starts lent t k → Requests m → Deliveries (requestFrame k m) ds → SomeSound ds
     → Once lent m ds t k
 
--- "tables, link record and output room that no call refuses" left out
-pub record StartUnchecked (lent : ℕ → ℕ → Lent) (t : Tables) (k : Link) : Type 0 where
+-- "tables [..] that no call refuses" left out
+pub record StartAnyTables (lent : ℕ → ℕ → Lent) (t : Tables) (k : Link) : Type 0 where
+  pub link : T (inRange k)
+  pub output : (i n : ℕ) → 262 ≤ length (lent i n .output)
+  pub received : k .received ≡ 0
+  pub dropping : k .dropping ≡ false
+  pub held : k .held ≡ 0
+
+-- "link record [..] that no call refuses" left out
+pub record StartAnyLink (lent : ℕ → ℕ → Lent) (t : Tables) (k : Link) : Type 0 where
+  pub tables : T (wellFormed t)
+  pub output : (i n : ℕ) → 262 ≤ length (lent i n .output)
+  pub received : k .received ≡ 0
+  pub dropping : k .dropping ≡ false
+  pub held : k .held ≡ 0
+
+-- "output room that no call refuses" left out
+pub record StartAnyRoom (lent : ℕ → ℕ → Lent) (t : Tables) (k : Link) : Type 0 where
+  pub tables : T (wellFormed t)
+  pub link : T (inRange k)
   pub received : k .received ≡ 0
   pub dropping : k .dropping ≡ false
   pub held : k .held ≡ 0
@@ -96,7 +114,9 @@ pub record Needed : Type 0 where
   -- with its premises in their places it is demand 3
   pub as-stated : Demand3 → Demand3For Start Request EachPossible AtLeastOneSound
   -- and false without one of them
-  pub not-refused : Demand3For StartUnchecked Request EachPossible AtLeastOneSound → ⊥
+  pub well-formed : Demand3For StartAnyTables Request EachPossible AtLeastOneSound → ⊥
+  pub in-range : Demand3For StartAnyLink Request EachPossible AtLeastOneSound → ⊥
+  pub roomy-enough : Demand3For StartAnyRoom Request EachPossible AtLeastOneSound → ⊥
   pub frame-start : Demand3For StartAnywhere Request EachPossible AtLeastOneSound → ⊥
   pub nothing-outstanding : Demand3For StartHolding Request EachPossible AtLeastOneSound → ⊥
   pub first-byte : Demand3For Start AnyRequest EachPossible AtLeastOneSound → ⊥
@@ -112,7 +132,8 @@ pub record Needed : Type 0 where
   pub spelt-sent : delivery roomy (requestFrame restingLink spelling) (lost 0) (datapoint5 0x00 0) restingLink .sent ≡ 0xE5 ∷ answer3
   pub spelt-tables : delivery roomy (requestFrame restingLink spelling) (lost 0) (datapoint5 0x00 0) restingLink .tables ≡ datapoint5 0x03 0
 
--- To read it: without any one of the premises named, and with all the others, demand 3 is false. With output room below 262 bytes a call is refused; from mid-frame,
+-- To read it: without any one of the premises named, and with all the others, demand 3 is false. With a table that is not well formed, a link
+-- record that is not in range or output room below 262 bytes a call is refused; from mid-frame,
 -- or with a frame outstanding, a sound delivery draws no acknowledgement; a message that does not begin F0 can spell another frame, which one lost byte sets free; a
 -- byte changed into itself, or two bytes changed, make a delivery that is sound, of the same request or of another; with no sound delivery nothing is set; with no
 -- idle mark behind a damaged delivery the sound one behind it is lost.

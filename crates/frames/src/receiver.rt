@@ -6,15 +6,19 @@ ghost use lib.ListN.{length, getD, take};
 ghost use lib.Dec.{T};
 ghost use Rattle.ft12.specs.Receiver.{judgedFirst, judgedFixed, judgedData, judged, isBeginning};
 use crate::frame::checksum;
+use ft12::frame::ACKNOWLEDGEMENT;
+use ft12::frame::DATA_START;
+use ft12::frame::FIXED_START;
+use ft12::frame::FRAME_END;
 use ft12::receiver::Judgement;
 
 fn judge_first(b: u8) -> Judgement
     ensures { λ r. ⌜ r ≡ judgedFirst b ⌝ }
 {
     match b {
-        0xE5 => Judgement::Acknowledgement,
-        0x10 => Judgement::More,
-        0x68 => Judgement::More,
+        ACKNOWLEDGEMENT => Judgement::Acknowledgement,
+        FIXED_START => Judgement::More,
+        DATA_START => Judgement::More,
         _ => Judgement::Damage,
     }
 }
@@ -35,7 +39,7 @@ fn judge_fixed(g: &[u8], b: u8) -> Judgement
         }
         return Judgement::Damage;
     }
-    if b == 0x16 {
+    if b == FRAME_END {
         return Judgement::Fixed(c);
     }
     Judgement::Damage
@@ -63,7 +67,7 @@ fn judge_data(g: &[u8], b: u8) -> Judgement
         return Judgement::Damage;
     }
     if n == 3 {
-        if b == 0x68 {
+        if b == DATA_START {
             return Judgement::More;
         }
         return Judgement::Damage;
@@ -77,7 +81,7 @@ fn judge_data(g: &[u8], b: u8) -> Judgement
         }
         return Judgement::Damage;
     }
-    if b == 0x16 {
+    if b == FRAME_END {
         return Judgement::Data(g[4], count);
     }
     Judgement::Damage
@@ -90,7 +94,7 @@ pub fn judge(g: &[u8], b: u8) -> Judgement
     if g.len() == 0 {
         return judge_first(b);
     }
-    if g[0] == 0x10 {
+    if g[0] == FIXED_START {
         return judge_fixed(g, b);
     }
     judge_data(g, b)
@@ -158,7 +162,7 @@ fn is_data_beginning(g: &[u8]) -> bool
     if n == 3 {
         return true;
     }
-    if g[3] != 0x68 {
+    if g[3] != DATA_START {
         return false;
     }
     is_counted_beginning(count, &g[4..])
@@ -171,10 +175,10 @@ pub fn is_beginning(g: &[u8]) -> bool
     if g.len() == 0 {
         return true;
     }
-    if g[0] == 0x10 {
+    if g[0] == FIXED_START {
         return is_fixed_beginning(g);
     }
-    if g[0] == 0x68 {
+    if g[0] == DATA_START {
         return is_data_beginning(g);
     }
     false

@@ -22,7 +22,7 @@ use Rattle.ft12.specs.Delivery.{Delivery, sound, changed, lost, isSound,
 use Rattle.words.proofs.WordLaws.{both, true-T, bytes-at}
 use Rattle.ft12.proofs.ReceiverLaws.{headed, judged-start, judged-fixed-2, judged-fixed-3, judged-data-1, judged-data-2, judged-data-3, judged-sum, judged-end, beginning-prefix}
 use Rattle.ft12.proofs.FrameLaws.{frame-length, head-gathers, body-beginning, summed-beginning, fixed-beginning}
-use Rattle.ft12.proofs.HearingLaws.{quiet, Fails, stops, breaks, failing-nothing, acknowledges, Echoes, once, again, echoes-acknowledge}
+use Rattle.ft12.proofs.HearingLaws.{Fails, stops, breaks, failing-nothing, Echoes, once, again, echoes-acknowledge}
 
 -- ---- a byte that breaks the forms, by its place
 only-other : (x b : ℕ) → b ≢ x → only x b ≡ Damage
@@ -243,24 +243,6 @@ module _ (c : ℕ) (host : (c ≡ 0x73) ⊎ (c ≡ 0x53)) where
         line = if isEmpty (l .outstanding) then l else cleared (not (l .send)) l;
       }
   damaged-acknowledges m d l f e s = echoes-acknowledge l (echoes m d f e) s
-
-  -- both together, for a request whose "first byte [is] F0"
-  pub damaged-either : (m : List ℕ) (d : Delivery) (l : Line) → length m ≤ 254 → T (areBytes m) → getD m 0 0 ≡ 0xF0 → isSound d ≡ false → Possible (dataFrame c m) d → l ≡ atStart l
-      → (delivered (arrives (dataFrame c m) d) l ≡ quiet l) ⊎ (delivered (arrives (dataFrame c m) d) l ≡ acknowledges l)
-  damaged-either m d l h t f u p s = go (ℕ-discrete (getD (arrives (dataFrame c m) d) 0 0) 0xE5)
-    where
-      go : Dec (getD (arrives (dataFrame c m) d) 0 0 ≡ 0xE5) → (delivered (arrives (dataFrame c m) d) l ≡ quiet l) ⊎ (delivered (arrives (dataFrame c m) d) l ≡ acknowledges l)
-      go (yes e) = inr (damaged-acknowledges m d l f e s)
-      go (no r) = inl (damaged-nothing m d l h t u p r s)
-
-  -- with nothing outstanding it does nothing at all
-  pub damaged-free : (m : List ℕ) (d : Delivery) (l : Line) → length m ≤ 254 → T (areBytes m) → getD m 0 0 ≡ 0xF0 → isSound d ≡ false → Possible (dataFrame c m) d → l ≡ atStart l
-      → isEmpty (l .outstanding) ≡ true → delivered (arrives (dataFrame c m) d) l ≡ quiet l
-  damaged-free m d l h t f u p s o = go (damaged-either m d l h t f u p s)
-    where
-      go : (delivered (arrives (dataFrame c m) d) l ≡ quiet l) ⊎ (delivered (arrives (dataFrame c m) d) l ≡ acknowledges l) → delivered (arrives (dataFrame c m) d) l ≡ quiet l
-      go (inl e) = e
-      go (inr e) = e ∙ simp o
 
 -- the control bytes of the host are such
 pub host-control : (odd : Bool) → (hostControl odd ≡ 0x73) ⊎ (hostControl odd ≡ 0x53)

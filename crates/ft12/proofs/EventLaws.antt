@@ -1,26 +1,26 @@
 -- Idle mark, ack wait and a message taken back: what the code leaves in the record and in the buffer is what the rules say.
-use Prim.Native.Nat.{ℕ, zero, suc, _+_, _-_, _≤_, _<_, min}
+use Prim.Native.Nat.{ℕ, zero, suc, _+_, _-_, _≤_, _<_}
 use mathlib.Core.Path.{_≡_, refl, sym, _∙_, ap}
-use mathlib.Core.Bool.{Bool, true, false, not, _||_, or-true}
+use mathlib.Core.Bool.{Bool, true, false, or-true}
 use mathlib.Core.List.{List, [], _∷_, _++_, append-nil}
 use native.Mathlib.Omega.{arith}
-use lib.ListN.{length, take, drop, replicate, length-take, length-drop, length-append, take-append-drop}
-use lib.Seq.{take-append-seam, length-take-le, take-all}
-use lib.Dec.{T, eqb, ltb}
+use lib.ListN.{length, take, drop, replicate, length-take, length-drop, take-append-drop}
+use lib.Seq.{length-take-le}
+use lib.Dec.{T, eqb}
 use borrow.Author.Tests.{lt-ltb, le-ltb, ne-eqb}
 use Rattle.ft12.specs.declared.record.Link.{Link}
-use Rattle.words.specs.Words.{if_then_else_, isEmpty, pad, put, isPadded}
-use Rattle.ft12.specs.Frame.{fixedFrame, dataFrame, longestMessage}
+use Rattle.words.specs.Words.{isEmpty, pad, put}
+use Rattle.ft12.specs.Frame.{fixedFrame, dataFrame}
 use Rattle.ft12.specs.Record.{Line, linkWith, lineOf, linkOf, serverControl, memoryOk, inRange}
-use Rattle.ft12.specs.Rules.{Moved, Up, nothing, still, atStart, cleared, holding, onIdleMark, onAckWaitOver, onMessage}
+use Rattle.ft12.specs.Rules.{Moved, nothing, dropped, still, atStart, cleared, holding, onIdleMark, onAckWaitOver, onMessage}
 use Rattle.ft12.specs.Promise.{AckWaited, MessageTaken}
-use Rattle.words.proofs.WordLaws.{left, true-T}
+use Rattle.words.proofs.WordLaws.{left}
 use Rattle.words.proofs.ByteLaws.{put-read}
 use Rattle.ft12.proofs.FrameLaws.{frame-length}
 use Rattle.ft12.proofs.RecordLaws.{linkOf-lineOf}
 use Rattle.ft12.proofs.RulesLaws.{message-waits}
 use Rattle.ft12.proofs.RangeLaws.{empty-take}
-use Rattle.ft12.proofs.PlaceLaws.{emptied, receiver-padded, outstanding-padded, received-fits, held-fits, outstanding-places, gathered-stays, received-stays, held-stays, count-stays}
+use Rattle.ft12.proofs.PlaceLaws.{emptied, receiver-padded, outstanding-padded, held-fits, outstanding-places, gathered-stays, received-stays, held-stays, count-stays}
 
 -- a record whose parts are those of a line is that line's
 parts-are : (l : Line) (receiver : List ℕ) (received : ℕ) (dropping expected send : Bool) (outstanding : List ℕ) (held resends : ℕ)
@@ -70,7 +70,7 @@ unfolding onAckWaitOver
 wait-again k t e h = simp (held-empty k t, ne-eqb (k .held) 0 e, lt-ltb (lineOf k .resends) 3 (omega (arith, resends-are k)))
 
 wait-over : (k : Link) → T (inRange k) → (k .held ≡ 0 → ⊥) → 3 ≤ k .resends
-    → onAckWaitOver (lineOf k) ≡ record { sent = fixedFrame 0xC0; up = nothing; line = cleared true (lineOf k) }
+    → onAckWaitOver (lineOf k) ≡ record { sent = fixedFrame 0xC0; up = dropped; line = cleared true (lineOf k) }
 unfolding onAckWaitOver
 wait-over k t e h = simp (held-empty k t, ne-eqb (k .held) 0 e, le-ltb (lineOf k .resends) 3 (omega (arith, resends-are k)))
 

@@ -2,18 +2,18 @@
 use Prim.Native.Nat.{ℕ, zero, suc, _+_, _-_, _≤_, _<_}
 use mathlib.Core.Path.{_≡_, refl, sym, _∙_, ap}
 use mathlib.Core.Logic.{_↔_}
-use mathlib.Core.Bool.{Bool, true, false, _&&_}
-use mathlib.Core.List.{List, [], _∷_, _++_, append-assoc, append-nil}
+use mathlib.Core.Bool.{true}
+use mathlib.Core.List.{List, [], _∷_, _++_, append-assoc}
 use native.Mathlib.Omega.{arith}
-use lib.ListN.{length, getD, take, drop, replicate, length-append, length-take, length-drop, length-replicate, take-append-drop}
+use lib.ListN.{length, take, drop, replicate, length-append, length-take, length-replicate, take-append-drop}
 use lib.Seq.{append-snoc, take-append-seam, take-append-le, take-at}
-use lib.Dec.{T, leb, ltb, eqb, leb→le, le→leb, lt→ltb, ltb→lt}
-use borrow.Author.Tests.{lt-ltb, le-leb, eq-eqb}
-use Rattle.words.specs.Words.{every, areBytes, same}
-use Rattle.ft12.specs.Frame.{fixedFrame, total, checksum, dataFrame, Sound, fixed, carries, Begins, Whole, messageOf, isWhole}
+use lib.Dec.{T, leb, ltb, leb→le, le→leb, lt→ltb}
+use borrow.Author.Tests.{le-leb, eq-eqb}
+use Rattle.words.specs.Words.{areBytes, same}
+use Rattle.ft12.specs.Frame.{fixedFrame, checksum, dataFrame, Sound, fixed, carries, Begins, Whole, messageOf, isWhole}
 use Rattle.ft12.specs.Receiver.{only, judgedFirst, judged, isMore, gathers, isBeginning}
-use Rattle.ft12.specs.declared.receiver.Judgement.the-variants.{More, Damage}
-use Rattle.words.proofs.WordLaws.{left, right, both, T-true, true-T, same→eq, eq→same, every-append, every-prefix, every-suffix, bytes-at}
+use Rattle.ft12.specs.declared.receiver.Judgement.the-variants.{More}
+use Rattle.words.proofs.WordLaws.{left, right, both, same→eq, eq→same, every-append, every-prefix, every-suffix, bytes-at}
 use Rattle.ft12.proofs.ReceiverLaws
 
 -- ---- a sound frame, all but its last byte, asks for more at each byte

@@ -1,25 +1,22 @@
 -- What the code leaves in the record is what the rules say: one law for each case of a host byte, and for the other events.
 use Prim.Native.Nat.{ℕ, zero, suc, _+_, _-_, _≤_, _<_}
 use mathlib.Core.Path.{_≡_, refl, sym, _∙_, ap}
-use mathlib.Core.Bool.{Bool, true, false, not, _&&_}
+use mathlib.Core.Bool.{Bool, true, false, _&&_}
 use mathlib.Core.List.{List, [], _∷_, _++_}
 use native.Mathlib.Omega.{arith}
-use native.Mathlib.Numerals.{add-one}
-use lib.ListN.{length, take, drop, set, replicate, length-append, length-drop, length-replicate, replicate-append-replicate}
+use lib.ListN.{length, take, drop, set, replicate, length-append, length-drop, replicate-append-replicate}
 use lib.Seq.{set-at, append-snoc}
 use lib.Dec.{T, eqb, leb, eqb→eq, leb→le}
-use borrow.Author.Tests.{ne-eqb}
 use Rattle.ft12.specs.declared.record.Link.{Link}
 use Rattle.ft12.specs.declared.receiver.Judgement.{Judgement}
-use Rattle.ft12.specs.declared.receiver.Judgement.the-variants.{More}
 use Rattle.ft12.specs.declared.rules.Heard.{Heard}
 use Rattle.ft12.specs.declared.rules.Heard.the-variants.{Gathered, Dropped, Ignored, Acknowledged, Reset, Repeat, Request}
 use Rattle.ft12.specs.declared.rules.Bits.{Bits}
-use Rattle.words.specs.Words.{if_then_else_, isEmpty, pad, areZero, isPadded}
+use Rattle.words.specs.Words.{isEmpty, pad, areZero, isPadded}
 use Rattle.ft12.specs.Receiver.{judged, isBeginning}
 use Rattle.ft12.specs.Record.{Line, linkWith, lineOf, linkOf, receiverOk, outstandingOk, lineOk, memoryOk, inRange}
-use Rattle.ft12.specs.Rules.{Moved, receiving, atStart, startDropping, gathering, cleared, expecting, caseOf, heardAt, onHeard, onHostByte, bitsOf, BitsAfter, unread, afterHostByte, onIdleMark}
-use Rattle.words.proofs.WordLaws.{left, right, both, parts3, T-true, true-T, pad-take, padded-length, zeros-are, empty-eq}
+use Rattle.ft12.specs.Rules.{atStart, startDropping, gathering, cleared, expecting, caseOf, heardAt, onHeard, onHostByte, bitsOf, BitsAfter, unread, afterHostByte}
+use Rattle.words.proofs.WordLaws.{left, right, parts3, T-true, pad-take, padded-length, zeros-are, empty-eq}
 use Rattle.ft12.proofs.RangeLaws.{empty-take}
 
 -- ---- padded arrays in place

@@ -1,13 +1,13 @@
 -- The range test as the code makes it: one law for each of its answers.
 use Prim.Native.Nat.{ℕ, zero, suc, _≤_, _<_}
-use mathlib.Core.Path.{_≡_, refl, sym, _∙_, ap}
+use mathlib.Core.Path.{_≡_, refl, sym}
 use mathlib.Core.Bool.{Bool, true, false, _&&_, and-false, and-true}
-use mathlib.Core.List.{List, [], _∷_, _++_}
+use mathlib.Core.List.{List, [], _∷_}
 use native.Mathlib.Omega.{arith}
 use lib.ListN.{length, take, drop}
-use lib.Dec.{T, leb, eqb}
+use lib.Dec.{eqb}
 use borrow.Author.Tests.{le-leb, lt-leb, eq-eqb, ne-eqb}
-use Rattle.words.specs.Words.{if_then_else_, isEmpty, areZero, isPadded}
+use Rattle.words.specs.Words.{isEmpty, areZero, isPadded}
 use Rattle.ft12.specs.Frame.{isWhole}
 use Rattle.ft12.specs.Receiver.{isBeginning}
 use Rattle.ft12.specs.Record.{serverControl, receiverOk, outstandingOk}

@@ -1,19 +1,19 @@
 -- The receiver: one law for each answer, and where a beginning stands in its frame.
-use Prim.Native.Nat.{ℕ, zero, suc, _+_, _-_, _≤_, _<_}
-use mathlib.Core.Path.{_≡_, refl, sym, _∙_, ap}
+use Prim.Native.Nat.{ℕ, suc, _+_, _-_, _≤_, _<_}
+use mathlib.Core.Path.{_≡_, refl, sym, ap}
 use mathlib.Core.Bool.{Bool, true, false, _&&_, and-assoc}
-use mathlib.Core.List.{List, [], _∷_, _++_, append-assoc, append-nil}
+use mathlib.Core.List.{List, [], _∷_, _++_, append-nil}
 use native.Mathlib.Omega.{arith}
 use native.Mathlib.Decide.{ℕ-discrete}
-use lib.ListN.{length, getD, take, drop, length-append}
+use lib.ListN.{length, getD, length-append}
 use lib.Seq.{append-snoc}
-use lib.Dec.{T, leb, ltb, eqb}
-use borrow.Author.Tests.{lt-ltb, le-ltb, le-leb, eq-eqb, ne-eqb, eqb-true, leb-true}
+use lib.Dec.{T, leb, eqb}
+use borrow.Author.Tests.{lt-ltb, le-ltb, eq-eqb, ne-eqb, eqb-true, leb-true}
 use Rattle.words.specs.Words.{if_then_else_}
 use Rattle.ft12.specs.Frame.{checksum}
 use Rattle.ft12.specs.Receiver.{only, judgedFirst, judgedFixed, judgedData, judged, isMore, gathers, isBeginning}
 use Rattle.ft12.specs.declared.receiver.Judgement.{Judgement}
-use Rattle.ft12.specs.declared.receiver.Judgement.the-variants.{More, Damage, Acknowledgement, Fixed, Data}
+use Rattle.ft12.specs.declared.receiver.Judgement.the-variants.{More, Damage, Fixed, Data}
 use Rattle.words.proofs.WordLaws.{left, right, both, T-true, true-T}
 
 -- the beginning of a data frame: its head, and the bytes b behind it

@@ -1,17 +1,15 @@
 -- The link record: what it holds, and its range test decides the paper's words.
-use Prim.Native.Nat.{ℕ, zero, suc, _+_, _-_, _≤_, _<_}
-use mathlib.Core.Path.{_≡_, refl, sym, _∙_, ap}
+use Prim.Native.Nat.{ℕ, _-_, _≤_}
+use mathlib.Core.Path.{_≡_, refl}
 use mathlib.Core.Logic.{_↔_}
 use mathlib.Core.Bool.{Bool, true, false, _&&_, and-false}
-use mathlib.Core.List.{List, [], _∷_, _++_}
+use mathlib.Core.List.{List, [], _∷_}
 use native.Mathlib.Omega.{arith}
-use lib.ListN.{length, getD, take}
+use lib.ListN.{length, take}
 use lib.Dec.{T, leb, eqb, leb→le, le→leb, eqb→eq}
-use borrow.Author.Tests.{eq-eqb}
 use Rattle.ft12.specs.declared.record.Link.{Link}
-use Rattle.words.specs.Words.{if_then_else_, isEmpty, pad, isPadded, areBytes}
-use Rattle.ft12.specs.Frame.{Begins, Whole, isWhole, dataFrame}
-use Rattle.ft12.specs.Receiver.{isBeginning}
+use Rattle.words.specs.Words.{isEmpty, pad, isPadded, areBytes}
+use Rattle.ft12.specs.Frame.{Whole, isWhole, dataFrame}
 use Rattle.ft12.specs.Record.{Line, lineOf, linkOf, serverControl, receiverOk, outstandingOk, lineOk, memoryOk, inRange, ReceiverInRange, beginning, drops, OutstandingInRange, holds-nothing, holds-frame, InRange}
 use Rattle.words.proofs.WordLaws.{left, right, both, T-true, take-pad, pad-take, pad-padded, padded-length, padded-decided, bytes-take, empty-eq}
 use Rattle.ft12.proofs.ReceiverLaws.{beginning-short}

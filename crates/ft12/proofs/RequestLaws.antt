@@ -1,23 +1,23 @@
 -- A request: where its message stands in the record, and that clearing it leaves what the rules say. Each event leaves the record in range.
-use Prim.Native.Nat.{ℕ, zero, suc, _+_, _-_, _≤_, _<_}
+use Prim.Native.Nat.{ℕ, _+_, _-_, _≤_}
 use mathlib.Core.Path.{_≡_, refl, sym, _∙_, ap}
 use mathlib.Core.Bool.{Bool, true, false, _&&_}
 use mathlib.Core.List.{List, [], _∷_, _++_}
 use native.Mathlib.Omega.{arith}
 use native.Mathlib.Decide.{ℕ-discrete}
 use lib.ListN.{length, getD, take, drop, length-append, length-drop, take-append-drop}
-use lib.Seq.{take-append-le, drop-append-le, take-take, length-take-le}
+use lib.Seq.{take-append-le, drop-append-le, length-take-le}
 use lib.Dec.{T, leb, eqb}
 use Rattle.ft12.specs.declared.record.Link.{Link}
 use Rattle.ft12.specs.declared.receiver.Judgement.{Judgement}
 use Rattle.ft12.specs.declared.receiver.Judgement.the-variants.{More, Damage, Acknowledgement, Fixed, Data}
 use Rattle.ft12.specs.declared.rules.Heard.{Heard}
 use Rattle.ft12.specs.declared.rules.Heard.the-variants.{Gathered, Dropped, Ignored, Acknowledged, Reset, Repeat, Request}
-use Rattle.words.specs.Words.{if_then_else_, isEmpty}
+use Rattle.words.specs.Words.{if_then_else_}
 use Rattle.ft12.specs.Frame.{checksum, messageOf}
 use Rattle.ft12.specs.Receiver.{only, judgedFirst, judged, isBeginning}
 use Rattle.ft12.specs.Record.{Line, lineOf, linkOf, hostControl, lineOk, receiverOk, memoryOk, inRange}
-use Rattle.ft12.specs.Rules.{Up, message, Moved, gathering, atStart, caseOf, heardAt, onHeard, onHostByte, expecting, unread, afterHostByte, onIdleMark, onAckWaitOver, onMessage}
+use Rattle.ft12.specs.Rules.{message, gathering, atStart, heardAt, onHeard, onHostByte, expecting, unread, afterHostByte, onIdleMark, onAckWaitOver, onMessage}
 use Rattle.words.proofs.WordLaws.{left, right, both}
 use Rattle.ft12.proofs.ReceiverLaws
 use Rattle.ft12.proofs.RecordLaws.{lineOf-linkOf, line-in-range}

@@ -1,10 +1,10 @@
 -- The link rules: what none of them does, and that each leaves a line that is in order in order.
-use Prim.Native.Nat.{ℕ, zero, suc, _+_, _-_, _≤_, _<_}
+use Prim.Native.Nat.{ℕ, _+_, _-_, _≤_, _<_}
 use mathlib.Core.Path.{_≡_, refl, sym, _∙_, ap}
-use mathlib.Core.Bool.{Bool, true, false, not, _&&_, _||_, or-true}
+use mathlib.Core.Bool.{Bool, true, false, not, _||_, or-true}
 use mathlib.Core.List.{List, [], _∷_, _++_}
 use native.Mathlib.Omega.{arith}
-use lib.ListN.{length, getD, take, drop}
+use lib.ListN.{length}
 use lib.Dec.{T, leb, ltb, eqb, le→leb}
 use borrow.Author.Tests.{ltb-true, ltb-false, eqb-true, eq-eqb}
 use Rattle.ft12.specs.declared.receiver.Judgement.{Judgement}
@@ -12,11 +12,11 @@ use Rattle.ft12.specs.declared.receiver.Judgement.the-variants.{More, Da
 use Rattle.ft12.specs.declared.rules.Heard.{Heard}
 use Rattle.ft12.specs.declared.rules.Heard.the-variants.{Gathered, Dropped, Ignored, Acknowledged, Reset, Repeat, Request}
 use Rattle.words.specs.Words.{if_then_else_, isEmpty}
-use Rattle.ft12.specs.Frame.{acknowledgement, fixedFrame, dataFrame, Whole, messageOf, isWhole}
+use Rattle.ft12.specs.Frame.{acknowledgement, dataFrame, isWhole}
 use Rattle.ft12.specs.Receiver.{judged, isMore, gathers, isBeginning}
 use Rattle.ft12.specs.Record.{Line, hostControl, serverControl, receiverOk, outstandingOk, lineOk}
-use Rattle.ft12.specs.Rules.{Up, nothing, acknowledged, reset, message, Moved, still, receiving, atStart, startDropping, gathering, cleared, holding, expecting, caseOfAcknowledgement, caseOfFixed, caseOfData, caseOf, heardAt, onHeard, onHostByte, onIdleMark, onAckWaitOver, onMessage}
-use Rattle.words.proofs.WordLaws.{left, right, both, T-true, true-T}
+use Rattle.ft12.specs.Rules.{nothing, reset, message, still, receiving, atStart, startDropping, gathering, cleared, holding, expecting, caseOfAcknowledgement, caseOfFixed, caseOfData, caseOf, heardAt, onHeard, onHostByte, onIdleMark, onAckWaitOver, onMessage}
+use Rattle.words.proofs.WordLaws.{left, right, both, true-T}
 use Rattle.ft12.proofs.ReceiverLaws.{beginning-on}
 use Rattle.ft12.proofs.FrameLaws.{whole-tested}
 

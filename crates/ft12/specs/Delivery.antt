@@ -10,7 +10,7 @@ use Rattle.ft12.specs.declared.receiver.Judgement.the-variants.{Data}
 use Rattle.ft12.specs.Frame.{messageOf}
 use Rattle.ft12.specs.Receiver.{judged, isBeginning}
 use Rattle.ft12.specs.Record.{Line}
-use Rattle.ft12.specs.Rules.{Up, nothing, acknowledged, reset, message, Moved, onHostByte, onIdleMark}
+use Rattle.ft12.specs.Rules.{Up, nothing, acknowledged, dropped, reset, message, onHostByte, onIdleMark}
 
 -- ---- reading a frame
 -- From a frame start the bytes f, one by one, are one whole data frame with this control byte and message: each byte but the last asks for more, and the
@@ -58,6 +58,7 @@ pub record Run : Type 0 where
 unfoldable pub told : Up → List Up → List Up
 told nothing us = us
 told acknowledged us = acknowledged ∷ us
+told dropped us = dropped ∷ us
 told reset us = reset ∷ us
 told (message m) us = message m ∷ us
 

@@ -1,5 +1,5 @@
 -- The link rules of the server end. "The link rules know nothing of datapoints: the link hands up a message and takes one back." It also tells
--- when the outstanding frame was acknowledged and when the host asked for a reset; neither touches a table.
+-- when the outstanding frame was acknowledged, when it was dropped and when the host asked for a reset; none of the three touches a table.
 use Prim.Native.Nat.{ℕ, _+_}
 use mathlib.Core.Path.{_≡_}
 use mathlib.Core.Bool.{Bool, true, false, not, _||_}
@@ -17,10 +17,12 @@ use Rattle.ft12.specs.Record.{Line, lineOf, linkOf, hostControl, serverC
 use Rattle.ft12.specs.declared.record.Link.{Link}
 use Rattle.ft12.specs.declared.rules.Bits.{Bits}
 
--- what the link hands up: nothing, that the outstanding frame was acknowledged, that the host asked for a reset, or a message to be carried out
+-- what the link hands up: nothing, that the outstanding frame was acknowledged, that it was dropped after its last wait, that the host asked for a reset
+-- (which drops it too), or a message to be carried out
 pub data Up : Type 0 where
   nothing : Up
   acknowledged : Up
+  dropped : Up
   reset : Up
   message : List ℕ → Up
 
@@ -138,7 +140,7 @@ unfoldable pub onAckWaitOver : Line → Moved
 onAckWaitOver l =
     if isEmpty (l .outstanding) then still l
     else if ltb (l .resends) 3 then record { sent = l .outstanding; up = nothing; line = holding (l .outstanding) (l .resends + 1) l }
-    else record { sent = fixedFrame 0xC0; up = nothing; line = cleared true l }
+    else record { sent = fixedFrame 0xC0; up = dropped; line = cleared true l }
 
 -- A message is taken back: framed, sent and held as outstanding; "a new frame starts with count 0". No message is empty, and none is taken that is
 -- above 254 bytes or comes while something is outstanding: nothing sent, nothing changed. The services and the server meet neither of the two.

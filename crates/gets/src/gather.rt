@@ -17,11 +17,11 @@ use baos::inner::Wanted;
 use baos::item::Item;
 use records::datapoint::handed_out;
 use records::datapoint::passes_filter;
-use records::datapoint::put_description;
-use records::datapoint::put_value;
-use records::datapoint::put_wide_value;
-use records::datapoint::size_of;
-use records::item::put_item;
+use records::entry::put_description;
+use records::entry::put_item;
+use records::entry::put_value;
+use records::entry::put_wide_value;
+use records::value::size_of;
 
 // Whether the ID is behind the range.
 pub fn is_behind(w: Wanted, id: u16) -> bool

@@ -2,11 +2,9 @@
 use Prim.Native.Nat.{ℕ}
 use mathlib.Core.Path.{_≡_, refl}
 use mathlib.Core.Bool.{Bool, true, false, not}
-use lib.Dec.{eqb}
 use borrow.Author.Tests.{eq-eqb, ne-eqb}
 use Rattle.ft12.specs.declared.rules.Heard.the-variants.{Gathered, Dropped, Ignored, Acknowledged, Reset, Repeat, Request}
 use Rattle.ft12.specs.declared.rules.Bits.{Bits}
-use Rattle.words.specs.Words.{if_then_else_}
 use Rattle.ft12.specs.Record.{hostControl}
 use Rattle.ft12.specs.Rules.{atStart, startDropping, gathering, cleared, expecting, caseOfFixed, caseOfData, onHeard, bitsOf, BitsAfter}
 

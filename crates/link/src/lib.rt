@@ -1,3 +1,5 @@
 // The FT1.2 link of the server end. It knows nothing of datapoints: it hands up a message and takes one back.
-pub mod record;
-pub mod rules;
+pub mod case;
+pub mod events;
+pub mod parts;
+pub mod range;

@@ -1,10 +1,8 @@
-// A server item: the core by value.
+// A server item, by value: the code of a set entry, and how it is set.
 ghost use mathlib.Core.Path.{_≡_};
-ghost use Prim.Native.Nat.{_+_, _≤_};
+ghost use Prim.Native.Nat.{_≤_};
 ghost use lib.ListN.{length};
-ghost use Rattle.words.specs.Words.{put};
 ghost use Rattle.baos.specs.Item.{withBytes};
-ghost use Rattle.baos.specs.Get.{itemEntry};
 ghost use Rattle.baos.specs.Set.{itemCode};
 use baos::item::Item;
 use words::bytes::put_bytes;
@@ -32,18 +30,4 @@ pub fn with_bytes(i: Item, value: &[u8]) -> Item
     let mut r = i;
     r.bytes = v;
     r
-}
-
-// The item's entry in an answer, into the buffer at `at`; answers where it ends.
-pub fn put_item(out: &mut [u8], at: usize, i: Item) -> usize
-    requires { ⌜ (i .size ≤ 16) × (at + 3 + i .size ≤ length (now out)) ⌝ }
-    ensures { λ r. ⌜ (now (out .exit) ≡ put (now (out .entry)) at (itemEntry i .bytes)) × (r ≡ at + length (itemEntry i .bytes)) ⌝ }
-{
-    let n = i.size as usize;
-    let v = i.bytes;
-    out[at] = (i.id / 256) as u8;
-    out[at + 1] = (i.id % 256) as u8;
-    out[at + 2] = i.size;
-    put_bytes(&mut *out, at + 3, &v[..n]);
-    at + 3 + n
 }

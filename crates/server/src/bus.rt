@@ -9,11 +9,12 @@ ghost use Rattle.calls.specs.Promise.{takes, taken, BusEventTaken};
 use crate::event::status_of;
 use baos::datapoint::Datapoint;
 use calls::event::Event;
+use calls::refusal::BAD_BUS_EVENT;
 use calls::reply::Reply;
 use records::datapoint::bus_byte;
 use records::datapoint::bus_value;
-use records::datapoint::is_value;
 use records::datapoint::outcome_of;
+use records::value::is_value;
 use tables::table::datapoint_at;
 use tables::table::datapoint_place;
 use tables::table::put_datapoint_at;
@@ -72,11 +73,11 @@ pub fn on_bus_event(event: Event, id: u16, value: &[u8], datapoints: &mut [Datap
 {
     let place = datapoint_place(datapoints, id);
     if datapoints.len() <= place {
-        return Reply::Refused(4);
+        return Reply::Refused(BAD_BUS_EVENT);
     }
     let d = datapoint_at(datapoints, place);
     if !takes_event(event, id, value, d) {
-        return Reply::Refused(4);
+        return Reply::Refused(BAD_BUS_EVENT);
     }
     if value.len() == 1 {
         let changed = after_byte(event, value[0], d);

@@ -11,8 +11,8 @@ use baos::item::Item;
 use calls::event::Event;
 use calls::reply::Reply;
 use ft12::record::Link;
-use link::rules::ack_wait_over;
-use link::rules::idle_mark;
+use link::events::ack_wait_over;
+use link::events::idle_mark;
 
 // One event. Checks what is lent in every call: the refusals' numbers, the lowest first; then what the event does. Answers the refusal's number, with nothing
 // altered, or how many bytes of the output are to be sent. The value is that of a bus value event; other events ignore it.

@@ -15,9 +15,9 @@ use calls::reply::Reply;
 use frames::frame::put_acknowledgement;
 use ft12::record::Link;
 use ft12::rules::Heard;
-use link::rules::host_byte;
-use link::rules::idle_mark;
-use link::rules::take_message;
+use link::events::host_byte;
+use link::events::idle_mark;
+use link::events::take_message;
 use services::service::carry_out;
 
 // The acknowledgement, where one is due; answers how many bytes it has.

@@ -12,7 +12,7 @@ ghost use Rattle.calls.specs.Promise.{Leaves};
 use baos::datapoint::Datapoint;
 use calls::reply::Reply;
 use ft12::record::Link;
-use link::rules::take_message;
+use link::events::take_message;
 use services::indication::indicate;
 
 // A poll. With nothing outstanding, the indication is built in the output behind the room for its frame's head, and framed there.

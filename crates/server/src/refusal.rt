@@ -4,8 +4,13 @@ ghost use Rattle.baos.specs.Table.{tablesOf};
 ghost use Rattle.calls.specs.Promise.{lentRefusal};
 use baos::datapoint::Datapoint;
 use baos::item::Item;
+use baos::table::MOST_PARAMETERS;
+use calls::refusal::LEAST_ROOM;
+use calls::refusal::LINK_NOT_IN_RANGE;
+use calls::refusal::NO_ROOM;
+use calls::refusal::TABLE_NOT_WELL_FORMED;
 use ft12::record::Link;
-use link::record::in_range;
+use link::range::in_range;
 use tables::table::datapoints_well_formed;
 use tables::table::items_well_formed;
 
@@ -20,19 +25,19 @@ pub fn refusal_of(
     ensures { λ r. ⌜ r ≡ lentRefusal (tablesOf (now (datapoints .entry)) (now (items .entry)) (now (parameters .entry))) (now (link .entry)) room ⌝ }
 {
     if !datapoints_well_formed(datapoints) {
-        return 1;
+        return TABLE_NOT_WELL_FORMED;
     }
     if !items_well_formed(items) {
-        return 1;
+        return TABLE_NOT_WELL_FORMED;
     }
-    if 255 < parameters.len() {
-        return 1;
+    if MOST_PARAMETERS < parameters.len() {
+        return TABLE_NOT_WELL_FORMED;
     }
     if !in_range(link) {
-        return 2;
+        return LINK_NOT_IN_RANGE;
     }
-    if room < 262 {
-        return 3;
+    if room < LEAST_ROOM {
+        return NO_ROOM;
     }
     0
 }

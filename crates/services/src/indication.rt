@@ -13,9 +13,9 @@ ghost use Rattle.baos.specs.Indication.{needs, choices, reported, afterReport, 
 use baos::datapoint::Datapoint;
 use baos::inner::Told;
 use messages::message::put_indication_head;
-use records::datapoint::put_value;
 use records::datapoint::reported;
-use records::datapoint::size_of;
+use records::entry::put_value;
+use records::value::size_of;
 
 // Whether a marked datapoint has to wait: its entry does not fit between `end` and `most`.
 fn waits(d: Datapoint, end: usize, most: usize) -> bool

@@ -9,6 +9,8 @@ ghost use Rattle.baos.specs.Item.{itemId, itemOk, zeroItem};
 ghost use Rattle.baos.specs.Table.{tableOk, place, rising};
 use baos::datapoint::Datapoint;
 use baos::item::Item;
+use baos::table::MOST_DATAPOINTS;
+use baos::table::MOST_ITEMS;
 use masks::datapoint::fits_after;
 use masks::datapoint::four_fit_after;
 use masks::item::four_items_fit_after;
@@ -18,7 +20,7 @@ use masks::item::item_fits_after;
 pub fn datapoints_well_formed(table: &[Datapoint]) -> bool
     ensures { λ r. ⌜ r ≡ tableOk 1000 datapointId datapointOk (now (table .entry)) ⌝ }
 {
-    if table.len() > 1000 {
+    if table.len() > MOST_DATAPOINTS {
         return false;
     }
     let n = table.len();
@@ -50,7 +52,7 @@ pub fn datapoints_well_formed(table: &[Datapoint]) -> bool
 pub fn items_well_formed(table: &[Item]) -> bool
     ensures { λ r. ⌜ r ≡ tableOk 64 itemId itemOk (now (table .entry)) ⌝ }
 {
-    if table.len() > 64 {
+    if table.len() > MOST_ITEMS {
         return false;
     }
     let n = table.len();

@@ -4,7 +4,6 @@
 --     both                 `if c { a } else { b }`, with the code after it taken into both arms
 --     goes-to, armOf       a `match` on an enum in a local whose value is known: the arm that runs, and then the code after it
 --     goes-flat            the same, where the arm ends in a call: the code after the match stands behind the arm
---     joins                the last statement of an arm, with the code after the branch
 --     cases                by cases on a Bool, which leaves the context as it is
 --     no-T, yes-T, is-T    what a test showed
 -- Assumes `Given`.
@@ -34,10 +33,6 @@ module _ {M : Type 1} {𝓤 : URA M} {H : Heap 𝓤} {A : Atoms 𝓤} {K : Type 
   pub tests : K → {c : Operand} {n : ℕ} {b : Body} {y : Bool} → Opd K W Γ E c (vbool y) → (T y → Seq K W Γ (runs C Λ E b q)) → (T (not y) → Seq K W Γ (prop (post 𝓤 H q (exits n))))
       → Seq K W Γ (runs C Λ E (seq (cond c skip (exit n)) b) q)
   tests t o on off = first t $ branches t o (λ z. skips t $ record { prf = on z .prf }) (λ z. jumps t $ record { prf = off z .prf })
-
-  -- the last statement of an arm, and the code after the branch
-  pub joins : K → {s : Body} (rest : Body) → Step K W Γ (runs C Λ E (seq s rest) q) Γ (runs C Λ E s (anyQ (afterSeq 𝓤 H (Wp 𝓤 H C Λ E rest (post 𝓤 H q)) (post 𝓤 H q))))
-  joins t rest = step (λ s. record { prf = s .prf })
 
 -- ---- what a test showed
 pub no-T : (t : Bool) → T (not t) → t ≡ false

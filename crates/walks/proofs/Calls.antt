@@ -1,11 +1,10 @@
 -- Calls. All that is known of a callee is that it meets its contract, which fixes the result, as the value r₀ of the plain type Q, and the last value of what it is lent.
 -- A rule takes the callee's `clauses`, the plain arguments with what is known of each, the last value y and the result r₀ (terms of specs/), `id⊢` for `requires` and `ensures`, the operands; and hands on `Good Q r₀`.
--- The operands are read where the entries in the rule's context stand: one further for `calls-plain`, `calls-mutR` and `calls-shrR`, as before for the others.
+-- The operands are read where the entries in the rule's context stand: one further for `calls-plain` and `calls-mutR`, as before for the others.
 --     calls-plain          plain data alone
 --     calls-mut            a `&mut D` that is lent again, and plain data
 --     calls-mutS, calls-as-shrS, calls-shrS        a `&mut [D]` that is lent again; that is lent as a `&[D]`; a `&[D]` that is passed on; and plain data
---     calls-mutR, calls-shrR       a row that was opened is lent as a `&mut [D]`; a share of it as a `&[D]`; and plain data
---     calls-shrS-mutS      a `&[D]` and a `&mut [D′]`, and plain data
+--     calls-mutR           a row that was opened is lent as a `&mut [D]`; and plain data
 --     calls-any            any number of references: the tokens and what each parameter owns stand first, one entry each; afterwards the tokens and what is left of each
 --     calls-of, calls-lent, calls-lent2, exactly   what these are made of
 -- Assumes `Given`.
@@ -44,7 +43,7 @@ use denote.Index.{row}
 use Rattle.walks.proofs.Data.{Data, Good, good, Mut, MutS, ShrS}
 use Rattle.walks.proofs.Walk.{tokens, owneds, to-tokens}
 use Rattle.walks.proofs.Fields.{lends, backs}
-use Rattle.walks.proofs.Slices.{shares-row, row-unshared, lends-row, row-back, lendsS, backsS, lends-as-shr, shr-back}
+use Rattle.walks.proofs.Slices.{lends-row, row-back, lendsS, backsS, lends-as-shr, shr-back}
 
 -- ---- any call: the post is taken apart
 module _ {M : Type 1} {𝓤 : URA M} {H : Heap 𝓤} {A : Atoms 𝓤} {K : Type 0} {W : Given 𝓤 H A} {Γ : List (Item 𝓤)} {E : Env 𝓤 H} {C : Calls 𝓤 H} {f : Name} {xs : List Operand} {Λ : Loops 𝓤 H} {q : Post 𝓤 H} {d : Place} {rest : Body} where
@@ -210,20 +209,6 @@ module _ {M : Type 1} {𝓤 : URA M} {H : Heap 𝓤} {A : Atoms 𝓤} {K : Type 
       calls-lent t fm (λ κ′. MutSlice (named 0) κ′ (D .row)) Ds Q c known (ν ∷ []) fullShare (record { ptr = (b, o); name = δ; now = us }) (sliceVal (b, o) m) (a (ν ∷ [])) (g (ν ∷ []) δ) (gs (ν ∷ [])) (req (ν ∷ []) δ) (λ w. w ≡ y) r₀ (said (ν ∷ []) δ) (os _ _ (ν ∷ [])) (λ w e is.
       row-back t tt D us w b o (λ l. rewrite t 0 (λ (zs : List (D .row .Denot)). ‵ (row (D .row) fullShare zs b o)) e refl $ k (em ∙ sym (ap length (sym e) ∙ l)) is)))
 
-  -- a share of it as a `&[D]`
-  pub calls-shrR : K → FmC 𝓤 H (W .laws) C → (D : Data) (Ds : List Data) (Q : Data) (c : Clauses 𝓤 (lentT (λ κ. ShrSlice (named 0) κ (D .row)) Ds Q)) → Triple 𝓤 (C f) (tripleOf 𝓤 H A (lentT (λ κ. ShrSlice (named 0) κ (D .row)) Ds Q .signature) (closing 𝓤 H A (lentT (λ κ. ShrSlice (named 0) κ (D .row)) Ds Q) c))
-      → {b o : ℕ} (s : Share) (m : ℕ) (us : List (D .row .Denot)) → m ≡ length us → Room (D .row) (length us)
-      → (a : (κ′ : Lft) → Values 1 (κ′, tt) Ds) (g : (κ′ : Lft) (δ : GName) → c (κ′, tt) (record { ptr = (b, o); name = δ; now = us }, a κ′) .ghost)
-      → ((κ′ : Lft) → Goods 1 (κ′, tt) Ds (a κ′)) → ((κ′ : Lft) (δ : GName) → ent 𝓤 (emp 𝓤) (c (κ′, tt) (record { ptr = (b, o); name = δ; now = us }, a κ′) .requires (g κ′ δ)))
-      → (r₀ : Q .row .Denot)
-      → ((κ′ : Lft) (δ : GName) (r : Q .row .Denot) (ws : Lasts (lentT (λ κ. ShrSlice (named 0) κ (D .row)) Ds Q) (κ′, tt) (record { ptr = (b, o); name = δ; now = us }, a κ′))
-      → ent 𝓤 (c (κ′, tt) (record { ptr = (b, o); name = δ; now = us }, a κ′) .ensures (g κ′ δ) r (atExit (lentT (λ κ. ShrSlice (named 0) κ (D .row)) Ds Q) (κ′, tt) (record { ptr = (b, o); name = δ; now = us }, a κ′) ws)) (fact 𝓤 (r ≡ r₀)))
-      → ((i j : Item 𝓤) (κ′ : Lft) → Opds K W (i ∷ j ∷ Γ) E xs (sliceVal (b, o) m ∷ flat (typesAt (slotsOf {n = 1} Ds) (κ′, tt)) (valsOf 1 (κ′, tt) Ds (a κ′))))
-      → (Good Q r₀ → Seq K W (‵ (row (D .row) s us b o) ∷ Γ) (lands C Λ E d (Q .val r₀) rest q)) → Seq K W (‵ (row (D .row) s us b o) ∷ Γ) (runs C Λ E (seq (call f xs d) rest) q)
-  calls-shrR t fm D Ds Q c known {b} {o} s m us em rm a g gs req r₀ said os k = shares-row t tt D s us b o rm (λ ν δ. rewrite t 1 (λ (j : ℕ). ‵ (ShrS D (ν ∷ []) b o δ j us)) (sym em) refl $
-      calls-lent t fm (λ κ′. ShrSlice (named 0) κ′ (D .row)) Ds Q c known (ν ∷ []) fullShare (record { ptr = (b, o); name = δ; now = us }) (sliceVal (b, o) m) (a (ν ∷ [])) (g (ν ∷ []) δ) (gs (ν ∷ [])) (req (ν ∷ []) δ) (λ w. Unit {0}) r₀ (λ r ws. via 𝓤 (fact 𝓤 (r ≡ r₀)) (said (ν ∷ []) δ r ws) (and-tt 𝓤 (r ≡ r₀))) (os _ _ (ν ∷ [])) (λ w e is.
-      move t (1 ∷ []) $ drop t $ row-unshared t tt D s us b o $ k is))
-
 -- ---- a call that takes two references, of the types F κ and G κ′, and then plain data
 abbrev pub lent2T : (Lft → RattleType) → (Lft → RattleType) → List Data → Data → Ended
 lent2T F G Ds Q = record { signature = record { lifetimes = 2; outlives = []; params = plain (λ κs. F (κs .0)) ∷ plain (λ κs. G (κs .1 .0)) ∷ slotsOf {n = 2} Ds; result = plain (λ _. Q .row) }; kept = (yes, (yes, all yes (slotsOf {n = 2} Ds))) }
@@ -248,29 +233,6 @@ module _ {M : Type 1} {𝓤 : URA M} {H : Heap 𝓤} {A : Atoms 𝓤} {K : Type 
       -- [the two tokens; true; the last values; Γ]
       move t (3 ∷ []) $ use1 W (‵ (left (F κ .exit yes) x (ws .0)) ⊛ ‵ (left (G κ′ .exit yes) x′ (ws .1 .0)) ⊛ ‵ (lastsOf (κ, (κ′, tt)) (slotsOf {n = 2} Ds) (all yes (slotsOf {n = 2} Ds)) a (ws .1 .1))) (id⊢ 𝓤 _) $ split3 t $
       move t (2 ∷ 5 ∷ []) $ drop t $ drop t $ move t (2 ∷ 3 ∷ []) $ exactly t Q is (e .1) (k (ws .0) (ws .1 .0) (e .0))))
-
-module _ {M : Type 1} {𝓤 : URA M} {H : Heap 𝓤} {A : Atoms 𝓤} {K : Type 0} {W : Given 𝓤 H A} {Γ : List (Item 𝓤)} {E : Env 𝓤 H} {C : Calls 𝓤 H} {f : Name} {xs : List Operand} {Λ : Loops 𝓤 H} {q : Post 𝓤 H} {d : Place} {rest : Body} where
-  -- a `&[D]` that is passed on, and a `&mut [D′]` that is lent again
-  pub calls-shrS-mutS : K → FmC 𝓤 H (W .laws) C → (D D′ : Data) (Ds : List Data) (Q : Data) (c : Clauses 𝓤 (lent2T (λ κ. ShrSlice (named 0) κ (D .row)) (λ κ. MutSlice (named 1) κ (D′ .row)) Ds Q))
-      → Triple 𝓤 (C f) (tripleOf 𝓤 H A (lent2T (λ κ. ShrSlice (named 0) κ (D .row)) (λ κ. MutSlice (named 1) κ (D′ .row)) Ds Q .signature) (closing 𝓤 H A (lent2T (λ κ. ShrSlice (named 0) κ (D .row)) (λ κ. MutSlice (named 1) κ (D′ .row)) Ds Q) c))
-      → {κ κ′ : Lft} {s s′ : Share} {b o b′ o′ : ℕ} {γ γ′ : GName} (us : List (D .row .Denot)) (m : ℕ) (us′ : List (D′ .row .Denot)) → m ≡ length us′
-      → (a : (κ″ : Lft) → Values 2 (κ, (κ″, tt)) Ds) (g : (κ″ : Lft) (δ : GName) → c (κ, (κ″, tt)) (record { ptr = (b, o); name = γ; now = us }, (record { ptr = (b′, o′); name = δ; now = us′ }, a κ″)) .ghost)
-      → ((κ″ : Lft) → Goods 2 (κ, (κ″, tt)) Ds (a κ″)) → ((κ″ : Lft) (δ : GName) → ent 𝓤 (emp 𝓤) (c (κ, (κ″, tt)) (record { ptr = (b, o); name = γ; now = us }, (record { ptr = (b′, o′); name = δ; now = us′ }, a κ″)) .requires (g κ″ δ)))
-      → (y : List (D′ .row .Denot)) (r₀ : Q .row .Denot)
-      → ((κ″ : Lft) (δ : GName) (r : Q .row .Denot) (ws : Lasts (lent2T (λ κ. ShrSlice (named 0) κ (D .row)) (λ κ. MutSlice (named 1) κ (D′ .row)) Ds Q) (κ, (κ″, tt)) (record { ptr = (b, o); name = γ; now = us }, (record { ptr = (b′, o′); name = δ; now = us′ }, a κ″)))
-      → ent 𝓤 (c (κ, (κ″, tt)) (record { ptr = (b, o); name = γ; now = us }, (record { ptr = (b′, o′); name = δ; now = us′ }, a κ″)) .ensures (g κ″ δ) r (atExit (lent2T (λ κ. ShrSlice (named 0) κ (D .row)) (λ κ. MutSlice (named 1) κ (D′ .row)) Ds Q) (κ, (κ″, tt)) (record { ptr = (b, o); name = γ; now = us }, (record { ptr = (b′, o′); name = δ; now = us′ }, a κ″)) ws)) (fact 𝓤 ((ws .1 .0 ≡ y) × (r ≡ r₀))))
-      → ((i j k l : Item 𝓤) (κ″ : Lft) → Opds K W (i ∷ j ∷ k ∷ l ∷ Γ) E xs (sliceVal (b, o) (length us) ∷ sliceVal (b′, o′) m ∷ flat (typesAt (slotsOf {n = 2} Ds) (κ, (κ″, tt))) (valsOf 2 (κ, (κ″, tt)) Ds (a κ″))))
-      → (m ≡ length y → Good Q r₀ → Seq K W (‵ (ShrS D κ b o γ (length us) us) ∷ ‵ (flft κ s) ∷ ‵ (MutS D′ κ′ b′ o′ γ′ m y) ∷ ‵ (flft κ′ s′) ∷ Γ) (lands C Λ E d (Q .val r₀) rest q))
-      → Seq K W (‵ (ShrS D κ b o γ (length us) us) ∷ ‵ (flft κ s) ∷ ‵ (MutS D′ κ′ b′ o′ γ′ m us′) ∷ ‵ (flft κ′ s′) ∷ Γ) (runs C Λ E (seq (call f xs d) rest) q)
-  calls-shrS-mutS t fm D D′ Ds Q c known {κ} {κ′} {s} {s′} {b} {o} {b′} {o′} {γ} {γ′} us m us′ em a g gs req y r₀ said os k =
-      use1 W (‵ (ShrS D κ b o γ (length us) us) ⊛ ‵ (ShrS D κ b o γ (length us) us)) (shr-slice-copy 𝓤 H A W erased κ (D .row) .twice (record { ptr = (b, o); name = γ; now = us }) (sliceVal (b, o) (length us) ∷ [])) $ split t $
-      move t (3 ∷ 4 ∷ []) $ lendsS t tt D′ m us′ em (λ ν δ rm.
-      -- [the new token; the new slice; what is kept; the `&` twice; its token; Γ]
-      use0 W (‵ ftrue) (id⊢ 𝓤 (emp 𝓤)) $ move t (6 ∷ 1 ∷ 4 ∷ 2 ∷ 5 ∷ 3 ∷ 0 ∷ []) $
-      calls-lent2 t fm (λ κ₁. ShrSlice (named 0) κ₁ (D .row)) (λ κ₁. MutSlice (named 1) κ₁ (D′ .row)) Ds Q c known κ (ν ∷ []) s fullShare (record { ptr = (b, o); name = γ; now = us }) (record { ptr = (b′, o′); name = δ; now = us′ }) (sliceVal (b, o) (length us)) (sliceVal (b′, o′) m)
-      (a (ν ∷ [])) (g (ν ∷ []) δ) (gs (ν ∷ [])) (req (ν ∷ []) δ) (λ _ w. w ≡ y) r₀ (said (ν ∷ []) δ) (os _ _ _ _ (ν ∷ [])) (λ _ w e is.
-      -- [the `&`'s token; the new token; true; the last list; the `&`; what is kept; true; Γ]
-      move t (1 ∷ 3 ∷ 5 ∷ []) $ backsS t tt D′ m us′ em rm w y e (λ long. move t (3 ∷ 5 ∷ []) $ drop t $ drop t $ move t (3 ∷ 2 ∷ []) $ k long is)))
 
 -- ---- a call with any number of references: the tokens and what each parameter owns stand first, one entry each; afterwards the tokens, what is said of each parameter's last value, and the `ensures`
 module _ {M : Type 1} (𝓤 : URA M) (H : Heap 𝓤) (A : Atoms 𝓤) where

@@ -22,7 +22,7 @@ use contract.Monad.{fact-use}
 use types.Kit.{Given}
 use denote.RattleType.{RattleType}
 use denote.Laws.{Is, Tells, Lawful, Makes, Typed, shows, Copy}
-use denote.Ref.{MutRef, ShrRef, RefT}
+use denote.Ref.{MutRef, ShrRef}
 use denote.Slice.{sliceVal, MutSlice, ShrSlice}
 use denote.Steps.{only}
 use denote.Exit.{yes, Last, left}
@@ -92,10 +92,6 @@ module _ {M : Type 1} (𝓤 : URA M) (H : Heap 𝓤) (A : Atoms 𝓤) (W : Given
   copies D = record { twice = λ x vs. fact-use 𝓤 (Is (D .row) x vs) (shows 𝓤 H A (D .row) x vs) (λ p. via 𝓤 (sep 𝓤 (emp 𝓤) (sem 𝓤 H A (D .row .own x vs))) (emp∗ 𝓤 (sem 𝓤 H A (D .row .own x vs))) (monoL 𝓤 (sem 𝓤 H A (D .row .own x vs)) (D .made 𝓤 H A W x vs p))) }
 
 -- ---- references to plain data. MIR's name of a lifetime does not matter to what is owned
--- the reference to (b, o) under the name γ, at the value x
-abbrev pub ref-to : {X : Type 0} → ℕ → ℕ → GName → X → RefT X
-ref-to b o γ x = record { ptr = (b, o); name = γ; now = x }
-
 -- what the holder of a `&κ mut D` at (b, o) under γ owns, at the value x; and of a `&κ D`
 abbrev pub Mut : (D : Data) → Lft → ℕ → ℕ → GName → D .row .Denot → Fml
 Mut D κ b o γ x = MutRef erased κ (D .row) .own (record { ptr = (b, o); name = γ; now = x }) (vptr b o ∷ [])

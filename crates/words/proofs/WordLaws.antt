@@ -2,15 +2,15 @@
 use Prim.Native.Nat.{ℕ, zero, suc, _+_, _-_, _≤_, _<_}
 use mathlib.Core.Path.{_≡_, refl, sym, _∙_, ap}
 use mathlib.Core.Logic.{_↔_}
-use mathlib.Core.Bool.{Bool, true, false, not, _&&_, _||_, Bool·beq}
+use mathlib.Core.Bool.{Bool, true, false, _&&_, Bool·beq}
 use mathlib.Core.List.{List, [], _∷_, _++_, map}
 use native.Mathlib.Omega.{arith}
 use native.Mathlib.Nat.{not-suc-le-zero, le-of-suc-le-suc}
 use lib.ListN.{length, getD, take, drop, replicate, length-append, length-drop, length-replicate, take-append-drop}
 use lib.Seq.{take-all, take-append-seam, drop-append-seam, getD-drop, length-take-le}
-use lib.Dec.{T, eqb, leb, ltb, eqb→eq, eqb-refl, leb→le, le→leb, ltb→lt, lt→ltb}
+use lib.Dec.{T, eqb, leb, ltb, eqb→eq, eqb-refl, leb→le, le→leb, ltb→lt}
 use borrow.Author.Tests.{eq-eqb}
-use Rattle.words.specs.Words.{if_then_else_, isEmpty, every, keep, pad, same, sameBy, areZero, isPadded, Padded, areBytes}
+use Rattle.words.specs.Words.{isEmpty, every, keep, pad, same, sameBy, areZero, isPadded, Padded, areBytes}
 
 -- ---- tests
 pub left : (a b : Bool) → T (a && b) → T a

@@ -6,8 +6,8 @@ use borrow.Author.Needs.{needs}
 use Rattle.words.specs.Words.{put}
 use Rattle.baos.specs.Get.{AnswerEntry}
 use Rattle.baos.proofs.MeasureLaws.{entry-value, entry-description, value-length, description-length}
-use Rattle.records.proofs.datapoint.put_description.Reads as put-description-reads
-use Rattle.records.proofs.datapoint.put_value.Reads as put-value-reads
+use Rattle.records.proofs.entry.put_description.Reads as put-description-reads
+use Rattle.records.proofs.entry.put_value.Reads as put-value-reads
 use Rattle.gets.proofs.gather.put_entry.Statement.{statement}
 use Rattle.gets.proofs.gather.put_entry.Tie as tie
 

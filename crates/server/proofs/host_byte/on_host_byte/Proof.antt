@@ -57,18 +57,18 @@ use Rattle.calls.proofs.reply.Reply.Laws as R′
 use Rattle.calls.proofs.Types.{replyD}
 use Rattle.calls.proofs.HostByteLaws.{no-request, taken-short, endAt, asks, carries, clearedLink, acknowledgedOut, answeredOut, readBack, takenBack, answered-room, carry-needs, request-bounds, request-answered}
 use Rattle.server.proofs.MessageParts.{lends-message, message-back}
-use Rattle.link.proofs.rules.host_byte as host-byte
-use Rattle.link.proofs.rules.host_byte.Symbol as host-byte-def
-use Rattle.link.proofs.rules.host_byte.Symbol.{name as #link·rules·host-byte}
-use Rattle.link.proofs.rules.host_byte.Met as host-byte-thm
-use Rattle.link.proofs.rules.idle_mark as idle-mark
-use Rattle.link.proofs.rules.idle_mark.Symbol as idle-mark-def
-use Rattle.link.proofs.rules.idle_mark.Symbol.{name as #link·rules·idle-mark}
-use Rattle.link.proofs.rules.idle_mark.Met as idle-mark-thm
-use Rattle.link.proofs.rules.take_message as take-message
-use Rattle.link.proofs.rules.take_message.Symbol as take-message-def
-use Rattle.link.proofs.rules.take_message.Symbol.{name as #link·rules·take-message}
-use Rattle.link.proofs.rules.take_message.Met as take-message-thm
+use Rattle.link.proofs.events.host_byte as host-byte
+use Rattle.link.proofs.events.host_byte.Symbol as host-byte-def
+use Rattle.link.proofs.events.host_byte.Symbol.{name as #link·events·host-byte}
+use Rattle.link.proofs.events.host_byte.Met as host-byte-thm
+use Rattle.link.proofs.events.idle_mark as idle-mark
+use Rattle.link.proofs.events.idle_mark.Symbol as idle-mark-def
+use Rattle.link.proofs.events.idle_mark.Symbol.{name as #link·events·idle-mark}
+use Rattle.link.proofs.events.idle_mark.Met as idle-mark-thm
+use Rattle.link.proofs.events.take_message as take-message
+use Rattle.link.proofs.events.take_message.Symbol as take-message-def
+use Rattle.link.proofs.events.take_message.Symbol.{name as #link·events·take-message}
+use Rattle.link.proofs.events.take_message.Met as take-message-thm
 use Rattle.server.proofs.host_byte.acknowledge as acknowledge
 use Rattle.server.proofs.host_byte.acknowledge.Symbol as acknowledge-def
 use Rattle.server.proofs.host_byte.acknowledge.Symbol.{name as #server·host-byte·acknowledge}
@@ -126,7 +126,7 @@ abbrev C-carry-out : {M : Type 1} (𝓤 : URA M) (H : Heap 𝓤) (A : Atoms 𝓤
 C-carry-out 𝓤 H A mem run = tripleOf 𝓤 H A carry-out.signature (carry-out.spec 𝓤 H A mem run)
 
 module _ {M : Type 1} (𝓤 : URA M) (H : Heap 𝓤) (A : Atoms 𝓤) (W : Given 𝓤 H A) (mem : Memory → SProp 𝓤) (run : Routine → Fun 𝓤) (𝓣 : Tables 𝓤 H)
-    (known-host-byte : Triple 𝓤 (𝓣 .C #link·rules·host-byte) (C-host-byte 𝓤 H A mem run)) (known-idle-mark : Triple 𝓤 (𝓣 .C #link·rules·idle-mark) (C-idle-mark 𝓤 H A mem run)) (known-take-message : Triple 𝓤 (𝓣 .C #link·rules·take-message) (C-take-message 𝓤 H A mem run)) (known-acknowledge : Triple 𝓤 (𝓣 .C #server·host-byte·acknowledge) (C-acknowledge 𝓤 H A mem run)) (known-message-end : Triple 𝓤 (𝓣 .C #server·host-byte·message-end) (C-message-end 𝓤 H A mem run)) (known-carry-out : Triple 𝓤 (𝓣 .C #services·service·carry-out) (C-carry-out 𝓤 H A mem run))
+    (known-host-byte : Triple 𝓤 (𝓣 .C #link·events·host-byte) (C-host-byte 𝓤 H A mem run)) (known-idle-mark : Triple 𝓤 (𝓣 .C #link·events·idle-mark) (C-idle-mark 𝓤 H A mem run)) (known-take-message : Triple 𝓤 (𝓣 .C #link·events·take-message) (C-take-message 𝓤 H A mem run)) (known-acknowledge : Triple 𝓤 (𝓣 .C #server·host-byte·acknowledge) (C-acknowledge 𝓤 H A mem run)) (known-message-end : Triple 𝓤 (𝓣 .C #server·host-byte·message-end) (C-message-end 𝓤 H A mem run)) (known-carry-out : Triple 𝓤 (𝓣 .C #services·service·carry-out) (C-carry-out 𝓤 H A mem run))
     (κ0 κ1 κ2 κ3 κ4 : Lft) (q0 q1 q2 q3 q4 : Share) (b : ℕ) (datapoints : RefT (List Datapoint)) (items : RefT (List Item)) (parameters : RefT (List ℕ)) (link : RefT Link) (out : RefT (List ℕ)) (b-ok : Good byteD b) (datapoints-room : Room (datapointD .row) (length (datapoints .now))) (items-room : Room (itemD .row) (length (items .now))) (parameters-room : Room (byteD .row) (length (parameters .now))) (out-room : Room (byteD .row) (length (out .now))) (lt : T (wellFormed (tablesWith (datapoints .now) (items .now) (parameters .now))) × T (inRange (link .now)) × (262 ≤ length (out .now))) where
   abbrev x : ℕ × (RefT (List Datapoint) × (RefT (List Item) × (RefT (List ℕ) × (RefT Link × (RefT (List ℕ) × Unit {0})))))
   x = (b, (datapoints, (items, (parameters, (link, (out, tt))))))
@@ -336,9 +336,9 @@ on-host-byte-spec 𝓤 H 𝓜 𝓖 𝓡 =
     entered 𝓤 H (tripleOf 𝓤 H (𝓖 .A) f.signature (f.spec 𝓤 H (𝓖 .A) (𝓜 .mem) (𝓡 .run)))
     (tables 𝓤 H 𝓜 𝓡 code.env .C) (tables 𝓤 H 𝓜 𝓡 code.env .Λ) #server·host-byte·on-host-byte code.function (code.unfolded 𝓤 H 𝓜 𝓡)
     (meets-by 5 𝓤 H (𝓖 .A) W ps replyD (f.clauses 𝓤 H (𝓖 .A) (𝓜 .mem) (𝓡 .run)) 𝓣 code.function (λ κs qs a _ are. needs 𝓤 _ _ (λ lt. walk 𝓤 H (𝓖 .A) W (𝓜 .mem) (𝓡 .run) 𝓣
-    (cited 𝓤 H (C-host-byte 𝓤 H (𝓖 .A) (𝓜 .mem) (𝓡 .run)) 𝓜 𝓡 code.env #link·rules·host-byte host-byte-def.routine code.calls-link·rules·host-byte (host-byte-thm.met 𝓤 H 𝓜 𝓖 𝓡))
-    (cited 𝓤 H (C-idle-mark 𝓤 H (𝓖 .A) (𝓜 .mem) (𝓡 .run)) 𝓜 𝓡 code.env #link·rules·idle-mark idle-mark-def.routine code.calls-link·rules·idle-mark (idle-mark-thm.met 𝓤 H 𝓜 𝓖 𝓡))
-    (cited 𝓤 H (C-take-message 𝓤 H (𝓖 .A) (𝓜 .mem) (𝓡 .run)) 𝓜 𝓡 code.env #link·rules·take-message take-message-def.routine code.calls-link·rules·take-message (take-message-thm.met 𝓤 H 𝓜 𝓖 𝓡))
+    (cited 𝓤 H (C-host-byte 𝓤 H (𝓖 .A) (𝓜 .mem) (𝓡 .run)) 𝓜 𝓡 code.env #link·events·host-byte host-byte-def.routine code.calls-link·events·host-byte (host-byte-thm.met 𝓤 H 𝓜 𝓖 𝓡))
+    (cited 𝓤 H (C-idle-mark 𝓤 H (𝓖 .A) (𝓜 .mem) (𝓡 .run)) 𝓜 𝓡 code.env #link·events·idle-mark idle-mark-def.routine code.calls-link·events·idle-mark (idle-mark-thm.met 𝓤 H 𝓜 𝓖 𝓡))
+    (cited 𝓤 H (C-take-message 𝓤 H (𝓖 .A) (𝓜 .mem) (𝓡 .run)) 𝓜 𝓡 code.env #link·events·take-message take-message-def.routine code.calls-link·events·take-message (take-message-thm.met 𝓤 H 𝓜 𝓖 𝓡))
     (cited 𝓤 H (C-acknowledge 𝓤 H (𝓖 .A) (𝓜 .mem) (𝓡 .run)) 𝓜 𝓡 code.env #server·host-byte·acknowledge acknowledge-def.routine code.calls-server·host-byte·acknowledge (acknowledge-thm.met 𝓤 H 𝓜 𝓖 𝓡))
     (cited 𝓤 H (C-message-end 𝓤 H (𝓖 .A) (𝓜 .mem) (𝓡 .run)) 𝓜 𝓡 code.env #server·host-byte·message-end message-end-def.routine code.calls-server·host-byte·message-end (message-end-thm.met 𝓤 H 𝓜 𝓖 𝓡))
     (cited 𝓤 H (C-carry-out 𝓤 H (𝓖 .A) (𝓜 .mem) (𝓡 .run)) 𝓜 𝓡 code.env #services·service·carry-out carry-out-def.routine code.calls-services·service·carry-out (carry-out-thm.met 𝓤 H 𝓜 𝓖 𝓡))

@@ -46,10 +46,10 @@ use Rattle.tables.proofs.table.items_well_formed as items-well-formed
 use Rattle.tables.proofs.table.items_well_formed.Symbol as items-well-formed-def
 use Rattle.tables.proofs.table.items_well_formed.Symbol.{name as #tables·table·items-well-formed}
 use Rattle.tables.proofs.table.items_well_formed.Met as items-well-formed-thm
-use Rattle.link.proofs.record.in_range as in-range
-use Rattle.link.proofs.record.in_range.Symbol as in-range-def
-use Rattle.link.proofs.record.in_range.Symbol.{name as #link·record·in-range}
-use Rattle.link.proofs.record.in_range.Met as in-range-thm
+use Rattle.link.proofs.range.in_range as in-range
+use Rattle.link.proofs.range.in_range.Symbol as in-range-def
+use Rattle.link.proofs.range.in_range.Symbol.{name as #link·range·in-range}
+use Rattle.link.proofs.range.in_range.Met as in-range-thm
 use Rattle.server.proofs.refusal.refusal_of.Key.{name as #server·refusal·refusal-of}
 use Rattle.server.proofs.refusal.refusal_of as f
 use Rattle.server.proofs.refusal.refusal_of.Statement as stated
@@ -68,7 +68,7 @@ abbrev C-in-range : {M : Type 1} (𝓤 : URA M) (H : Heap 𝓤) (A : Atoms 𝓤)
 C-in-range 𝓤 H A mem run = tripleOf 𝓤 H A in-range.signature (in-range.spec 𝓤 H A mem run)
 
 module _ {M : Type 1} (𝓤 : URA M) (H : Heap 𝓤) (A : Atoms 𝓤) (W : Given 𝓤 H A) (mem : Memory → SProp 𝓤) (run : Routine → Fun 𝓤) (𝓣 : Tables 𝓤 H)
-    (known-datapoints-well-formed : Triple 𝓤 (𝓣 .C #tables·table·datapoints-well-formed) (C-datapoints-well-formed 𝓤 H A mem run)) (known-items-well-formed : Triple 𝓤 (𝓣 .C #tables·table·items-well-formed) (C-items-well-formed 𝓤 H A mem run)) (known-in-range : Triple 𝓤 (𝓣 .C #link·record·in-range) (C-in-range 𝓤 H A mem run))
+    (known-datapoints-well-formed : Triple 𝓤 (𝓣 .C #tables·table·datapoints-well-formed) (C-datapoints-well-formed 𝓤 H A mem run)) (known-items-well-formed : Triple 𝓤 (𝓣 .C #tables·table·items-well-formed) (C-items-well-formed 𝓤 H A mem run)) (known-in-range : Triple 𝓤 (𝓣 .C #link·range·in-range) (C-in-range 𝓤 H A mem run))
     (κ0 κ1 κ2 κ3 : Lft) (q0 q1 q2 q3 : Share) (datapoints : RefT (List Datapoint)) (items : RefT (List Item)) (parameters : RefT (List ℕ)) (link : RefT Link) (places : ℕ) (datapoints-room : Room (datapointD .row) (length (datapoints .now))) (items-room : Room (itemD .row) (length (items .now))) (parameters-room : Room (byteD .row) (length (parameters .now))) (places-ok : Good sizeD places) where
   abbrev x : RefT (List Datapoint) × (RefT (List Item) × (RefT (List ℕ) × (RefT Link × (ℕ × Unit {0}))))
   x = (datapoints, (items, (parameters, (link, (places, tt)))))
@@ -163,5 +163,5 @@ refusal-of-spec 𝓤 H 𝓜 𝓖 𝓡 =
     (meets-by 4 𝓤 H (𝓖 .A) W ps byteD (f.clauses 𝓤 H (𝓖 .A) (𝓜 .mem) (𝓡 .run)) 𝓣 code.function (λ κs qs a _ are. via 𝓤 _ (fst∗ 𝓤 _ (emp 𝓤)) (walk 𝓤 H (𝓖 .A) W (𝓜 .mem) (𝓡 .run) 𝓣
     (cited 𝓤 H (C-datapoints-well-formed 𝓤 H (𝓖 .A) (𝓜 .mem) (𝓡 .run)) 𝓜 𝓡 code.env #tables·table·datapoints-well-formed datapoints-well-formed-def.routine code.calls-tables·table·datapoints-well-formed (datapoints-well-formed-thm.met 𝓤 H 𝓜 𝓖 𝓡))
     (cited 𝓤 H (C-items-well-formed 𝓤 H (𝓖 .A) (𝓜 .mem) (𝓡 .run)) 𝓜 𝓡 code.env #tables·table·items-well-formed items-well-formed-def.routine code.calls-tables·table·items-well-formed (items-well-formed-thm.met 𝓤 H 𝓜 𝓖 𝓡))
-    (cited 𝓤 H (C-in-range 𝓤 H (𝓖 .A) (𝓜 .mem) (𝓡 .run)) 𝓜 𝓡 code.env #link·record·in-range in-range-def.routine code.calls-link·record·in-range (in-range-thm.met 𝓤 H 𝓜 𝓖 𝓡))
+    (cited 𝓤 H (C-in-range 𝓤 H (𝓖 .A) (𝓜 .mem) (𝓡 .run)) 𝓜 𝓡 code.env #link·range·in-range in-range-def.routine code.calls-link·range·in-range (in-range-thm.met 𝓤 H 𝓜 𝓖 𝓡))
     (κs .0) (κs .1 .0) (κs .1 .1 .0) (κs .1 .1 .1 .0) (qs .0) (qs .1 .0) (qs .1 .1 .0) (qs .1 .1 .1 .0) (a .0) (a .1 .0) (a .1 .1 .0) (a .1 .1 .1 .0) (a .1 .1 .1 .1 .0) (are .0 .0 .1) (are .1 .0 .0 .1) (are .1 .1 .0 .0 .1) (are .1 .1 .1 .1 .0))))
