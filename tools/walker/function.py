@@ -174,5 +174,12 @@ unfolding code.routine tablesOf
         return '(' + part('l', self.locals.index(name)) + ')'
 
     def stack(self, given):
-        last = max(self.locals.index(n) for n in given)
-        return '(' + ''.join((f'some ({given[l]})' if l in given else 'none') + ' ∷ ' for l in self.locals[:last + 1]) + '[])'
+        '''what is in the locals, for an invariant: in the parameters what they came with, if nothing is said of them'''
+        held = {p.name: self.machine_value(p) for p in self.params} | given
+        last = max(self.locals.index(n) for n in held)
+        return '(' + ''.join((f'some ({held[l]})' if l in held else 'none') + ' ∷ ' for l in self.locals[:last + 1]) + '[])'
+
+    def machine_value(self, p):
+        if p.kind == 'data':
+            return f'{p.data} .val {p.name}'
+        return f'sliceVal ({p.name} .ptr) (length ({p.name} .now))' if p.kind.endswith('[]') else f'vptr ({p.name} .ptr .0) ({p.name} .ptr .1)'

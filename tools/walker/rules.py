@@ -72,6 +72,8 @@ def with_token(c):
     e, t = c.entries[:2]
     if not e.startswith('*') or not t.startswith("'"):
         raise Mistake(f'a reference and its token stand first, and not {e} {t}')
+    if t != "'" + bare(e) and "'" + bare(e) in c.entries:
+        raise Mistake(f'the token of {e} is not {t}')
     return e, t
 
 
