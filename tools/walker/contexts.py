@@ -4,7 +4,7 @@ import re
 from .rules import Context
 from .texts import Mistake, matching, tokens_of
 
-# what an entry is called, by the formula that it is: {1} is its owner's name
+# what an entry is called, by the formula that it is: {} is its owner's name, by the lifetime or the value in the formula
 FORMULAS = [
     (r'(?:MutS|ShrS|Mut|Shr) \S+ (\S+) ', '*{}'), (r'flft (\S+) ', "'{}"), (r'OpenS \S+ (\S+) ', '{}-open'), (r'LookS \S+ (\S+) ', '{}-look'), (r'\S+ \.row \.own (\S+) ', '*{}'),
 ]

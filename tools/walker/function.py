@@ -158,6 +158,8 @@ unfolding code.routine tablesOf
         for p in self.params:
             if p.kind.startswith('&mut'):
                 v, fit = given.get(p.name, (self.now(p), 'refl'))
+                if p.kind == '&mut[]' and fit == 'tt':
+                    raise Mistake(f'§lasts: {p.name} = {v} by what it is as long as it was?')
                 values.append(v)
                 fits.append(fit if p.kind == '&mut[]' else 'tt')
             else:

@@ -11,6 +11,12 @@ from .structs import ROOT, each_field, layout
 from .texts import Mistake, clauses, each_macro, nest
 
 
+def after(words, word, n):
+    '''the n words behind `word`, if it is there'''
+    i = words.index(word) + 1 if word in words else len(words)
+    return (words[i:i + n] + [''] * n)[:n]
+
+
 def read_head(head, path):
     params, locals, result, words = [], [], None, {}
     for line in head.split('\n'):
@@ -20,8 +26,7 @@ def read_head(head, path):
         if w[0] == 'result':
             result = w[1]
         elif w[0] == 'param':
-            more = dict(zip(w[5::2], w[6::2])) if 'lives' not in w else {**dict(zip(w[5:w.index('lives'):2], w[6:w.index('lives'):2])), 'lives': w[w.index('lives') + 1:]}
-            params.append(Param(*w[1:5], more.get('known', ''), *more.get('lives', ('', ''))))
+            params.append(Param(*w[1:5], *after(w, 'known', 1), *after(w, 'lives', 2)))
         elif w[0] == 'locals':
             locals += w[1:]
         elif w[0] == 'name':
@@ -65,6 +70,7 @@ def pairs(text):
 
 
 def fill(fn, body):
+    '''the macros written out that do not ask for the context'''
     fn.text = body
     for short, long in LINES:
         body = re.sub(short + r'(?![\w-])', long, body)
