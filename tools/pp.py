@@ -1,4 +1,4 @@
-# Prints MIR readably, with numbered locals.      rt mir CRATE | python3 tools/pp.py
+# Prints MIR readably, with numbered locals.      rt mir CRATE | python3 tools/pp.py [FN]
 import sys,re
 s=sys.stdin.read()
 # tokenise s-expr-ish application syntax with parentheses & strings
@@ -52,7 +52,7 @@ def body(b,ind):
     if h=='assign': return [p+place(b[1])+' := '+rv(b[2])]
     if h=='call': return [p+place(b[3])+' := call '+str(b[1])+'('+', '.join(opd(x) for x in lst(b[2]))+')']
     if h in('block','loop'): return [p+h+' {']+body(b[1],ind+1)+[p+'}']
-    if h=='cond': return [p+'if '+opd(b[1])+' {']+body(b[2],ind+1)+[p+'} else {']+body(b[3],ind+1)+[p+'}']
+    if h in('cond','if'): return [p+'if '+opd(b[1])+' {']+body(b[2],ind+1)+[p+'} else {']+body(b[3],ind+1)+[p+'}']
     if h=='switch':
         out=[p+'switch '+opd(b[1])+' {']
         a=b[2]
@@ -64,6 +64,7 @@ def body(b,ind):
 fns=lst(xs[1])
 for f in fns:
     name=f[1]; it=f[2]
+    if len(sys.argv)>1 and not name.strip('"').endswith('::'+sys.argv[1]): continue
     print('fn',name,'lifetimes',it[1],'outlives',it[2],'params',it[3])
     for i,l in enumerate(lst(it[4])): print('   _%d: %s %s'%(i,ty(l[1]),l[2]))
     print('\n'.join(body(it[5],1)))
