@@ -1,11 +1,10 @@
 -- The last ID: what a range that starts at 65535 holds, and what a get of it finds. "The range is [..] worked out without wrapping".
-use Prim.Native.Nat.{ℕ, suc, _+_, _≤_, _<_}
-use mathlib.Core.Path.{_≡_, refl, sym, _∙_, ap}
+use Prim.Native.Nat.{ℕ, _+_, _≤_, _<_}
+use mathlib.Core.Path.{_≡_, refl, _∙_, ap}
 use mathlib.Core.Bool.{Bool, true, false, _&&_}
 use mathlib.Core.List.{List, [], _∷_, map}
 use native.Mathlib.Omega.{arith}
 use native.Mathlib.Decide.{ℕ-discrete}
-use lib.ListN.{length}
 use lib.Dec.{T, leb, ltb, eqb, ltb→lt}
 use borrow.Author.Tests.{le-leb, lt-leb, lt-ltb, eq-eqb, ne-eqb, eqb-true}
 use Rattle.words.specs.Words.{if_then_else_, keep, every}

@@ -1,6 +1,7 @@
 pub mod AnswerJoins
 pub mod AnswerLaws
 pub mod AnsweredLaws
+pub mod BusLaws
 pub mod ApplyLaws
 pub mod CarryJoins
 pub mod DatapointLaws

@@ -22,7 +22,11 @@ use Rattle.baos.proofs.inner.Verdict as Judged
 use Rattle.baos.proofs.inner.Verdict.Laws as Judged′
 use Rattle.baos.proofs.inner.Found as Sought
 use Rattle.baos.proofs.inner.Found.Laws as Sought′
-use Rattle.walks.proofs.Data.{Data, Good, structD, uintD}
+use Rattle.baos.proofs.bus.Outcome as O
+use Rattle.baos.proofs.bus.Outcome.Laws as O′
+use Rattle.baos.proofs.bus.BusEvent as B
+use Rattle.baos.proofs.bus.BusEvent.Laws as B′
+use Rattle.walks.proofs.Data.{Data, Good, structD, enumD, uintD}
 
 abbrev pub datapointD : Data
 datapointD = structD D.the-type D′.the-laws D′.the-plain (λ x f. refl)
@@ -44,6 +48,12 @@ verdictD = structD Judged.the-type Judged′.the-laws Judged′.the-plain (λ x 
 
 abbrev pub foundD : Data
 foundD = structD Sought.the-type Sought′.the-laws Sought′.the-plain (λ x f. refl)
+
+abbrev pub outcomeD : Data
+outcomeD = enumD O.the-type O′.the-laws tt O′.the-plain (λ x f. refl)
+
+abbrev pub busEventD : Data
+busEventD = enumD B.the-type B′.the-laws tt B′.the-plain (λ x f. refl)
 
 abbrev pub byteD : Data
 byteD = uintD w8

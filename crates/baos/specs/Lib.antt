@@ -1,5 +1,6 @@
 pub mod Datapoint
 pub mod Item
+pub mod Bus
 pub mod Table
 pub mod Message
 pub mod Get

@@ -1,65 +1,23 @@
--- Bus events: what a record takes and what it becomes, and what is found, answered and changed by the record that stands where the ID belongs.
+-- Bus events: what is found, answered and changed by the record that stands where the ID belongs.
 use Prim.Native.Nat.{ℕ, _≤_, _<_}
 use mathlib.Core.Bool.{Bool, true, false, _&&_}
 use mathlib.Core.List.{List, [], _∷_, map}
 use mathlib.Core.Path.{_≡_, refl, sym, _∙_, ap, subst}
-use native.Mathlib.Omega.{arith}
-use lib.Dec.{T, eqb, eqb→eq}
+use lib.Dec.{T, eqb}
 use lib.ListN.{length, getD, set}
-use borrow.Author.Tests.{eq-eqb, ne-eqb}
 use Rattle.words.specs.Words.{if_then_else_}
 use Rattle.words.proofs.WordLaws.{left, right, T-true, true-T}
 use Rattle.baos.specs.declared.datapoint.Datapoint.{Datapoint}
-use Rattle.baos.specs.Datapoint.{datapointId, datapointOk, zeroDatapoint, sizeOf, unusedBitsOk, isValue, busValue, outcome}
-use Rattle.baos.specs.Table.{Tables, tableOk, rising, found, changed, place}
+use Rattle.baos.specs.Datapoint.{datapointId, datapointOk, zeroDatapoint}
+use Rattle.baos.specs.Table.{tableOk, rising, found, changed, place}
 use Rattle.baos.proofs.TableLaws.{ids-rise}
 use Rattle.baos.proofs.PlaceLaws.{ok-few}
-use Rattle.baos.proofs.DatapointLaws.{size-fits}
 use Rattle.baos.proofs.EntriesLaws.{found-here, found-nowhere, changed-here}
-use Rattle.calls.specs.declared.event.Event.{Event}
-use Rattle.calls.specs.declared.event.Event.the-variants.{BusValue, TransmissionOutcome}
-use Rattle.calls.specs.declared.event.Outcome.{Outcome}
-use Rattle.calls.specs.declared.event.Outcome.the-variants.{Sent, Failed, InProgress}
+use Rattle.baos.specs.declared.bus.BusEvent.{BusEvent}
+use Rattle.baos.specs.Bus.{takes, taken, foundTakes}
+use Rattle.baos.proofs.BusLaws.{takesAt, one-byte}
 use Rattle.calls.specs.declared.reply.Reply.the-variants.{Refused, Accepted}
-use Rattle.calls.specs.Event.{statusOf}
-use Rattle.calls.specs.Promise.{takes, taken, foundTakes, BusEventTaken}
-
--- ---- one record: whether it is the one of the ID and takes the event
--- what `takes_event` answers
-abbrev pub takesAt : Event → ℕ → List ℕ → Datapoint → Bool
-takesAt e id v d = eqb (d .id) id && takes e v d
-
--- of a record with another ID, and of the record with the ID, where n is the record's
-pub other-id : (n id : ℕ) (b : Bool) → (n ≡ id → ⊥) → false ≡ (eqb n id && b)
-other-id n id b h = ap (λ (y : Bool). y && b) (sym (ne-eqb n id h))
-
-pub same-id : (n id : ℕ) (b : Bool) → n ≡ id → b ≡ (eqb n id && b)
-same-id n id b h = ap (λ (y : Bool). y && b) (sym (eq-eqb n id h))
-
--- a value that is taken fits into the record
-pub taken-fits : (n : ℕ) (v : List ℕ) (d : Datapoint) → T (takes (BusValue n) v d) → length v ≤ 14
-unfolding takes isValue
-taken-fits n v d t =
-    let same : length v ≡ sizeOf (d .typecode) = eqb→eq (length v) (sizeOf (d .typecode)) (left (eqb (length v) (sizeOf (d .typecode))) (unusedBitsOk (d .typecode) v) t) in
-    let fits : sizeOf (d .typecode) ≤ 14 = size-fits (d .typecode) in
-    omega arith
-
--- a value of one byte is its first byte
-one-byte : (v : List ℕ) → T (eqb (length v) 1) → v ≡ getD v 0 0 ∷ []
-one-byte [] t = absurd t
-one-byte (b ∷ []) t = refl
-one-byte (b ∷ c ∷ v) t = absurd (omega (arith, eqb→eq (length (b ∷ c ∷ v)) 1 t))
-
--- it has a first byte
-pub has-byte : (v : List ℕ) → T (eqb (length v) 1) → 0 < length v
-has-byte v t = omega (arith, eqb→eq (length v) 1 t)
-
--- the status has two bits
-pub status-fits : (o : Outcome) → statusOf o ≤ 3
-unfolding statusOf
-status-fits Sent = omega arith
-status-fits Failed = omega arith
-status-fits InProgress = omega arith
+use Rattle.calls.specs.Promise.{BusEventTaken}
 
 -- ---- what a search asks of the table
 module _ (ds : List Datapoint) (ok : tableOk 1000 datapointId datapointOk ds ≡ true) where
@@ -70,7 +28,7 @@ module _ (ds : List Datapoint) (ok : tableOk 1000 datapointId datapointOk ds ≡
   in-order = T-true (rising 0 (map datapointId ds)) (ids-rise datapointId 1000 datapointOk ds (true-T ok))
 
 -- ---- one search: the answer and the table go by the record at the place
-module _ (e : Event) (id : ℕ) (v : List ℕ) (ds : List Datapoint) (ok : tableOk 1000 datapointId datapointOk ds ≡ true) where
+module _ (e : BusEvent) (id : ℕ) (v : List ℕ) (ds : List Datapoint) (ok : tableOk 1000 datapointId datapointOk ds ≡ true) where
   abbrev pub spot : ℕ
   spot = place datapointId id ds
 
@@ -121,14 +79,3 @@ module _ (e : Event) (id : ℕ) (v : List ℕ) (ds : List Datapoint) (ok : table
 
     pub accepted-byte : spot < length ds → takesAt e id v there ≡ true → BusEventTaken e id v ds (Accepted 0) (set ds spot (taken e (getD v 0 0 ∷ []) there))
     accepted-byte l h = subst (λ (s : List ℕ). BusEventTaken e id v ds (Accepted 0) (set ds spot (taken e s there))) (one-byte v one) (accepted-here l h)
-
--- ---- the call's definitions, by what a bus event does at one record
-module _ (id : ℕ) (v : List ℕ) (t : Tables) where
-  -- the record after it
-  pub value-taken : (d : Datapoint) → taken (BusValue id) v d ≡ busValue v d
-  unfolding taken
-  value-taken d = refl
-
-  pub outcome-taken : (o : Outcome) (d : Datapoint) → taken (TransmissionOutcome id o) v d ≡ outcome (statusOf o) d
-  unfolding taken
-  outcome-taken o d = refl

@@ -23,13 +23,16 @@ use Rattle.baos.specs.Indication.{indication}
 use Rattle.baos.proofs.KeepLaws
 use Rattle.calls.specs.declared.event.Event.{Event}
 use Rattle.calls.specs.declared.event.Event.the-variants.{HostByte, IdleMark, AckWaitOver, Poll, BusValue, TransmissionOutcome}
-use Rattle.calls.specs.declared.event.Outcome.{Outcome}
+use Rattle.baos.specs.declared.bus.Outcome.{Outcome}
 use Rattle.calls.specs.declared.reply.Reply.{Reply}
 use Rattle.calls.specs.declared.reply.Reply.the-variants.{Refused, Accepted}
 use Rattle.calls.specs.Event.{atDatapoint, valueFits, busOk}
 use Rattle.calls.specs.Reply.{replyNumbers}
 use Rattle.calls.specs.Call.{quiet, saying, handedUp, onMoved, onPoll, happens, refusal, Called, accepted, call}
-use Rattle.calls.specs.Promise.{Leaves, lentRefusal, takes, taken, foundTakes, BusEventTaken}
+use Rattle.calls.specs.Promise.{Leaves, lentRefusal, BusEventTaken}
+use Rattle.baos.specs.declared.bus.BusEvent.{BusEvent}
+use Rattle.baos.specs.declared.bus.BusEvent.the-variants.{Value, Transmission}
+use Rattle.baos.specs.Bus.{takes, taken, foundTakes}
 use Rattle.calls.proofs.CallLaws.{refusal-0, refusal-1, refusal-2, refusal-3, refusal-4, refused-leaves}
 
 -- what is lent is in order
@@ -121,15 +124,15 @@ polled ds is ps l = go (isEmpty (l .outstanding)) refl
     go true e = simp e
     go false e = simp e
 
-value-taken : (id : ℕ) (v : List ℕ) (fs : List Datapoint) → valueFits fs v ≡ foundTakes (BusValue id) v fs
+value-fits : (v : List ℕ) (fs : List Datapoint) → valueFits fs v ≡ foundTakes Value v fs
 unfolding valueFits foundTakes takes
-value-taken id v [] = refl
-value-taken id v (d ∷ fs) = refl
+value-fits v [] = refl
+value-fits v (d ∷ fs) = refl
 
-outcome-taken : (id : ℕ) (o : Outcome) (v : List ℕ) (fs : List Datapoint) → not (isEmpty fs) ≡ foundTakes (TransmissionOutcome id o) v fs
+outcome-fits : (o : Outcome) (v : List ℕ) (fs : List Datapoint) → not (isEmpty fs) ≡ foundTakes (Transmission o) v fs
 unfolding foundTakes takes
-outcome-taken id o v [] = refl
-outcome-taken id o v (d ∷ fs) = refl
+outcome-fits o v [] = refl
+outcome-fits o v (d ∷ fs) = refl
 
 -- ---- each event
 module _ (v : List ℕ) (t : Tables) (k : Link) (out : List ℕ) (p : Lent t k (length out)) where
@@ -156,23 +159,23 @@ module _ (v : List ℕ) (ds : List Datapoint) (is : List Item) (ps : List ℕ) (
       leaves-as _ _ (takes-place Poll v (tablesOf ds is ps) k out p refl ∙ ap (accepted out) (polled ds is ps (lineOf k))) r (tablesOf ds′ is ps) k′ out′
       (record { reply = z .reply; tables = ap (λ (y : Tables). tablesOf (y .datapoints) is ps) (z .tables); link = z .link; output = z .output })
 
-  bus-leaves : (e : Event) (id : ℕ) → busOk e v (tablesOf ds is ps) ≡ foundTakes e v (found datapointId id ds) → happens e v (tablesOf ds is ps) (lineOf k) ≡ quiet (atDatapoint id (taken e v) (tablesOf ds is ps)) (lineOf k)
-      → (r : Reply) (ds′ : List Datapoint) → BusEventTaken e id v ds r ds′ → Leaves (call e v (tablesOf ds is ps) k out) r (tablesOf ds′ is ps) k out
+  bus-leaves : (e : Event) (b : BusEvent) (id : ℕ) → busOk e v (tablesOf ds is ps) ≡ foundTakes b v (found datapointId id ds) → happens e v (tablesOf ds is ps) (lineOf k) ≡ quiet (atDatapoint id (taken b v) (tablesOf ds is ps)) (lineOf k)
+      → (r : Reply) (ds′ : List Datapoint) → BusEventTaken b id v ds r ds′ → Leaves (call e v (tablesOf ds is ps) k out) r (tablesOf ds′ is ps) k out
   unfolding accepted atDatapoint
-  bus-leaves e id same does r ds′ z = go (foundTakes e v (found datapointId id ds)) refl
+  bus-leaves e b id same does r ds′ z = go (foundTakes b v (found datapointId id ds)) refl
     where
-      go : (u : Bool) → foundTakes e v (found datapointId id ds) ≡ u → Leaves (call e v (tablesOf ds is ps) k out) r (tablesOf ds′ is ps) k out
+      go : (u : Bool) → foundTakes b v (found datapointId id ds) ≡ u → Leaves (call e v (tablesOf ds is ps) k out) r (tablesOf ds′ is ps) k out
       go true f =
           leaves-as _ _ (takes-place e v (tablesOf ds is ps) k out p (same ∙ f) ∙ ap (accepted out) does) r (tablesOf ds′ is ps) k out
           (record { reply = ap replyNumbers (simp f at (z .reply)); tables = ap (λ (y : List Datapoint). tablesOf y is ps) (simp f at (z .datapoints)); link = range-stays k (true-T (p .link)); output = refl })
       go false f =
-          let b = bus-refused e v (tablesOf ds is ps) k out p (same ∙ f) in
-          record { reply = ap replyNumbers (simp f at (z .reply)) ∙ b .reply; tables = ap (λ (y : List Datapoint). tablesOf y is ps) (simp f at (z .datapoints)) ∙ b .tables; link = b .link; output = b .output }
+          let q = bus-refused e v (tablesOf ds is ps) k out p (same ∙ f) in
+          record { reply = ap replyNumbers (simp f at (z .reply)) ∙ q .reply; tables = ap (λ (y : List Datapoint). tablesOf y is ps) (simp f at (z .datapoints)) ∙ q .tables; link = q .link; output = q .output }
 
-  pub leaves-bus-value : (id : ℕ) (r : Reply) (ds′ : List Datapoint) → BusEventTaken (BusValue id) id v ds r ds′ → Leaves (call (BusValue id) v (tablesOf ds is ps) k out) r (tablesOf ds′ is ps) k out
+  pub leaves-bus-value : (id : ℕ) (r : Reply) (ds′ : List Datapoint) → BusEventTaken Value id v ds r ds′ → Leaves (call (BusValue id) v (tablesOf ds is ps) k out) r (tablesOf ds′ is ps) k out
   unfolding busOk happens atDatapoint changed taken
-  leaves-bus-value id = bus-leaves (BusValue id) id (value-taken id v (found datapointId id ds)) refl
+  leaves-bus-value id = bus-leaves (BusValue id) Value id (value-fits v (found datapointId id ds)) refl
 
-  pub leaves-outcome : (id : ℕ) (o : Outcome) (r : Reply) (ds′ : List Datapoint) → BusEventTaken (TransmissionOutcome id o) id v ds r ds′ → Leaves (call (TransmissionOutcome id o) v (tablesOf ds is ps) k out) r (tablesOf ds′ is ps) k out
+  pub leaves-outcome : (id : ℕ) (o : Outcome) (r : Reply) (ds′ : List Datapoint) → BusEventTaken (Transmission o) id v ds r ds′ → Leaves (call (TransmissionOutcome id o) v (tablesOf ds is ps) k out) r (tablesOf ds′ is ps) k out
   unfolding busOk happens atDatapoint changed taken
-  leaves-outcome id o = bus-leaves (TransmissionOutcome id o) id (outcome-taken id o v (found datapointId id ds)) refl
+  leaves-outcome id o = bus-leaves (TransmissionOutcome id o) (Transmission o) id (outcome-fits o v (found datapointId id ds)) refl

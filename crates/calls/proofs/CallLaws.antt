@@ -25,11 +25,12 @@ use Rattle.baos.proofs.DatapointLaws
 use Rattle.baos.proofs.KeepLaws
 use Rattle.calls.specs.declared.event.Event.{Event}
 use Rattle.calls.specs.declared.event.Event.the-variants.{HostByte, IdleMark, AckWaitOver, Poll, BusValue, TransmissionOutcome}
-use Rattle.calls.specs.declared.event.Outcome.{Outcome}
-use Rattle.calls.specs.declared.event.Outcome.the-variants.{Sent, Failed, InProgress}
+use Rattle.baos.specs.declared.bus.Outcome.{Outcome}
+use Rattle.baos.specs.declared.bus.Outcome.the-variants.{Sent, Failed, InProgress}
 use Rattle.calls.specs.declared.reply.Reply.{Reply}
 use Rattle.calls.specs.declared.reply.Reply.the-variants.{Refused, Accepted}
-use Rattle.calls.specs.Event.{statusOf, atDatapoint, valueFits, busOk}
+use Rattle.baos.specs.Bus.{statusOf}
+use Rattle.calls.specs.Event.{atDatapoint, valueFits, busOk}
 use Rattle.calls.specs.Reply.{replyNumbers}
 use Rattle.calls.specs.Call.{Done, saying, handedUp, onMoved, onPoll, happens, refusal, Called, refused, accepted, call}
 

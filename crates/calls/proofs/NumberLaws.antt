@@ -15,11 +15,12 @@ use mir.Facts.{toZ-ofZ}
 use Rattle.words.proofs.WordLaws.{true-T}
 use Rattle.calls.specs.declared.event.Event.{Event}
 use Rattle.calls.specs.declared.event.Event.the-variants.{HostByte, IdleMark, AckWaitOver, Poll, BusValue, TransmissionOutcome}
-use Rattle.calls.specs.declared.event.Outcome.{Outcome}
-use Rattle.calls.specs.declared.event.Outcome.the-variants.{Sent, Failed, InProgress}
+use Rattle.baos.specs.declared.bus.Outcome.{Outcome}
+use Rattle.baos.specs.declared.bus.Outcome.the-variants.{Sent, Failed, InProgress}
 use Rattle.calls.specs.declared.reply.Reply.{Reply}
 use Rattle.calls.specs.declared.reply.Reply.the-variants.{Accepted}
-use Rattle.calls.specs.Event.{statusOf, numbersOf}
+use Rattle.baos.specs.Bus.{statusOf}
+use Rattle.calls.specs.Event.{numbersOf}
 use Rattle.calls.specs.Reply.{sentCount}
 use Rattle.calls.specs.Numbers.{isEvent, outcomeOf, eventOf, given}
 

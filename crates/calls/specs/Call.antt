@@ -17,7 +17,8 @@ use Rattle.calls.specs.declared.event.Event.{Event}
 use Rattle.calls.specs.declared.event.Event.the-variants.{HostByte, IdleMark, AckWaitOver, Poll, BusValue, TransmissionOutcome}
 use Rattle.calls.specs.declared.reply.Reply.{Reply}
 use Rattle.calls.specs.declared.reply.Reply.the-variants.{Refused, Accepted}
-use Rattle.calls.specs.Event.{statusOf, atDatapoint, busOk}
+use Rattle.baos.specs.Bus.{statusOf}
+use Rattle.calls.specs.Event.{atDatapoint, busOk}
 
 -- what an accepted call does: the bytes sent, the tables and the line after it
 pub record Done : Type 0 where

@@ -5,17 +5,10 @@ use mathlib.Core.List.{List, [], _∷_}
 use Rattle.words.specs.Words.{isEmpty}
 use Rattle.baos.specs.declared.datapoint.Datapoint.{Datapoint}
 use Rattle.baos.specs.Datapoint.{datapointId, isValue}
+use Rattle.baos.specs.Bus.{statusOf}
 use Rattle.baos.specs.Table.{Tables, withDatapoints, found, changed}
 use Rattle.calls.specs.declared.event.Event.{Event}
 use Rattle.calls.specs.declared.event.Event.the-variants.{HostByte, IdleMark, AckWaitOver, Poll, BusValue, TransmissionOutcome}
-use Rattle.calls.specs.declared.event.Outcome.{Outcome}
-use Rattle.calls.specs.declared.event.Outcome.the-variants.{Sent, Failed, InProgress}
-
--- "status becomes 00, 01 or 10": sent is idle, failed is idle with error, or in progress
-unfoldable pub statusOf : Outcome → ℕ
-statusOf Sent = 0
-statusOf Failed = 1
-statusOf InProgress = 2
 
 -- an event's place in the paper's list of six, and its values
 unfoldable pub numbersOf : Event → List ℕ

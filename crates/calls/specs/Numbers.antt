@@ -7,8 +7,8 @@ use lib.IntN.{ℤ, pos, negℤ}
 use Rattle.words.specs.Words.{if_then_else_}
 use Rattle.calls.specs.declared.event.Event.{Event}
 use Rattle.calls.specs.declared.event.Event.the-variants.{HostByte, IdleMark, AckWaitOver, Poll, BusValue, TransmissionOutcome}
-use Rattle.calls.specs.declared.event.Outcome.{Outcome}
-use Rattle.calls.specs.declared.event.Outcome.the-variants.{Sent, Failed, InProgress}
+use Rattle.baos.specs.declared.bus.Outcome.{Outcome}
+use Rattle.baos.specs.declared.bus.Outcome.the-variants.{Sent, Failed, InProgress}
 use Rattle.calls.specs.declared.reply.Reply.{Reply}
 use Rattle.calls.specs.declared.reply.Reply.the-variants.{Refused, Accepted}
 

@@ -1,8 +1,8 @@
 -- What the functions of the server promise: the reply by its numbers, the output buffer to its end, the tables and the link record.
 use Prim.Native.Nat.{ℕ, _+_}
 use mathlib.Core.Path.{_≡_}
-use mathlib.Core.Bool.{Bool, true, false, not}
-use mathlib.Core.List.{List, [], _∷_}
+use mathlib.Core.Bool.{not}
+use mathlib.Core.List.{List, []}
 use lib.Dec.{ltb}
 use Rattle.words.specs.Words.{if_then_else_}
 use Rattle.ft12.specs.declared.record.Link.{Link}
@@ -11,13 +11,12 @@ use Rattle.ft12.specs.declared.rules.Heard.the-variants.{Gathered, Dropped, Ign
 use Rattle.ft12.specs.Frame.{acknowledgement}
 use Rattle.ft12.specs.Record.{inRange}
 use Rattle.baos.specs.declared.datapoint.Datapoint.{Datapoint}
-use Rattle.baos.specs.Datapoint.{datapointId, isValue, busValue, outcome}
+use Rattle.baos.specs.declared.bus.BusEvent.{BusEvent}
+use Rattle.baos.specs.Datapoint.{datapointId}
+use Rattle.baos.specs.Bus.{taken, foundTakes}
 use Rattle.baos.specs.Table.{Tables, wellFormed, found, changed}
-use Rattle.calls.specs.declared.event.Event.{Event}
-use Rattle.calls.specs.declared.event.Event.the-variants.{HostByte, IdleMark, AckWaitOver, Poll, BusValue, TransmissionOutcome}
 use Rattle.calls.specs.declared.reply.Reply.{Reply}
 use Rattle.calls.specs.declared.reply.Reply.the-variants.{Refused, Accepted}
-use Rattle.calls.specs.Event.{statusOf}
 use Rattle.calls.specs.Reply.{replyNumbers}
 use Rattle.calls.specs.Call.{Called}
 
@@ -32,33 +31,10 @@ pub record Leaves (c : Called) (r : Reply) (t′ : Tables) (k′ : Link) (out′
 unfoldable pub lentRefusal : Tables → Link → ℕ → ℕ
 lentRefusal t k room = if not (wellFormed t) then 1 else if not (inRange k) then 2 else if ltb room 262 then 3 else 0
 
--- ---- a bus event, at one record
-
--- the record takes the event: a value has to be one of its type
-unfoldable pub takes : Event → List ℕ → Datapoint → Bool
-takes (HostByte b) v d = true
-takes IdleMark v d = true
-takes AckWaitOver v d = true
-takes Poll v d = true
-takes (BusValue id) v d = isValue (d .typecode) v
-takes (TransmissionOutcome id o) v d = true
-
--- the record after it
-unfoldable pub taken : Event → List ℕ → Datapoint → Datapoint
-taken (HostByte b) v d = d
-taken IdleMark v d = d
-taken AckWaitOver v d = d
-taken Poll v d = d
-taken (BusValue id) v d = busValue v d
-taken (TransmissionOutcome id o) v d = outcome (statusOf o) d
-
--- the datapoint that was found takes it
-unfoldable pub foundTakes : Event → List ℕ → List Datapoint → Bool
-foundTakes e v [] = false
-foundTakes e v (d ∷ ds) = takes e v d
+-- ---- a bus event
 
 -- a bus event about the datapoint of this ID: refused with 4 where there is none, or where it does not take the event
-pub record BusEventTaken (e : Event) (id : ℕ) (v : List ℕ) (ds : List Datapoint) (r : Reply) (ds′ : List Datapoint) : Type 0 where
+pub record BusEventTaken (e : BusEvent) (id : ℕ) (v : List ℕ) (ds : List Datapoint) (r : Reply) (ds′ : List Datapoint) : Type 0 where
   pub reply : r ≡ (if foundTakes e v (found datapointId id ds) then Accepted 0 else Refused 4)
   pub datapoints : ds′ ≡ (if foundTakes e v (found datapointId id ds) then changed datapointId id (taken e v) ds else ds)
 

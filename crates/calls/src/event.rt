@@ -1,11 +1,5 @@
 // The six things that happen.
-
-// What becomes of a transmission on the bus.
-pub enum Outcome {
-    Sent,
-    Failed,
-    InProgress,
-}
+use baos::bus::Outcome;
 
 // The six things that happen. The value of a bus value is lent beside it.
 pub enum Event {

@@ -32,11 +32,12 @@ use Rattle.baos.proofs.KeepLaws.{parts as tables-parts}
 use Rattle.baos.proofs.DispatchLaws.{by-service, by-message}
 use Rattle.calls.specs.declared.event.Event.{Event}
 use Rattle.calls.specs.declared.event.Event.the-variants.{HostByte, IdleMark, AckWaitOver, Poll, BusValue, TransmissionOutcome}
-use Rattle.calls.specs.Event.{statusOf, atDatapoint}
+use Rattle.baos.specs.Bus.{statusOf}
+use Rattle.calls.specs.Event.{atDatapoint}
 use Rattle.calls.specs.Call.{Done, saying, handedUp, onMoved, onPoll, happens, refusal, accepted, call}
 use Rattle.calls.proofs.CallLaws.{not-refused}
 use Rattle.calls.proofs.CallJoins.{waited}
-use Rattle.calls.proofs.BusLaws.{status-fits}
+use Rattle.baos.proofs.BusLaws.{status-fits}
 use Rattle.walks.proofs.Branches.{no-T}
 use Rattle.demands.specs.HostHears.{Happening, allAccepted}
 use Rattle.demands.specs.HandedOut.{shownIn, valuesIn, showsUpdated, buildsAt, builds, handsOut, timesHandedOut, isValueFor, noValueFor, HandedOutOnce}

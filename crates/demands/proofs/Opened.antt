@@ -14,7 +14,8 @@ use Rattle.baos.specs.Get.{inRequest, overflow, listing, getFinding, getting, i
 use Rattle.baos.specs.Set.{firstItemEntry, firstDatapointEntry, span, fills, setEntries, itemCode, takesCommand, datapointCode, judgedItem, judgedDatapoint, firstBad, setFinding, applied, setting, setItem, setServerItem, setDatapoint, setDatapointValue}
 use Rattle.baos.specs.Service.{service, unanswered, carriedOut}
 use Rattle.baos.specs.Indication.{needs, goes, roomAfter, choices, reported, afterReport, indicationOf, indication}
-use Rattle.calls.specs.Event.{statusOf, atDatapoint, valueFits, busOk}
+use Rattle.baos.specs.Bus.{statusOf}
+use Rattle.calls.specs.Event.{atDatapoint, valueFits, busOk}
 use Rattle.calls.specs.Call.{saying, handedUp, onMoved, onPoll, happens, refusal, refused, accepted, call}
 use Rattle.demands.specs.Run.{sentOf, before, run}
 

@@ -6,6 +6,7 @@ use crate::bus::on_bus_event;
 use crate::host_byte::on_host_byte;
 use crate::poll::on_poll;
 use crate::refusal::refusal_of;
+use baos::bus::BusEvent;
 use baos::datapoint::Datapoint;
 use baos::item::Item;
 use calls::event::Event;
@@ -43,7 +44,9 @@ pub fn call(
             Reply::Accepted(n)
         }
         Event::Poll => on_poll(datapoints, link, out),
-        Event::BusValue(id) => on_bus_event(event, id, value, datapoints),
-        Event::TransmissionOutcome(id, _) => on_bus_event(event, id, value, datapoints),
+        Event::BusValue(id) => on_bus_event(BusEvent::Value, id, value, datapoints),
+        Event::TransmissionOutcome(id, outcome) => {
+            on_bus_event(BusEvent::Transmission(outcome), id, value, datapoints)
+        }
     }
 }

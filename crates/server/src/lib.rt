@@ -1,7 +1,6 @@
 // The server: one call takes an event and answers with the bytes to send.
 pub mod bus;
 pub mod call;
-pub mod event;
 pub mod host_byte;
 pub mod poll;
 pub mod refusal;

@@ -3,8 +3,8 @@ ghost use mathlib.Core.Path.{_≡_};
 ghost use Prim.Native.Nat.{_<_, _^_};
 ghost use Rattle.calls.specs.Reply.{sentCount};
 ghost use Rattle.calls.specs.Numbers.{isEvent, outcomeOf, eventOf, numberOf};
+use baos::bus::Outcome;
 use calls::event::Event;
-use calls::event::Outcome;
 use calls::reply::Reply;
 
 // Whether the numbers name an event.

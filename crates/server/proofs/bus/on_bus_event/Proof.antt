@@ -39,13 +39,15 @@ use denote.Triple.Walked.{needs}
 use Rattle.baos.specs.declared.datapoint.Datapoint.{Datapoint}
 use Rattle.baos.specs.Datapoint.{datapointId, datapointOk, zeroDatapoint}
 use Rattle.baos.specs.Table.{tableOk, place}
-use Rattle.baos.proofs.Types.{datapointD, byteD, idD, placeD}
-use Rattle.calls.specs.declared.event.Event.{Event}
+use Rattle.baos.proofs.Types.{datapointD, busEventD, byteD, idD, placeD}
+use Rattle.baos.specs.declared.bus.BusEvent.{BusEvent}
 use Rattle.calls.specs.declared.reply.Reply.{Reply}
 use Rattle.calls.specs.declared.reply.Reply.the-variants.{Refused, Accepted}
-use Rattle.calls.specs.Promise.{taken, BusEventTaken}
-use Rattle.calls.proofs.Types.{eventD, replyD}
-use Rattle.calls.proofs.BusLaws.{takesAt, few, has-byte, in-order, takes-there, refused-nowhere, refused-here, accepted-here, takes-byte, accepted-byte}
+use Rattle.baos.specs.Bus.{taken}
+use Rattle.calls.specs.Promise.{BusEventTaken}
+use Rattle.calls.proofs.Types.{replyD}
+use Rattle.baos.proofs.BusLaws.{takesAt, has-byte}
+use Rattle.calls.proofs.BusLaws.{few, in-order, takes-there, refused-nowhere, refused-here, accepted-here, takes-byte, accepted-byte}
 use Rattle.calls.proofs.reply.Reply as R
 use Rattle.calls.proofs.reply.Reply.Laws as R′
 use Rattle.tables.proofs.table.datapoint_place as datapoint-place
@@ -56,18 +58,18 @@ use Rattle.tables.proofs.table.datapoint_at as datapoint-at
 use Rattle.tables.proofs.table.datapoint_at.Symbol as datapoint-at-def
 use Rattle.tables.proofs.table.datapoint_at.Symbol.{name as #tables·table·datapoint-at}
 use Rattle.tables.proofs.table.datapoint_at.Met as datapoint-at-thm
-use Rattle.server.proofs.bus.takes_event as takes-event
-use Rattle.server.proofs.bus.takes_event.Symbol as takes-event-def
-use Rattle.server.proofs.bus.takes_event.Symbol.{name as #server·bus·takes-event}
-use Rattle.server.proofs.bus.takes_event.Met as takes-event-thm
-use Rattle.server.proofs.bus.after_event as after-event
-use Rattle.server.proofs.bus.after_event.Symbol as after-event-def
-use Rattle.server.proofs.bus.after_event.Symbol.{name as #server·bus·after-event}
-use Rattle.server.proofs.bus.after_event.Met as after-event-thm
-use Rattle.server.proofs.bus.after_byte as after-byte
-use Rattle.server.proofs.bus.after_byte.Symbol as after-byte-def
-use Rattle.server.proofs.bus.after_byte.Symbol.{name as #server·bus·after-byte}
-use Rattle.server.proofs.bus.after_byte.Met as after-byte-thm
+use Rattle.services.proofs.bus.takes_event as takes-event
+use Rattle.services.proofs.bus.takes_event.Symbol as takes-event-def
+use Rattle.services.proofs.bus.takes_event.Symbol.{name as #services·bus·takes-event}
+use Rattle.services.proofs.bus.takes_event.Met as takes-event-thm
+use Rattle.services.proofs.bus.after_event as after-event
+use Rattle.services.proofs.bus.after_event.Symbol as after-event-def
+use Rattle.services.proofs.bus.after_event.Symbol.{name as #services·bus·after-event}
+use Rattle.services.proofs.bus.after_event.Met as after-event-thm
+use Rattle.services.proofs.bus.after_byte as after-byte
+use Rattle.services.proofs.bus.after_byte.Symbol as after-byte-def
+use Rattle.services.proofs.bus.after_byte.Symbol.{name as #services·bus·after-byte}
+use Rattle.services.proofs.bus.after_byte.Met as after-byte-thm
 use Rattle.tables.proofs.table.put_datapoint_at as put-datapoint-at
 use Rattle.tables.proofs.table.put_datapoint_at.Symbol as put-datapoint-at-def
 use Rattle.tables.proofs.table.put_datapoint_at.Symbol.{name as #tables·table·put-datapoint-at}
@@ -96,7 +98,7 @@ abbrev C-put-datapoint-at : {M : Type 1} (𝓤 : URA M) (H : Heap 𝓤) (A : Ato
 C-put-datapoint-at 𝓤 H A mem run = tripleOf 𝓤 H A put-datapoint-at.signature (put-datapoint-at.spec 𝓤 H A mem run)
 
 abbrev ps : List (Param 2)
-ps = dataP 2 eventD ∷ dataP 2 idD ∷ shrSliceP 2 0 tt byteD ∷ mutSliceP 2 1 tt datapointD ∷ []
+ps = dataP 2 busEventD ∷ dataP 2 idD ∷ shrSliceP 2 0 tt byteD ∷ mutSliceP 2 1 tt datapointD ∷ []
 
 -- where local j stands
 abbrev loc : ℕ → ℕ
@@ -111,13 +113,13 @@ accepted-0 = EL.owes R.the-type R′.the-laws (Accepted 0) ((refl, lit< tt), tt)
 module _ {M : Type 1} (𝓤 : URA M) (H : Heap 𝓤) (A : Atoms 𝓤) (W : Given 𝓤 H A) (mem : Memory → SProp 𝓤) (run : Routine → Fun 𝓤) (𝓣 : Tables 𝓤 H)
     (known-datapoint-place : Triple 𝓤 (𝓣 .C #tables·table·datapoint-place) (C-datapoint-place 𝓤 H A mem run))
     (known-datapoint-at : Triple 𝓤 (𝓣 .C #tables·table·datapoint-at) (C-datapoint-at 𝓤 H A mem run))
-    (known-takes-event : Triple 𝓤 (𝓣 .C #server·bus·takes-event) (C-takes-event 𝓤 H A mem run))
-    (known-after-event : Triple 𝓤 (𝓣 .C #server·bus·after-event) (C-after-event 𝓤 H A mem run))
-    (known-after-byte : Triple 𝓤 (𝓣 .C #server·bus·after-byte) (C-after-byte 𝓤 H A mem run))
+    (known-takes-event : Triple 𝓤 (𝓣 .C #services·bus·takes-event) (C-takes-event 𝓤 H A mem run))
+    (known-after-event : Triple 𝓤 (𝓣 .C #services·bus·after-event) (C-after-event 𝓤 H A mem run))
+    (known-after-byte : Triple 𝓤 (𝓣 .C #services·bus·after-byte) (C-after-byte 𝓤 H A mem run))
     (known-put-datapoint-at : Triple 𝓤 (𝓣 .C #tables·table·put-datapoint-at) (C-put-datapoint-at 𝓤 H A mem run))
-    (κ0 κ1 : Lft) (q0 q1 : Share) (event : Event) (id : ℕ) (value : RefT (List ℕ)) (datapoints : RefT (List Datapoint)) (event-ok : Good eventD event) (id-ok : Good idD id) (value-room : Room (byteD .row) (length (value .now))) (datapoints-room : Room (datapointD .row) (length (datapoints .now)))
+    (κ0 κ1 : Lft) (q0 q1 : Share) (event : BusEvent) (id : ℕ) (value : RefT (List ℕ)) (datapoints : RefT (List Datapoint)) (event-ok : Good busEventD event) (id-ok : Good idD id) (value-room : Room (byteD .row) (length (value .now))) (datapoints-room : Room (datapointD .row) (length (datapoints .now)))
     (ok : tableOk 1000 datapointId datapointOk (datapoints .now) ≡ true) where
-  abbrev x : Event × (ℕ × (RefT (List ℕ) × (RefT (List Datapoint) × Unit {0})))
+  abbrev x : BusEvent × (ℕ × (RefT (List ℕ) × (RefT (List Datapoint) × Unit {0})))
   x = (event, (id, (value, (datapoints, tt))))
 
   abbrev v : List ℕ
@@ -150,7 +152,7 @@ module _ {M : Type 1} (𝓤 : URA M) (H : Heap 𝓤) (A : Atoms 𝓤) (W : Given
 
   abbrev Had : List Datapoint → List (Entry 𝓤)
   Had zs =
-      ‵ (eventD .row .own event (eventD .val event ∷ [])) ∷ ‵ (idD .row .own id (idD .val id ∷ [])) ∷ ‵ (MutS datapointD κ1 (datapoints .ptr .0) (datapoints .ptr .1) (datapoints .name) (length ds) zs) ∷ ‵ (flft κ1 q1)
+      ‵ (busEventD .row .own event (busEventD .val event ∷ [])) ∷ ‵ (idD .row .own id (idD .val id ∷ [])) ∷ ‵ (MutS datapointD κ1 (datapoints .ptr .0) (datapoints .ptr .1) (datapoints .name) (length ds) zs) ∷ ‵ (flft κ1 q1)
       ∷ ‵ (ShrS byteD κ0 (value .ptr .0) (value .ptr .1) (value .name) (length v) v) ∷ ‵ (flft κ0 q0) ∷ []
 
   exits : (r : Reply) (zs : List Datapoint) → Good replyD r → length zs ≡ length ds → BusEventTaken event id v ds r zs → ent 𝓤 (⋆ 𝓤 H A (Had zs)) (Done (replyD .val r))
@@ -161,7 +163,7 @@ module _ {M : Type 1} (𝓤 : URA M) (H : Heap 𝓤) (A : Atoms 𝓤) (W : Given
   walk : Walk 2 𝓤 H A W ps replyD (f.clauses 𝓤 H A mem run) 𝓣 code.function (κ0, (κ1, tt)) (q0, (q1, tt)) x tt
   walk =
       starts 𝓤 H A W 2 ps (κ0, (κ1, tt)) (q0, (q1, tt)) x ∵ enter ! (𝓣 .C) (𝓣 .Λ) code.function _ _ $ allocs-all ! (code.function .locals) (λ l. params1 ! $
-      pass1 ! (init ! 44 refl (typed 𝓤 H A eventD W event event-ok .0)) $ pass1 ! (init ! 42 refl (typed 𝓤 H A idD W id id-ok .0)) $ pass1 ! (init ! 40 refl (tt, (tt, (record { fits = value-room .0 }, tt)))) $ pass1 ! (init ! 38 refl (tt, (tt, (record { fits = datapoints-room .0 }, tt)))) $ pass0 ! $
+      pass1 ! (init ! 44 refl (typed 𝓤 H A busEventD W event event-ok .0)) $ pass1 ! (init ! 42 refl (typed 𝓤 H A idD W id id-ok .0)) $ pass1 ! (init ! 40 refl (tt, (tt, (record { fits = value-room .0 }, tt)))) $ pass1 ! (init ! 38 refl (tt, (tt, (record { fits = datapoints-room .0 }, tt)))) $ pass0 ! $
       -- behind the locals: the two tokens, the event, the ID, the two slices. In front: the table and its token, the value and its token
       move ! (53 ∷ 49 ∷ 52 ∷ 48 ∷ []) $
       assigns ! (addr ! (from ! (fld ! refl (hop ! (look-in ! (loc 4) (sub ! 0 refl (whole !))) (stop !))))) (from ! (stop !)) (init ! (loc 9) refl (tt, tt)) $
@@ -181,10 +183,10 @@ module _ {M : Type 1} (𝓤 : URA M) (H : Heap 𝓤) (A : Atoms 𝓤) (W : Given
       (λ _ _ _. (and-then ! (val ! (loc 14) refl) (and-then ! (val ! (loc 5) refl) (no-more !)))) (λ d-ok.
       land ! (from ! (stop !)) (init ! (loc 6) refl (typed 𝓤 H A datapointD W d d-ok .0)) $
       move ! (2 ∷ []) $ use1 W (‵ (ShrS byteD κ0 (value .ptr .0) (value .ptr .1) (value .name) (length v) v) ⊛ ‵ (ShrS byteD κ0 (value .ptr .0) (value .ptr .1) (value .name) (length v) v)) (shr-slice-copy 𝓤 H A W erased κ0 (byteD .row) .twice value (sliceVal (value .ptr) (length v) ∷ [])) $ split ! $
-      use0 W (‵ (eventD .row .own event (eventD .val event ∷ []))) (eventD .made 𝓤 H A W event (eventD .val event ∷ []) event-ok) $ use0 W (‵ (idD .row .own id (idD .val id ∷ []))) (idD .made 𝓤 H A W id (idD .val id ∷ []) id-ok) $ use0 W (‵ (datapointD .row .own d (datapointD .val d ∷ []))) (datapointD .made 𝓤 H A W d (datapointD .val d ∷ []) d-ok) $
+      use0 W (‵ (busEventD .row .own event (busEventD .val event ∷ []))) (busEventD .made 𝓤 H A W event (busEventD .val event ∷ []) event-ok) $ use0 W (‵ (idD .row .own id (idD .val id ∷ []))) (idD .made 𝓤 H A W id (idD .val id ∷ []) id-ok) $ use0 W (‵ (datapointD .row .own d (datapointD .val d ∷ []))) (datapointD .made 𝓤 H A W d (datapointD .val d ∷ []) d-ok) $
       -- [the record; the ID; the event; the value twice; the table; its token; the value's token; locals]
       move ! (7 ∷ 2 ∷ 1 ∷ 3 ∷ 0 ∷ []) $
-      calls-any ! (fmOf 𝓤 H (W .laws) 𝓣) takes-event.ended (takes-event.clauses 𝓤 H A mem run) known-takes-event (((κ0, tt), (q0, tt), tt, (event, (id, (value, (d, tt)))), (eventD .val event ∷ [], (idD .val id ∷ [], (sliceVal (value .ptr) (length v) ∷ [], (datapointD .val d ∷ [], tt))))), tt) (id⊢ 𝓤 _) boolD is-taken (λ ws. Unit {0})
+      calls-any ! (fmOf 𝓤 H (W .laws) 𝓣) takes-event.ended (takes-event.clauses 𝓤 H A mem run) known-takes-event (((κ0, tt), (q0, tt), tt, (event, (id, (value, (d, tt)))), (busEventD .val event ∷ [], (idD .val id ∷ [], (sliceVal (value .ptr) (length v) ∷ [], (datapointD .val d ∷ [], tt))))), tt) (id⊢ 𝓤 _) boolD is-taken (λ ws. Unit {0})
       (λ u r ws fit. fact-use 𝓤 _ (id⊢ 𝓤 _) (λ z. factI 𝓤 _ _ (tt, pinned boolD r is-taken u fit z)))
       (and-then ! (val ! (loc 1) refl) (and-then ! (val ! (loc 2) refl) (and-then ! (val ! (loc 3) refl) (and-then ! (val ! (loc 6) refl) (no-more !))))) (λ ws _ taken-ok.
       -- [the value's token; nothing of the four arguments; the value; the table; its token; locals]
@@ -205,7 +207,7 @@ module _ {M : Type 1} (𝓤 : URA M) (H : Heap 𝓤) (A : Atoms 𝓤) (W : Given
       takes-at ! byteD sh v 0 0 (value .ptr .0) (value .ptr .1) (has-byte v one) (λ b-ok.
       lets ! (1 + loc 17) (of-opd ! (load ! (from ! (hop ! (look ! (1 + loc 16) refl) (stop !))) (look-raw ! 0 refl))) refl (typed 𝓤 H A byteD W b b-ok .0) $
       back-at ! byteD sh v 0 0 (value .ptr .0) (value .ptr .1) (has-byte v one) b-ok $ shut-slice ! tt byteD sh v (value .ptr .0) (value .ptr .1) $ move ! (2 ∷ 3 ∷ []) $
-      calls-plain ! (fmOf 𝓤 H (W .laws) 𝓣) (eventD ∷ byteD ∷ datapointD ∷ []) datapointD (after-byte.clauses 𝓤 H A mem run) known-after-byte (event, (b, (d, tt))) tt (event-ok, (b-ok, (d-ok, tt))) (factI 𝓤 _ (emp 𝓤) (takes-byte event id v ds ok one (yes-T is-taken accepted))) d₁ (λ _ _. id⊢ 𝓤 _)
+      calls-plain ! (fmOf 𝓤 H (W .laws) 𝓣) (busEventD ∷ byteD ∷ datapointD ∷ []) datapointD (after-byte.clauses 𝓤 H A mem run) known-after-byte (event, (b, (d, tt))) tt (event-ok, (b-ok, (d-ok, tt))) (factI 𝓤 _ (emp 𝓤) (takes-byte event id v ds ok one (yes-T is-taken accepted))) d₁ (λ _ _. id⊢ 𝓤 _)
       (λ _. (and-then ! (val ! (1 + loc 1) refl) (and-then ! (val ! (1 + loc 17) refl) (and-then ! (val ! (1 + loc 6) refl) (no-more !))))) (λ changed-ok.
       land ! (from ! (stop !)) (init ! (loc 7) refl (typed 𝓤 H A datapointD W d₁ changed-ok .0)) $
       assigns ! (addr ! (from ! (fld ! refl (hop ! (look-in ! (loc 4) (sub ! 0 refl (whole !))) (stop !))))) (from ! (stop !)) (init ! (loc 19) refl (tt, tt)) $
@@ -217,10 +219,10 @@ module _ {M : Type 1} (𝓤 : URA M) (H : Heap 𝓤) (A : Atoms 𝓤) (W : Given
       returns-within ! Done refl (look ! (loc 0) refl) $ behind ! 4 $ frees-all ! (room ∷ room ∷ room ∷ cell ∷ cell ∷ cell ∷ cell ∷ cell ∷ cell ∷ cell ∷ cell ∷ cell ∷ cell ∷ cell ∷ cell ∷ room ∷ cell ∷ cell ∷ cell ∷ cell ∷ cell ∷ cell ∷ cell ∷ cell ∷ []) _ $
       by ! (exits (Accepted 0) (set ds p d₁) accepted-0 (sym long) (accepted-byte event id v ds ok one (nleb→lt (length ds) p within) (yes-T is-taken accepted)))))))) (λ more.
       move ! (2 ∷ []) $ use1 W (‵ (ShrS byteD κ0 (value .ptr .0) (value .ptr .1) (value .name) (length v) v) ⊛ ‵ (ShrS byteD κ0 (value .ptr .0) (value .ptr .1) (value .name) (length v) v)) (shr-slice-copy 𝓤 H A W erased κ0 (byteD .row) .twice value (sliceVal (value .ptr) (length v) ∷ [])) $ split ! $
-      use0 W (‵ (eventD .row .own event (eventD .val event ∷ []))) (eventD .made 𝓤 H A W event (eventD .val event ∷ []) event-ok) $ use0 W (‵ (datapointD .row .own d (datapointD .val d ∷ []))) (datapointD .made 𝓤 H A W d (datapointD .val d ∷ []) d-ok) $
+      use0 W (‵ (busEventD .row .own event (busEventD .val event ∷ []))) (busEventD .made 𝓤 H A W event (busEventD .val event ∷ []) event-ok) $ use0 W (‵ (datapointD .row .own d (datapointD .val d ∷ []))) (datapointD .made 𝓤 H A W d (datapointD .val d ∷ []) d-ok) $
       -- [the record; the event; the value twice; the table; its token; the value's token; locals]
       move ! (6 ∷ 1 ∷ 2 ∷ 0 ∷ []) $
-      calls-any ! (fmOf 𝓤 H (W .laws) 𝓣) after-event.ended (after-event.clauses 𝓤 H A mem run) known-after-event (((κ0, tt), (q0, tt), tt, (event, (value, (d, tt))), (eventD .val event ∷ [], (sliceVal (value .ptr) (length v) ∷ [], (datapointD .val d ∷ [], tt)))), tt) (factI 𝓤 _ (emp 𝓤) (takes-there event id v ds ok (yes-T is-taken accepted))) datapointD d′ (λ ws. Unit {0})
+      calls-any ! (fmOf 𝓤 H (W .laws) 𝓣) after-event.ended (after-event.clauses 𝓤 H A mem run) known-after-event (((κ0, tt), (q0, tt), tt, (event, (value, (d, tt))), (busEventD .val event ∷ [], (sliceVal (value .ptr) (length v) ∷ [], (datapointD .val d ∷ [], tt)))), tt) (factI 𝓤 _ (emp 𝓤) (takes-there event id v ds ok (yes-T is-taken accepted))) datapointD d′ (λ ws. Unit {0})
       (λ u r ws fit. fact-use 𝓤 _ (id⊢ 𝓤 _) (λ z. factI 𝓤 _ _ (tt, pinned datapointD r d′ u fit z)))
       (and-then ! (val ! (loc 1) refl) (and-then ! (val ! (loc 3) refl) (and-then ! (val ! (loc 6) refl) (no-more !)))) (λ ws′ _ after-ok.
       move ! (1 ∷ 2 ∷ 3 ∷ []) $ toss ! $ toss ! $ toss ! $ move ! (2 ∷ 3 ∷ 1 ∷ 0 ∷ []) $
@@ -244,8 +246,8 @@ on-bus-event-spec 𝓤 H 𝓜 𝓖 𝓡 =
     (meets-by 2 𝓤 H (𝓖 .A) W ps replyD (f.clauses 𝓤 H (𝓖 .A) (𝓜 .mem) (𝓡 .run)) 𝓣 code.function (λ κs qs a _ are. needs 𝓤 _ _ (λ ok. walk 𝓤 H (𝓖 .A) W (𝓜 .mem) (𝓡 .run) 𝓣
     (cited 𝓤 H (C-datapoint-place 𝓤 H (𝓖 .A) (𝓜 .mem) (𝓡 .run)) 𝓜 𝓡 code.env #tables·table·datapoint-place datapoint-place-def.routine code.calls-tables·table·datapoint-place (datapoint-place-thm.met 𝓤 H 𝓜 𝓖 𝓡))
     (cited 𝓤 H (C-datapoint-at 𝓤 H (𝓖 .A) (𝓜 .mem) (𝓡 .run)) 𝓜 𝓡 code.env #tables·table·datapoint-at datapoint-at-def.routine code.calls-tables·table·datapoint-at (datapoint-at-thm.met 𝓤 H 𝓜 𝓖 𝓡))
-    (cited 𝓤 H (C-takes-event 𝓤 H (𝓖 .A) (𝓜 .mem) (𝓡 .run)) 𝓜 𝓡 code.env #server·bus·takes-event takes-event-def.routine code.calls-server·bus·takes-event (takes-event-thm.met 𝓤 H 𝓜 𝓖 𝓡))
-    (cited 𝓤 H (C-after-event 𝓤 H (𝓖 .A) (𝓜 .mem) (𝓡 .run)) 𝓜 𝓡 code.env #server·bus·after-event after-event-def.routine code.calls-server·bus·after-event (after-event-thm.met 𝓤 H 𝓜 𝓖 𝓡))
-    (cited 𝓤 H (C-after-byte 𝓤 H (𝓖 .A) (𝓜 .mem) (𝓡 .run)) 𝓜 𝓡 code.env #server·bus·after-byte after-byte-def.routine code.calls-server·bus·after-byte (after-byte-thm.met 𝓤 H 𝓜 𝓖 𝓡))
+    (cited 𝓤 H (C-takes-event 𝓤 H (𝓖 .A) (𝓜 .mem) (𝓡 .run)) 𝓜 𝓡 code.env #services·bus·takes-event takes-event-def.routine code.calls-services·bus·takes-event (takes-event-thm.met 𝓤 H 𝓜 𝓖 𝓡))
+    (cited 𝓤 H (C-after-event 𝓤 H (𝓖 .A) (𝓜 .mem) (𝓡 .run)) 𝓜 𝓡 code.env #services·bus·after-event after-event-def.routine code.calls-services·bus·after-event (after-event-thm.met 𝓤 H 𝓜 𝓖 𝓡))
+    (cited 𝓤 H (C-after-byte 𝓤 H (𝓖 .A) (𝓜 .mem) (𝓡 .run)) 𝓜 𝓡 code.env #services·bus·after-byte after-byte-def.routine code.calls-services·bus·after-byte (after-byte-thm.met 𝓤 H 𝓜 𝓖 𝓡))
     (cited 𝓤 H (C-put-datapoint-at 𝓤 H (𝓖 .A) (𝓜 .mem) (𝓡 .run)) 𝓜 𝓡 code.env #tables·table·put-datapoint-at put-datapoint-at-def.routine code.calls-tables·table·put-datapoint-at (put-datapoint-at-thm.met 𝓤 H 𝓜 𝓖 𝓡))
     (κs .0) (κs .1 .0) (qs .0) (qs .1 .0) (a .0) (a .1 .0) (a .1 .1 .0) (a .1 .1 .1 .0) (are .0) (are .1 .0) (are .1 .1 .0 .0 .1) (are .1 .1 .1 .0 .0 .1) ok)))

@@ -1,7 +1,7 @@
 use borrow.Author.Needs.{needs}
-use Rattle.calls.specs.Event.{statusOf}
-use Rattle.server.proofs.event.status_of.Statement.{statement}
-use Rattle.server.proofs.event.status_of.Tie as tie
+use Rattle.baos.specs.Bus.{statusOf}
+use Rattle.services.proofs.bus.status_of.Statement.{statement}
+use Rattle.services.proofs.bus.status_of.Tie as tie
 
 enum-told : tie.Need-enum-told
 enum-told c = search needs
