@@ -9,6 +9,7 @@ pub mod DispatchLaws
 pub mod EntriesLaws
 pub mod EntryLaws
 pub mod FieldsFit
+pub mod FormedLaws
 pub mod FoundLaws
 pub mod GatherLaws
 pub mod GetLaws

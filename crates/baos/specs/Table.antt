@@ -60,6 +60,10 @@ unfoldable pub wellFormed : Tables → Bool
 wellFormed t =
     tableOk 1000 datapointId datapointOk (t .datapoints) && tableOk 64 itemId itemOk (t .items) && leb (length (t .parameters)) 255
 
+-- What refusal 1 asks of the tables, with whether a frame is outstanding beside them. No record names a frame, so that nothing depends on it.
+abbrev pub tablesOk : Bool → Tables → Bool
+tablesOk outstanding t = wellFormed t
+
 -- the entry of an ID: a list with that entry alone, or the empty list where the ID is absent
 unfoldable pub found : {A : Type 0} → (A → ℕ) → ℕ → List A → List A
 found idOf n [] = []

@@ -10,7 +10,7 @@ use lib.Dec.{ltb, eqb}
 use borrow.Author.Tests.{ltb-true, ltb-false, eqb-true, eqb-false}
 use Rattle.words.specs.Words.{isEmpty, put}
 use Rattle.ft12.specs.declared.record.Link.{Link}
-use Rattle.ft12.specs.Record.{Line, lineOf, linkOf, inRange}
+use Rattle.ft12.specs.Record.{Line, lineOf, linkOf, inRange, holdsFrame}
 use Rattle.ft12.specs.Rules.{onHostByte, onIdleMark, onAckWaitOver}
 use Rattle.ft12.specs.Promise.{AckWaited}
 use Rattle.words.proofs.WordLaws.{T-true, true-T}
@@ -43,23 +43,23 @@ pub record Lent (t : Tables) (k : Link) (room : ℕ) : Type 0 where
 
 module _ (t : Tables) (k : Link) (room : ℕ) where
   -- the refusals that do not look at the event go first
-  lent-first : (e : Event) (v : List ℕ) → eqb (lentRefusal t k room) 0 ≡ false → refusal e v t k room ≡ lentRefusal t k room
+  lent-first : (e : Event) (v : List ℕ) → eqb (lentRefusal (holdsFrame k) t k room) 0 ≡ false → refusal e v t k room ≡ lentRefusal (holdsFrame k) t k room
   unfolding lentRefusal
   lent-first e v h = go (wellFormed t) (inRange k) (ltb room 262) refl refl refl
     where
-      go : (a b c : Bool) → wellFormed t ≡ a → inRange k ≡ b → ltb room 262 ≡ c → refusal e v t k room ≡ lentRefusal t k room
+      go : (a b c : Bool) → wellFormed t ≡ a → inRange k ≡ b → ltb room 262 ≡ c → refusal e v t k room ≡ lentRefusal (holdsFrame k) t k room
       go false b c p q s = refusal-1 e v t k room p ∙ sym (simp p)
       go true false c p q s = refusal-2 e v t k room p q ∙ sym (simp (p, q))
       go true true true p q s = refusal-3 e v t k room p q (ltb-true room 262 s) ∙ sym (simp (p, q, s))
-      go true true false p q s = absurd (eqb-false (lentRefusal t k room) 0 h (simp (p, q, s)))
+      go true true false p q s = absurd (eqb-false (lentRefusal (holdsFrame k) t k room) 0 h (simp (p, q, s)))
 
   -- none of them is given
-  pub lent-passed : eqb (lentRefusal t k room) 0 ≡ true → Lent t k room
+  pub lent-passed : eqb (lentRefusal (holdsFrame k) t k room) 0 ≡ true → Lent t k room
   unfolding lentRefusal
   lent-passed h = go (wellFormed t) (inRange k) (ltb room 262) refl refl refl
     where
-      z : lentRefusal t k room ≡ 0
-      z = eqb-true (lentRefusal t k room) 0 h
+      z : lentRefusal (holdsFrame k) t k room ≡ 0
+      z = eqb-true (lentRefusal (holdsFrame k) t k room) 0 h
 
       go : (a b c : Bool) → wellFormed t ≡ a → inRange k ≡ b → ltb room 262 ≡ c → Lent t k room
       go false b c p q s = absurd (omega (arith, simp p at z))
@@ -79,8 +79,8 @@ module _ (e : Event) (v : List ℕ) (t : Tables) (k : Link) (out : List ℕ) whe
   refuses : (n : ℕ) → refusal e v t k (length out) ≡ n → n ≢ 0 → Leaves (call e v t k out) (Refused n) t k out
   refuses n h z = leaves-as _ _ (refused-leaves e v t k out n h z) (Refused n) t k out (record { reply = refl; tables = refl; link = refl; output = refl })
 
-  pub leaves-refused : eqb (lentRefusal t k (length out)) 0 ≡ false → Leaves (call e v t k out) (Refused (lentRefusal t k (length out))) t k out
-  leaves-refused h = refuses (lentRefusal t k (length out)) (lent-first t k (length out) e v h) (eqb-false (lentRefusal t k (length out)) 0 h)
+  pub leaves-refused : eqb (lentRefusal (holdsFrame k) t k (length out)) 0 ≡ false → Leaves (call e v t k out) (Refused (lentRefusal (holdsFrame k) t k (length out))) t k out
+  leaves-refused h = refuses (lentRefusal (holdsFrame k) t k (length out)) (lent-first t k (length out) e v h) (eqb-false (lentRefusal (holdsFrame k) t k (length out)) 0 h)
 
   -- what is lent is in order, and so is the bus event
   module _ (p : Lent t k (length out)) where

@@ -6,10 +6,10 @@ use lib.ListN.{length, drop}
 use lib.Dec.{ltb, eqb}
 use Rattle.words.specs.Words.{if_then_else_, isEmpty}
 use Rattle.ft12.specs.declared.record.Link.{Link}
-use Rattle.ft12.specs.Record.{Line, lineOf, linkOf, inRange}
+use Rattle.ft12.specs.Record.{Line, lineOf, linkOf, holdsFrame, inRange}
 use Rattle.ft12.specs.Rules.{Up, nothing, acknowledged, dropped, reset, message, Moved, onHostByte, onIdleMark, onAckWaitOver, onMessage}
 use Rattle.baos.specs.Datapoint.{busValue, outcome}
-use Rattle.baos.specs.Table.{Tables, wellFormed}
+use Rattle.baos.specs.Table.{Tables, tablesOk}
 use Rattle.baos.specs.Message.{Served}
 use Rattle.baos.specs.Service.{carriedOut}
 use Rattle.baos.specs.Indication.{indication}
@@ -61,7 +61,7 @@ happens (TransmissionOutcome id o) v t l = quiet (atDatapoint id (outcome (statu
 -- the number of the refusal, "Several at once: the lowest number"; 0 where the call is accepted
 unfoldable pub refusal : Event → List ℕ → Tables → Link → ℕ → ℕ
 refusal e v t k room =
-    if not (wellFormed t) then 1
+    if not (tablesOk (holdsFrame k) t) then 1
     else if not (inRange k) then 2
     else if ltb room 262 then 3
     else if not (busOk e v t) then 4

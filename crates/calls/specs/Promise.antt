@@ -1,7 +1,7 @@
 -- What the functions of the server promise: the reply by its numbers, the output buffer to its end, the tables and the link record.
 use Prim.Native.Nat.{ℕ, _+_}
 use mathlib.Core.Path.{_≡_}
-use mathlib.Core.Bool.{not}
+use mathlib.Core.Bool.{Bool, not}
 use mathlib.Core.List.{List, []}
 use lib.Dec.{ltb}
 use Rattle.words.specs.Words.{if_then_else_}
@@ -14,7 +14,7 @@ use Rattle.baos.specs.declared.datapoint.Datapoint.{Datapoint}
 use Rattle.baos.specs.declared.bus.BusEvent.{BusEvent}
 use Rattle.baos.specs.Datapoint.{datapointId}
 use Rattle.baos.specs.Bus.{taken, foundTakes}
-use Rattle.baos.specs.Table.{Tables, wellFormed, found, changed}
+use Rattle.baos.specs.Table.{Tables, tablesOk, found, changed}
 use Rattle.calls.specs.declared.reply.Reply.{Reply}
 use Rattle.calls.specs.declared.reply.Reply.the-variants.{Refused, Accepted}
 use Rattle.calls.specs.Reply.{replyNumbers}
@@ -27,9 +27,9 @@ pub record Leaves (c : Called) (r : Reply) (t′ : Tables) (k′ : Link) (out′
   pub link : k′ ≡ c .link
   pub output : out′ ≡ c .output
 
--- the refusals that do not look at the event: 1, 2 and 3, the lowest first; 0 where none is given
-unfoldable pub lentRefusal : Tables → Link → ℕ → ℕ
-lentRefusal t k room = if not (wellFormed t) then 1 else if not (inRange k) then 2 else if ltb room 262 then 3 else 0
+-- the refusals that do not look at the event: 1, 2 and 3, the lowest first; 0 where none is given. Whether a frame is outstanding is told beside the tables.
+unfoldable pub lentRefusal : Bool → Tables → Link → ℕ → ℕ
+lentRefusal outstanding t k room = if not (tablesOk outstanding t) then 1 else if not (inRange k) then 2 else if ltb room 262 then 3 else 0
 
 -- ---- a bus event
 

@@ -1,7 +1,7 @@
 -- The link record, as the rules see it and as the serial loop lends it, and when it is in range.
 use Prim.Native.Nat.{ℕ, _≤_}
 use mathlib.Core.Path.{_≡_}
-use mathlib.Core.Bool.{Bool, true, false, _&&_}
+use mathlib.Core.Bool.{Bool, true, false, not, _&&_}
 use mathlib.Core.List.{List, []}
 use lib.ListN.{length, take}
 use lib.Dec.{leb, eqb}
@@ -59,6 +59,10 @@ linkOf l =
       held = length (l .outstanding);
       resends = l .resends;
     }
+
+-- a frame is outstanding, whatever else the record holds
+abbrev pub holdsFrame : Link → Bool
+holdsFrame k = not (eqb (k .held) 0)
 
 -- "Control from host: 73 (count bit odd) or 53 (even); from server: F3 or D3."
 unfoldable pub hostControl : Bool → ℕ

@@ -29,7 +29,8 @@ pub fn call(
     ensures { λ r. ⌜ Leaves (call event (now (value .entry)) (tablesOf (now (datapoints .entry)) (now (items .entry)) (now (parameters .entry))) (now (link .entry)) (now (out .entry))) r
         (tablesOf (now (datapoints .exit)) (now (items .exit)) (now (parameters .entry))) (now (link .exit)) (now (out .exit)) ⌝ }
 {
-    let refusal = refusal_of(datapoints, items, parameters, link, out.len());
+    let outstanding = link.held != 0;
+    let refusal = refusal_of(datapoints, items, parameters, outstanding, link, out.len());
     if refusal != 0 {
         return Reply::Refused(refusal);
     }

@@ -4,33 +4,26 @@ ghost use Rattle.baos.specs.Table.{tablesOf};
 ghost use Rattle.calls.specs.Promise.{lentRefusal};
 use baos::datapoint::Datapoint;
 use baos::item::Item;
-use baos::table::MOST_PARAMETERS;
 use calls::refusal::LEAST_ROOM;
 use calls::refusal::LINK_NOT_IN_RANGE;
 use calls::refusal::NO_ROOM;
 use calls::refusal::TABLE_NOT_WELL_FORMED;
 use ft12::record::Link;
 use link::range::in_range;
-use tables::table::datapoints_well_formed;
-use tables::table::items_well_formed;
+use tables::table::tables_ok;
 
-// 1 where a table is not well formed, 2 where the link record is not in range, 3 where the output has no room for 262 bytes; 0 where none is given.
+// The number of the lowest that is given, 0 where none is. `outstanding` says whether the link record holds a frame.
 pub fn refusal_of(
     datapoints: &[Datapoint],
     items: &[Item],
     parameters: &[u8],
+    outstanding: bool,
     link: &Link,
     room: usize,
 ) -> u8
-    ensures { λ r. ⌜ r ≡ lentRefusal (tablesOf (now (datapoints .entry)) (now (items .entry)) (now (parameters .entry))) (now (link .entry)) room ⌝ }
+    ensures { λ r. ⌜ r ≡ lentRefusal outstanding (tablesOf (now (datapoints .entry)) (now (items .entry)) (now (parameters .entry))) (now (link .entry)) room ⌝ }
 {
-    if !datapoints_well_formed(datapoints) {
-        return TABLE_NOT_WELL_FORMED;
-    }
-    if !items_well_formed(items) {
-        return TABLE_NOT_WELL_FORMED;
-    }
-    if MOST_PARAMETERS < parameters.len() {
+    if !tables_ok(datapoints, items, parameters, outstanding) {
         return TABLE_NOT_WELL_FORMED;
     }
     if !in_range(link) {

@@ -6,11 +6,12 @@ ghost use Prim.Native.Nat.{_<_, _≤_};
 ghost use lib.ListN.{length, getD, set};
 ghost use Rattle.baos.specs.Datapoint.{datapointId, datapointOk, zeroDatapoint};
 ghost use Rattle.baos.specs.Item.{itemId, itemOk, zeroItem};
-ghost use Rattle.baos.specs.Table.{tableOk, place, rising};
+ghost use Rattle.baos.specs.Table.{tablesOf, tableOk, tablesOk, place, rising};
 use baos::datapoint::Datapoint;
 use baos::item::Item;
 use baos::table::MOST_DATAPOINTS;
 use baos::table::MOST_ITEMS;
+use baos::table::MOST_PARAMETERS;
 use masks::datapoint::fits_after;
 use masks::datapoint::four_fit_after;
 use masks::item::four_items_fit_after;
@@ -78,6 +79,24 @@ pub fn items_well_formed(table: &[Item]) -> bool
         i += 1;
     }
     true
+}
+
+// Whether refusal 1 is not given: each table is well formed. Whether a frame is outstanding is told beside them; no record names one.
+pub fn tables_ok(
+    datapoints: &[Datapoint],
+    items: &[Item],
+    parameters: &[u8],
+    outstanding: bool,
+) -> bool
+    ensures { λ r. ⌜ r ≡ tablesOk outstanding (tablesOf (now (datapoints .entry)) (now (items .entry)) (now (parameters .entry))) ⌝ }
+{
+    if !datapoints_well_formed(datapoints) {
+        return false;
+    }
+    if !items_well_formed(items) {
+        return false;
+    }
+    parameters.len() <= MOST_PARAMETERS
 }
 
 // How many datapoints have a lower ID: where the datapoint of this ID stands if there is one. The width falls 1023, 511, .. 1, 0 whatever is found, so that the loop is unrolled and each choice is a conditional move.
