@@ -20,7 +20,21 @@ pub const ANSWER: u8 = 0x80;
 // DatapointValue.Ind.
 pub const DATAPOINT_VALUE_INDICATION: u8 = 0xC1;
 
-// Main service, sub-service, start and number stand in front of the entries; what the longest message has left behind them.
+// Main service, sub-service, start and number stand in front of the entries; a request for values has a filter behind them; what the longest message has left.
 pub const MESSAGE_HEAD: usize = 6;
 
+pub const VALUE_REQUEST: usize = 7;
+
 pub const ROOM_FOR_ENTRIES: usize = 248;
+
+// What stands of an entry in front of its data: ID and length of an item; ID, command and length of a datapoint.
+pub const ITEM_ENTRY_HEAD: usize = 3;
+
+pub const DATAPOINT_ENTRY_HEAD: usize = 4;
+
+// "Commands: 0 nothing; 1 value, bit 4 set; 2 status 11; 3 both; 4 bit 2 set; 5 status 00."
+pub const SET_VALUE: u8 = 1;
+
+pub const SET_AND_SEND: u8 = 3;
+
+pub const LAST_COMMAND: u8 = 5;

@@ -88,7 +88,7 @@ fn judge_data(g: &[u8], b: u8) -> Judgement
 }
 
 // What the byte b is after the gathered bytes g.
-pub fn judge(g: &[u8], b: u8) -> Judgement
+fn judge(g: &[u8], b: u8) -> Judgement
     ensures { λ r. ⌜ r ≡ judged (now (g .entry)) b ⌝ }
 {
     if g.len() == 0 {

@@ -15,6 +15,7 @@ use baos::datapoint::Datapoint;
 use baos::inner::Gathered;
 use baos::inner::Wanted;
 use baos::item::Item;
+use baos::service::ROOM_FOR_ENTRIES;
 use records::datapoint::handed_out;
 use records::datapoint::passes_filter;
 use records::entry::put_description;
@@ -24,14 +25,14 @@ use records::entry::put_wide_value;
 use records::value::size_of;
 
 // Whether the ID is behind the range.
-pub fn is_behind(w: Wanted, id: u16) -> bool
+fn is_behind(w: Wanted, id: u16) -> bool
     ensures { λ r. ⌜ r ≡ isBehind w id ⌝ }
 {
     w.end <= id as u32
 }
 
 // Whether the record is to be gathered. Its ID is in the range: the passes begin at the place of the first ID, and end behind the last.
-pub fn is_wanted(w: Wanted, d: Datapoint) -> bool
+fn is_wanted(w: Wanted, d: Datapoint) -> bool
     requires { ⌜ (w .start ≤ d .id) × (d .id < w .end) ⌝ }
     ensures { λ r. ⌜ r ≡ isWanted w d ⌝ }
 {
@@ -39,7 +40,7 @@ pub fn is_wanted(w: Wanted, d: Datapoint) -> bool
 }
 
 // How many bytes the record's entry takes.
-pub fn entry_size(w: Wanted, d: Datapoint) -> usize
+fn entry_size(w: Wanted, d: Datapoint) -> usize
     requires { ⌜ d .typecode ≤ 14 ⌝ }
     ensures { λ r. ⌜ r ≡ length (entryOf w d .bytes) ⌝ }
 {
@@ -50,7 +51,7 @@ pub fn entry_size(w: Wanted, d: Datapoint) -> usize
 }
 
 // The record's entry, into the buffer at `at`; answers where it ends.
-pub fn put_entry(out: &mut [u8], at: usize, w: Wanted, d: Datapoint) -> usize
+fn put_entry(out: &mut [u8], at: usize, w: Wanted, d: Datapoint) -> usize
     requires { ⌜ (d .typecode ≤ 14) × (at + length (entryOf w d .bytes) ≤ length (now out)) ⌝ }
     ensures { λ r. ⌜ Written (now (out .entry)) at (entryOf w d .bytes) r (now (out .exit)) ⌝ }
 {
@@ -61,7 +62,7 @@ pub fn put_entry(out: &mut [u8], at: usize, w: Wanted, d: Datapoint) -> usize
 }
 
 // The same where others follow.
-pub fn put_wide_entry(out: &mut [u8], at: usize, w: Wanted, d: Datapoint) -> usize
+fn put_wide_entry(out: &mut [u8], at: usize, w: Wanted, d: Datapoint) -> usize
     requires { ⌜ (d .typecode ≤ 14) × (at + 18 ≤ length (now out)) ⌝ }
     ensures { λ r. ⌜ WrittenWide (now (out .entry)) at (wideOf w d) (entryOf w d .bytes) r (now (out .exit)) ⌝ }
 {
@@ -72,7 +73,7 @@ pub fn put_wide_entry(out: &mut [u8], at: usize, w: Wanted, d: Datapoint) -> usi
 }
 
 // The record after its entry was built.
-pub fn left_of(w: Wanted, d: Datapoint) -> Datapoint
+fn left_of(w: Wanted, d: Datapoint) -> Datapoint
     ensures { λ r. ⌜ r ≡ leftOf w d ⌝ }
 {
     if w.values {
@@ -97,7 +98,7 @@ fn with_entry(g: Gathered, id: u16, n: usize) -> Gathered
 {
     let size = g.size + n;
     let mut r = g;
-    if 248 < size {
+    if ROOM_FOR_ENTRIES < size {
         r.over = id;
         r.ended = true;
         return r;
@@ -108,7 +109,7 @@ fn with_entry(g: Gathered, id: u16, n: usize) -> Gathered
 }
 
 // A datapoint is measured, after those before it.
-pub fn measured(w: Wanted, d: Datapoint, g: Gathered) -> Gathered
+fn measured(w: Wanted, d: Datapoint, g: Gathered) -> Gathered
     requires { ⌜ (w .start ≤ d .id) × (d .typecode ≤ 14) × (g .count ≤ g .size) × (g .size ≤ 248) ⌝ }
     ensures { λ r. ⌜ r ≡ measured (isBehind w (d .id)) (isWanted w d) (entryOf w d) g ⌝ }
 {
@@ -122,7 +123,7 @@ pub fn measured(w: Wanted, d: Datapoint, g: Gathered) -> Gathered
 }
 
 // An item is measured, after those before it.
-pub fn item_measured(w: Wanted, i: Item, g: Gathered) -> Gathered
+fn item_measured(w: Wanted, i: Item, g: Gathered) -> Gathered
     requires { ⌜ (w .start ≤ i .id) × (i .size ≤ 16) × (g .count ≤ g .size) × (g .size ≤ 248) ⌝ }
     ensures { λ r. ⌜ r ≡ measured (isBehind w (i .id)) (isWithin w (i .id)) (itemEntry i) g ⌝ }
 {

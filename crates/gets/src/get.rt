@@ -14,11 +14,19 @@ use crate::gather::build_datapoints;
 use crate::gather::build_items;
 use crate::gather::measure_datapoints;
 use crate::gather::measure_items;
+use baos::code::BAD_SERVICE_PARAMETER;
+use baos::code::BUFFER_TOO_SMALL;
+use baos::code::MESSAGE_INCONSISTENT;
+use baos::code::NO_ELEMENT_FOUND;
+use baos::code::NO_ERROR;
 use baos::datapoint::Datapoint;
 use baos::inner::Gathered;
 use baos::inner::Verdict;
 use baos::inner::Wanted;
 use baos::item::Item;
+use baos::service::MESSAGE_HEAD;
+use baos::service::ROOM_FOR_ENTRIES;
+use baos::service::VALUE_REQUEST;
 use messages::message::filter_of;
 use messages::message::number_of;
 use messages::message::put_answer_head;
@@ -27,6 +35,9 @@ use messages::message::start_of;
 use tables::table::datapoint_place;
 use tables::table::item_place;
 use words::bytes::put_bytes;
+
+// How far behind the start the first parameter byte stands that does not fit.
+const FIRST_OVER: u16 = 248;
 
 // The filter, where values are asked for.
 fn filter_asked(m: &[u8], values: bool) -> u8
@@ -43,13 +54,13 @@ fn size_asked(values: bool) -> usize
     ensures { λ r. ⌜ r ≡ sizeAsked values ⌝ }
 {
     if values {
-        return 7;
+        return VALUE_REQUEST;
     }
-    6
+    MESSAGE_HEAD
 }
 
 // What the request asks for: values, or anything else.
-pub fn wanted(m: &[u8], values: bool) -> Wanted
+fn wanted(m: &[u8], values: bool) -> Wanted
     requires { ⌜ 6 ≤ length (now m) ⌝ }
     ensures { λ r. ⌜ r ≡ wantedOf values (now (m .entry)) ⌝ }
 {
@@ -65,7 +76,7 @@ pub fn wanted(m: &[u8], values: bool) -> Wanted
 }
 
 // Rows 10 and 6.
-pub fn request_verdict(m: &[u8], values: bool) -> Verdict
+fn request_verdict(m: &[u8], values: bool) -> Verdict
     requires { ⌜ 6 ≤ length (now m) ⌝ }
     ensures { λ r. ⌜ r ≡ verdictOf (requestFinding values (now (m .entry))) ⌝ }
 {
@@ -73,32 +84,47 @@ pub fn request_verdict(m: &[u8], values: bool) -> Verdict
     if m.len() != size_asked(values) {
         return Verdict {
             id: start,
-            code: 10,
+            code: MESSAGE_INCONSISTENT,
         };
     }
     if number_of(m) == 0 {
-        return Verdict { id: start, code: 6 };
+        return Verdict {
+            id: start,
+            code: BAD_SERVICE_PARAMETER,
+        };
     }
     if 2 < filter_asked(m, values) {
-        return Verdict { id: start, code: 6 };
+        return Verdict {
+            id: start,
+            code: BAD_SERVICE_PARAMETER,
+        };
     }
-    Verdict { id: 0, code: 0 }
+    Verdict {
+        id: 0,
+        code: NO_ERROR,
+    }
 }
 
 // Rows 2 and 3.
-pub fn gathered_verdict(start: u16, g: Gathered) -> Verdict
+fn gathered_verdict(start: u16, g: Gathered) -> Verdict
     ensures { λ r. ⌜ r ≡ gatheredVerdict start g ⌝ }
 {
     if g.over != 0 {
         return Verdict {
             id: g.over,
-            code: 3,
+            code: BUFFER_TOO_SMALL,
         };
     }
     if g.count == 0 {
-        return Verdict { id: start, code: 2 };
+        return Verdict {
+            id: start,
+            code: NO_ELEMENT_FOUND,
+        };
     }
-    Verdict { id: 0, code: 0 }
+    Verdict {
+        id: 0,
+        code: NO_ERROR,
+    }
 }
 
 // How many parameter bytes there are to return.
@@ -124,17 +150,17 @@ pub fn get_parameters(parameters: &[u8], m: &[u8], out: &mut [u8], at: usize) ->
     ensures { λ r. ⌜ Written (now (out .entry)) at (getParameterByte (parametersOnly (now (parameters .entry))) (now (m .entry)) .says) r (now (out .exit)) ⌝ }
 {
     let v = request_verdict(m, false);
-    if v.code != 0 {
+    if v.code != NO_ERROR {
         return put_coded(&mut *out, at, m, v.id, v.code);
     }
     let start = start_of(m);
     let number = number_of(m);
     let n = parameters_present(parameters.len(), start as usize, number as usize);
     if n == 0 {
-        return put_coded(&mut *out, at, m, start, 2);
+        return put_coded(&mut *out, at, m, start, NO_ELEMENT_FOUND);
     }
-    if 248 < n {
-        return put_coded(&mut *out, at, m, start + 248, 3);
+    if ROOM_FOR_ENTRIES < n {
+        return put_coded(&mut *out, at, m, start + FIRST_OVER, BUFFER_TOO_SMALL);
     }
     let end = put_answer_head(&mut *out, at, m, n as u16);
     let first = start as usize - 1;
@@ -156,14 +182,14 @@ pub fn get_datapoints(
         (now (out .entry)) at (getDatapoints values (datapointsOnly (now (table .entry))) (now (m .entry)) .says) r (now (out .exit)) (now (table .exit)) ⌝ }
 {
     let v = request_verdict(m, values);
-    if v.code != 0 {
+    if v.code != NO_ERROR {
         return put_coded(out, at, m, v.id, v.code);
     }
     let w = wanted(m, values);
     let from = datapoint_place(table, w.start);
     let g = measure_datapoints(table, from, w);
     let u = gathered_verdict(w.start, g);
-    if u.code != 0 {
+    if u.code != NO_ERROR {
         return put_coded(out, at, m, u.id, u.code);
     }
     let end = put_answer_head(out, at, m, g.count);
@@ -176,14 +202,14 @@ pub fn get_items(table: &[Item], m: &[u8], out: &mut [u8], at: usize) -> usize
     ensures { λ r. ⌜ Written (now (out .entry)) at (getServerItem (itemsOnly (now (table .entry))) (now (m .entry)) .says) r (now (out .exit)) ⌝ }
 {
     let v = request_verdict(m, false);
-    if v.code != 0 {
+    if v.code != NO_ERROR {
         return put_coded(out, at, m, v.id, v.code);
     }
     let w = wanted(m, false);
     let from = item_place(table, w.start);
     let g = measure_items(table, from, w);
     let u = gathered_verdict(w.start, g);
-    if u.code != 0 {
+    if u.code != NO_ERROR {
         return put_coded(out, at, m, u.id, u.code);
     }
     let end = put_answer_head(out, at, m, g.count);

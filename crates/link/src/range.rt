@@ -50,7 +50,7 @@ fn is_outstanding_ok(outstanding: &[u8], n: usize, send: bool, resends: u8) -> b
 }
 
 // The range test, on the record's parts.
-pub fn are_parts_in_range(
+fn are_parts_in_range(
     receiver: &[u8; 260],
     received: u16,
     dropping: bool,

@@ -6,6 +6,9 @@ ghost use lib.ListN.{length, getD};
 ghost use Rattle.words.specs.Words.{put, twoBytes};
 ghost use Rattle.baos.specs.Message.{subService, startOf, numberOf, filterOf, coded};
 ghost use Rattle.baos.specs.Inner.Promise.{Written};
+use baos::service::ANSWER;
+use baos::service::DATAPOINT_VALUE_INDICATION;
+use baos::service::MAIN_SERVICE;
 
 // SubService.
 pub fn sub_service_of(m: &[u8]) -> u8
@@ -46,8 +49,8 @@ pub fn put_coded(out: &mut [u8], at: usize, m: &[u8], id: u16, code: u8) -> usiz
     requires { ⌜ (6 ≤ length (now m)) × (subService (now m) < 0x80) × (at + 7 ≤ length (now out)) ⌝ }
     ensures { λ r. ⌜ Written (now (out .entry)) at (coded (now (m .entry)) id code) r (now (out .exit)) ⌝ }
 {
-    out[at] = 0xf0;
-    out[at + 1] = m[1] + 0x80;
+    out[at] = MAIN_SERVICE;
+    out[at + 1] = m[1] + ANSWER;
     out[at + 2] = (id / 256) as u8;
     out[at + 3] = (id % 256) as u8;
     out[at + 4] = 0;
@@ -57,11 +60,11 @@ pub fn put_coded(out: &mut [u8], at: usize, m: &[u8], id: u16, code: u8) -> usiz
 }
 
 // What stands in front of an answer's entries, into the buffer at `at`; answers where the entries begin.
-pub fn put_head(out: &mut [u8], at: usize, sub: u8, start: u16, count: u16) -> usize
+fn put_head(out: &mut [u8], at: usize, sub: u8, start: u16, count: u16) -> usize
     requires { ⌜ at + 6 ≤ length (now out) ⌝ }
     ensures { λ r. ⌜ Written (now (out .entry)) at (0xF0 ∷ sub ∷ twoBytes start ++ twoBytes count) r (now (out .exit)) ⌝ }
 {
-    out[at] = 0xf0;
+    out[at] = MAIN_SERVICE;
     out[at + 1] = sub;
     out[at + 2] = (start / 256) as u8;
     out[at + 3] = (start % 256) as u8;
@@ -76,7 +79,7 @@ pub fn put_answer_head(out: &mut [u8], at: usize, m: &[u8], count: u16) -> usize
     ensures { λ r. ⌜ Written (now (out .entry)) at (0xF0 ∷ (subService (now (m .entry)) + 0x80) ∷ twoBytes (startOf (now (m .entry))) ++ twoBytes count) r (now (out .exit)) ⌝ }
 {
     let start = start_of(m);
-    put_head(&mut *out, at, m[1] + 0x80, start, count)
+    put_head(&mut *out, at, m[1] + ANSWER, start, count)
 }
 
 // What stands in front of an indication's entries, once they stand in the buffer from at + 6 on: its StartDatapoint is the first one's ID.
@@ -86,8 +89,8 @@ pub fn put_indication_head(out: &mut [u8], at: usize, count: u16)
 {
     let high = out[at + 6];
     let low = out[at + 7];
-    out[at] = 0xf0;
-    out[at + 1] = 0xc1;
+    out[at] = MAIN_SERVICE;
+    out[at + 1] = DATAPOINT_VALUE_INDICATION;
     out[at + 2] = high;
     out[at + 3] = low;
     out[at + 4] = (count / 256) as u8;

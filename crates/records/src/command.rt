@@ -8,7 +8,13 @@ ghost use Rattle.baos.specs.Set.{takesCommand, datapointCode};
 use crate::value::is_unused_bits_ok;
 use crate::value::padded;
 use crate::value::size_of;
+use baos::code::BAD_COMMAND_OR_VALUE;
+use baos::code::BAD_LENGTH;
+use baos::code::NO_ERROR;
 use baos::datapoint::Datapoint;
+use baos::service::LAST_COMMAND;
+use baos::service::SET_AND_SEND;
+use baos::service::SET_VALUE;
 
 // The state that a command leaves of a record that had the state s.
 fn state_after(c: u8, s: u8) -> u8
@@ -31,12 +37,12 @@ pub fn command(d: Datapoint, c: u8, value: &[u8]) -> Datapoint
 {
     let mut r = d;
     r.state = state_after(c, d.state);
-    if c == 1 {
+    if c == SET_VALUE {
         let v = padded(value);
         r.value = v;
         return r;
     }
-    if c == 3 {
+    if c == SET_AND_SEND {
         let v = padded(value);
         r.value = v;
         return r;
@@ -50,11 +56,11 @@ pub fn command_byte(d: Datapoint, c: u8, b: u8) -> Datapoint
 {
     let mut r = d;
     r.state = state_after(c, d.state);
-    if c == 1 {
+    if c == SET_VALUE {
         r.value = [b, 0, 0, 0, 0, 0, 0, 0, 0, 0, 0, 0, 0, 0];
         return r;
     }
-    if c == 3 {
+    if c == SET_AND_SEND {
         r.value = [b, 0, 0, 0, 0, 0, 0, 0, 0, 0, 0, 0, 0, 0];
         return r;
     }
@@ -65,7 +71,7 @@ pub fn command_byte(d: Datapoint, c: u8, b: u8) -> Datapoint
 fn takes_command(c: u8) -> bool
     ensures { λ r. ⌜ r ≡ takesCommand c ⌝ }
 {
-    c <= 5
+    c <= LAST_COMMAND
 }
 
 // The code of a set entry for this record, 0 where nothing is wrong.
@@ -73,22 +79,22 @@ pub fn entry_code(d: Datapoint, c: u8, value: &[u8]) -> u8
     ensures { λ r. ⌜ r ≡ datapointCode d c (now (value .entry)) ⌝ }
 {
     if !takes_command(c) {
-        return 8;
+        return BAD_COMMAND_OR_VALUE;
     }
     if value.len() == 0 {
-        if c == 1 {
-            return 9;
+        if c == SET_VALUE {
+            return BAD_LENGTH;
         }
-        if c == 3 {
-            return 9;
+        if c == SET_AND_SEND {
+            return BAD_LENGTH;
         }
-        return 0;
+        return NO_ERROR;
     }
     if value.len() == size_of(d.typecode) {
         if is_unused_bits_ok(d.typecode, value) {
-            return 0;
+            return NO_ERROR;
         }
-        return 8;
+        return BAD_COMMAND_OR_VALUE;
     }
-    9
+    BAD_LENGTH
 }

@@ -4,6 +4,9 @@ ghost use Prim.Native.Nat.{_≤_};
 ghost use lib.ListN.{length};
 ghost use Rattle.baos.specs.Item.{withBytes};
 ghost use Rattle.baos.specs.Set.{itemCode};
+use baos::code::BAD_LENGTH;
+use baos::code::ITEM_NOT_WRITABLE;
+use baos::code::NO_ERROR;
 use baos::item::Item;
 use words::bytes::put_bytes;
 
@@ -13,11 +16,11 @@ pub fn item_code(i: Item, value: &[u8]) -> u8
 {
     if i.writable {
         if value.len() == i.size as usize {
-            return 0;
+            return NO_ERROR;
         }
-        return 9;
+        return BAD_LENGTH;
     }
-    4
+    ITEM_NOT_WRITABLE
 }
 
 // The item with these data.

@@ -10,6 +10,8 @@ ghost use Rattle.baos.specs.Inner.Promise.{Answered, MarkedTold};
 ghost use Rattle.baos.specs.Indication.{needs, indication};
 use baos::datapoint::Datapoint;
 use baos::inner::Told;
+use baos::service::MESSAGE_HEAD;
+use baos::service::ROOM_FOR_ENTRIES;
 use messages::message::put_indication_head;
 use records::datapoint::reported;
 use records::entry::put_value;
@@ -26,11 +28,11 @@ fn waits(d: Datapoint, end: usize, most: usize) -> bool
 // The entries of the marked datapoints, into the buffer at `at`, until the next one does not fit; each record that is carried is left without its mark and
 // bit 3. One pass: what does not fit ends it, and nothing has to be taken back. A record is stored before its entry is built, so that only what is changed is
 // stored.
-pub fn tell_marked(table: &mut [Datapoint], out: &mut [u8], at: usize) -> Told
+fn tell_marked(table: &mut [Datapoint], out: &mut [u8], at: usize) -> Told
     requires { ⌜ (tableOk 1000 datapointId datapointOk (now table) ≡ true) × (at + 248 ≤ length (now out)) ⌝ }
     ensures { λ r. ⌜ MarkedTold (now (table .entry)) (now (out .entry)) at r (now (out .exit)) (now (table .exit)) ⌝ }
 {
-    let most = at + 248;
+    let most = at + ROOM_FOR_ENTRIES;
     let mut i: usize = 0;
     let mut end = at;
     let mut count: u16 = 0;
@@ -61,7 +63,7 @@ pub fn indicate(table: &mut [Datapoint], out: &mut [u8], at: usize) -> usize
     ensures { λ r. ⌜ Answered (indication (datapointsOnly (now (table .entry))) .after .datapoints)
         (now (out .entry)) at (indication (datapointsOnly (now (table .entry))) .says) r (now (out .exit)) (now (table .exit)) ⌝ }
 {
-    let told = tell_marked(table, out, at + 6);
+    let told = tell_marked(table, out, at + MESSAGE_HEAD);
     if told.count == 0 {
         return at;
     }

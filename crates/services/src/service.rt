@@ -8,8 +8,18 @@ ghost use Rattle.baos.specs.Item.{itemId, itemOk};
 ghost use Rattle.baos.specs.Table.{tablesOf, tableOk};
 ghost use Rattle.baos.specs.Service.{unanswered, carriedOut};
 ghost use Rattle.baos.specs.Inner.Promise.{Carried};
+use baos::code::SERVICE_NOT_SUPPORTED;
 use baos::datapoint::Datapoint;
 use baos::item::Item;
+use baos::service::ANSWER;
+use baos::service::GET_DATAPOINT_DESCRIPTION;
+use baos::service::GET_DATAPOINT_VALUE;
+use baos::service::GET_PARAMETER_BYTE;
+use baos::service::GET_SERVER_ITEM;
+use baos::service::MAIN_SERVICE;
+use baos::service::MESSAGE_HEAD;
+use baos::service::SET_DATAPOINT_VALUE;
+use baos::service::SET_SERVER_ITEM;
 use gets::get::get_datapoints;
 use gets::get::get_items;
 use gets::get::get_parameters;
@@ -20,16 +30,16 @@ use sets::set::set_datapoints;
 use sets::set::set_items;
 
 // Whether the message gets no answer.
-pub fn is_unanswered(m: &[u8]) -> bool
+fn is_unanswered(m: &[u8]) -> bool
     ensures { λ r. ⌜ r ≡ unanswered (now (m .entry)) ⌝ }
 {
-    if m.len() < 6 {
+    if m.len() < MESSAGE_HEAD {
         return true;
     }
-    if m[0] != 0xf0 {
+    if m[0] != MAIN_SERVICE {
         return true;
     }
-    0x80 <= m[1]
+    ANSWER <= m[1]
 }
 
 // A message carried out: the answer, into the buffer at `at`, or nothing where none is due; answers where it ends.
@@ -49,24 +59,24 @@ pub fn carry_out(
         return at;
     }
     let sub = sub_service_of(m);
-    if sub == 1 {
+    if sub == GET_SERVER_ITEM {
         return get_items(items, m, out, at);
     }
-    if sub == 2 {
+    if sub == SET_SERVER_ITEM {
         return set_items(items, m, out, at);
     }
-    if sub == 3 {
+    if sub == GET_DATAPOINT_DESCRIPTION {
         return get_datapoints(datapoints, m, false, out, at);
     }
-    if sub == 5 {
+    if sub == GET_DATAPOINT_VALUE {
         return get_datapoints(datapoints, m, true, out, at);
     }
-    if sub == 6 {
+    if sub == SET_DATAPOINT_VALUE {
         return set_datapoints(datapoints, m, out, at);
     }
-    if sub == 7 {
+    if sub == GET_PARAMETER_BYTE {
         return get_parameters(parameters, m, out, at);
     }
     let start = start_of(m);
-    put_coded(out, at, m, start, 5)
+    put_coded(out, at, m, start, SERVICE_NOT_SUPPORTED)
 }

@@ -13,10 +13,17 @@ ghost use Rattle.baos.specs.Message.{subService, verdictOf};
 ghost use Rattle.baos.specs.Inner.Found.{foundEntries};
 ghost use Rattle.baos.specs.Inner.Promise.{Answered, EntriesFound};
 ghost use Rattle.baos.specs.Set.{filledFinding, setDatapointValue, setServerItem, fills, span, firstDatapointEntry, firstItemEntry, judgedDatapoint, judgedItem, setDatapoint, setItem, setEntries, firstBad, applied, allShort};
+use baos::code::BAD_ID;
+use baos::code::BAD_SERVICE_PARAMETER;
+use baos::code::MESSAGE_INCONSISTENT;
+use baos::code::NO_ERROR;
 use baos::datapoint::Datapoint;
 use baos::inner::Found;
 use baos::inner::Verdict;
 use baos::item::Item;
+use baos::service::DATAPOINT_ENTRY_HEAD;
+use baos::service::ITEM_ENTRY_HEAD;
+use baos::service::MESSAGE_HEAD;
 use messages::message::number_of;
 use messages::message::put_coded;
 use messages::message::start_of;
@@ -33,7 +40,7 @@ use tables::table::put_datapoint_at;
 use tables::table::put_item_at;
 
 // Whether n entries with heads of so many bytes fill the bytes exactly.
-pub fn is_filled(s: &[u8], head: usize, n: u16) -> bool
+fn is_filled(s: &[u8], head: usize, n: u16) -> bool
     requires { ⌜ (1 ≤ head) × (head ≤ 4) ⌝ }
     ensures { λ r. ⌜ r ≡ fills head n (now (s .entry)) ⌝ }
 {
@@ -54,7 +61,7 @@ pub fn is_filled(s: &[u8], head: usize, n: u16) -> bool
 }
 
 // The ID of an entry.
-pub fn entry_id(s: &[u8], at: usize) -> u16
+fn entry_id(s: &[u8], at: usize) -> u16
     requires { ⌜ at + 2 ≤ length (now s) ⌝ }
     ensures { λ r. ⌜ r ≡ ofTwoBytes (getD (drop at (now (s .entry))) 0 0) (getD (drop at (now (s .entry))) 1 0) ⌝ }
 {
@@ -62,7 +69,7 @@ pub fn entry_id(s: &[u8], at: usize) -> u16
 }
 
 // Where an entry with a head of so many bytes ends.
-pub fn entry_end(s: &[u8], at: usize, head: usize) -> usize
+fn entry_end(s: &[u8], at: usize, head: usize) -> usize
     requires { ⌜ (1 ≤ head) × (head ≤ 4) × (at + span head (drop at (now s)) ≤ length (now s)) ⌝ }
     ensures { λ r. ⌜ r ≡ at + span head (drop at (now (s .entry))) ⌝ }
 {
@@ -70,7 +77,7 @@ pub fn entry_end(s: &[u8], at: usize, head: usize) -> usize
 }
 
 // The ID of an entry with its code.
-pub fn verdict_at(s: &[u8], at: usize, code: u8) -> Verdict
+fn verdict_at(s: &[u8], at: usize, code: u8) -> Verdict
     requires { ⌜ at + 2 ≤ length (now s) ⌝ }
     ensures { λ r. ⌜ r ≡ record { id = ofTwoBytes (getD (drop at (now (s .entry))) 0 0) (getD (drop at (now (s .entry))) 1 0); code = code } ⌝ }
 {
@@ -79,33 +86,33 @@ pub fn verdict_at(s: &[u8], at: usize, code: u8) -> Verdict
 }
 
 // The code of an entry, judged by the datapoint that stands where its ID belongs: that may have another.
-pub fn datapoint_code_at(s: &[u8], at: usize, d: Datapoint) -> u8
+fn datapoint_code_at(s: &[u8], at: usize, d: Datapoint) -> u8
     requires { ⌜ at + span 4 (drop at (now s)) ≤ length (now s) ⌝ }
     ensures { λ r. ⌜ r ≡ judgedDatapoint (found datapointId (firstDatapointEntry (drop at (now (s .entry))) .id) (d ∷ [])) (firstDatapointEntry (drop at (now (s .entry)))) ⌝ }
 {
     let id = entry_id(s, at);
     if d.id == id {
-        let end = entry_end(s, at, 4);
+        let end = entry_end(s, at, DATAPOINT_ENTRY_HEAD);
         return entry_code(d, s[at + 2], &s[at + 4..end]);
     }
-    7
+    BAD_ID
 }
 
 // The datapoint that stands where an entry's ID belongs, once the entry is applied.
-pub fn datapoint_set_at(s: &[u8], at: usize, d: Datapoint) -> Datapoint
+fn datapoint_set_at(s: &[u8], at: usize, d: Datapoint) -> Datapoint
     requires { ⌜ (at + span 4 (drop at (now s)) ≤ length (now s)) × (length (firstDatapointEntry (drop at (now s)) .value) ≤ 14) ⌝ }
     ensures { λ r. ⌜ r ≡ (if eqb (d .id) (firstDatapointEntry (drop at (now (s .entry))) .id) then setDatapoint (firstDatapointEntry (drop at (now (s .entry)))) d else d) ⌝ }
 {
     let id = entry_id(s, at);
     if d.id == id {
-        let end = entry_end(s, at, 4);
+        let end = entry_end(s, at, DATAPOINT_ENTRY_HEAD);
         return command(d, s[at + 2], &s[at + 4..end]);
     }
     d
 }
 
 // The same for an entry with one byte of value, as most have: no copy.
-pub fn datapoint_byte_set_at(s: &[u8], at: usize, d: Datapoint) -> Datapoint
+fn datapoint_byte_set_at(s: &[u8], at: usize, d: Datapoint) -> Datapoint
     requires { ⌜ (at + span 4 (drop at (now s)) ≤ length (now s)) × (getD (drop at (now s)) 3 0 ≡ 1) ⌝ }
     ensures { λ r. ⌜ r ≡ (if eqb (d .id) (firstDatapointEntry (drop at (now (s .entry))) .id) then setDatapoint (firstDatapointEntry (drop at (now (s .entry)))) d else d) ⌝ }
 {
@@ -117,26 +124,26 @@ pub fn datapoint_byte_set_at(s: &[u8], at: usize, d: Datapoint) -> Datapoint
 }
 
 // The code of an entry, judged by the item that stands where its ID belongs.
-pub fn item_code_at(s: &[u8], at: usize, i: Item) -> u8
+fn item_code_at(s: &[u8], at: usize, i: Item) -> u8
     requires { ⌜ at + span 3 (drop at (now s)) ≤ length (now s) ⌝ }
     ensures { λ r. ⌜ r ≡ judgedItem (found itemId (firstItemEntry (drop at (now (s .entry))) .id) (i ∷ [])) (firstItemEntry (drop at (now (s .entry)))) ⌝ }
 {
     let id = entry_id(s, at);
     if i.id == id {
-        let end = entry_end(s, at, 3);
+        let end = entry_end(s, at, ITEM_ENTRY_HEAD);
         return item_code(i, &s[at + 3..end]);
     }
-    7
+    BAD_ID
 }
 
 // The item that stands where an entry's ID belongs, once the entry is applied.
-pub fn item_set_at(s: &[u8], at: usize, i: Item) -> Item
+fn item_set_at(s: &[u8], at: usize, i: Item) -> Item
     requires { ⌜ (at + span 3 (drop at (now s)) ≤ length (now s)) × (length (firstItemEntry (drop at (now s)) .value) ≤ 16) ⌝ }
     ensures { λ r. ⌜ r ≡ (if eqb (i .id) (firstItemEntry (drop at (now (s .entry))) .id) then setItem (firstItemEntry (drop at (now (s .entry)))) i else i) ⌝ }
 {
     let id = entry_id(s, at);
     if i.id == id {
-        let end = entry_end(s, at, 3);
+        let end = entry_end(s, at, ITEM_ENTRY_HEAD);
         return with_bytes(i, &s[at + 3..end]);
     }
     i
@@ -144,11 +151,11 @@ pub fn item_set_at(s: &[u8], at: usize, i: Item) -> Item
 
 // The entries of a request found, one after the other: whether n of them fill the message exactly. Each ID is searched here and nowhere else, while the next
 // entry's length is waited for.
-pub fn find_entries(table: &[Datapoint], m: &[u8], n: u16, entries: &mut [Found]) -> bool
+fn find_entries(table: &[Datapoint], m: &[u8], n: u16, entries: &mut [Found]) -> bool
     requires { ⌜ (length (now table) ≤ 1000) × (rising 0 (map datapointId (now table)) ≡ true) × (6 ≤ length (now m)) × (length (now m) ≤ 254) × (62 ≤ length (now entries)) ⌝ }
     ensures { λ r. ⌜ EntriesFound (now (table .entry)) (now (m .entry)) n (now (entries .entry)) r (now (entries .exit)) ⌝ }
 {
-    let mut at: usize = 6;
+    let mut at: usize = MESSAGE_HEAD;
     let mut k: usize = 0;
     let count = n as usize;
     while k < count {
@@ -172,14 +179,14 @@ pub fn find_entries(table: &[Datapoint], m: &[u8], n: u16, entries: &mut [Found]
 }
 
 // The code of an entry, judged by the table.
-pub fn judge_datapoint(table: &[Datapoint], m: &[u8], f: Found) -> u8
+fn judge_datapoint(table: &[Datapoint], m: &[u8], f: Found) -> u8
     requires { ⌜ (length (now table) ≤ 1000) × (rising 0 (map datapointId (now table)) ≡ true) × (f .at + span 4 (drop (f .at) (now m)) ≤ length (now m))
         × (f .place ≡ place datapointId (firstDatapointEntry (drop (f .at) (now m)) .id) (now table)) ⌝ }
     ensures { λ r. ⌜ r ≡ judgedDatapoint (found datapointId (firstDatapointEntry (drop (f .at) (now (m .entry))) .id) (now (table .entry))) (firstDatapointEntry (drop (f .at) (now (m .entry)))) ⌝ }
 {
     let place = f.place as usize;
     if place >= table.len() {
-        return 7;
+        return BAD_ID;
     }
     let at = f.at as usize;
     let d = datapoint_at(table, place);
@@ -188,7 +195,7 @@ pub fn judge_datapoint(table: &[Datapoint], m: &[u8], f: Found) -> u8
 }
 
 // An entry applied: the datapoint of its ID is changed, if there is one. A value of one byte goes a way of its own, so that nothing of the record is copied.
-pub fn apply_datapoint(table: &mut [Datapoint], m: &[u8], f: Found)
+fn apply_datapoint(table: &mut [Datapoint], m: &[u8], f: Found)
     requires { ⌜ (length (now table) ≤ 1000) × (rising 0 (map datapointId (now table)) ≡ true) × (f .at + span 4 (drop (f .at) (now m)) ≤ length (now m))
         × (length (firstDatapointEntry (drop (f .at) (now m)) .value) ≤ 14) × (f .place ≡ place datapointId (firstDatapointEntry (drop (f .at) (now m)) .id) (now table)) ⌝ }
     ensures { λ _. ⌜ now (table .exit) ≡ changed datapointId (firstDatapointEntry (drop (f .at) (now (m .entry))) .id) (setDatapoint (firstDatapointEntry (drop (f .at) (now (m .entry))))) (now (table .entry)) ⌝ }
@@ -210,14 +217,14 @@ pub fn apply_datapoint(table: &mut [Datapoint], m: &[u8], f: Found)
 }
 
 // The code of an entry, judged by the table of items.
-pub fn judge_item(table: &[Item], s: &[u8], at: usize) -> u8
+fn judge_item(table: &[Item], s: &[u8], at: usize) -> u8
     requires { ⌜ (length (now table) ≤ 64) × (rising 0 (map itemId (now table)) ≡ true) × (at + span 3 (drop at (now s)) ≤ length (now s)) ⌝ }
     ensures { λ r. ⌜ r ≡ judgedItem (found itemId (firstItemEntry (drop at (now (s .entry))) .id) (now (table .entry))) (firstItemEntry (drop at (now (s .entry)))) ⌝ }
 {
     let id = entry_id(s, at);
     let place = item_place(table, id);
     if place >= table.len() {
-        return 7;
+        return BAD_ID;
     }
     let i = item_at(table, place);
     let code = item_code_at(s, at, i);
@@ -225,7 +232,7 @@ pub fn judge_item(table: &[Item], s: &[u8], at: usize) -> u8
 }
 
 // An entry of an item applied: the item of its ID is changed, if there is one.
-pub fn apply_item(table: &mut [Item], s: &[u8], at: usize)
+fn apply_item(table: &mut [Item], s: &[u8], at: usize)
     requires { ⌜ (length (now table) ≤ 64) × (rising 0 (map itemId (now table)) ≡ true) × (at + span 3 (drop at (now s)) ≤ length (now s)) × (length (firstItemEntry (drop at (now s)) .value) ≤ 16) ⌝ }
     ensures { λ _. ⌜ now (table .exit) ≡ changed itemId (firstItemEntry (drop at (now (s .entry))) .id) (setItem (firstItemEntry (drop at (now (s .entry))))) (now (table .entry)) ⌝ }
 {
@@ -240,7 +247,7 @@ pub fn apply_item(table: &mut [Item], s: &[u8], at: usize)
 }
 
 // The entries of a request judged one after the other: the first bad one decides.
-pub fn judge_datapoints(table: &[Datapoint], m: &[u8], entries: &[Found], n: u16) -> Verdict
+fn judge_datapoints(table: &[Datapoint], m: &[u8], entries: &[Found], n: u16) -> Verdict
     requires { ⌜ (length (now table) ≤ 1000) × (rising 0 (map datapointId (now table)) ≡ true) × (fills 4 n (drop 6 (now m)) ≡ true)
         × (take n (now entries) ≡ foundEntries (now table) n 6 (drop 6 (now m))) ⌝ }
     ensures { λ r. ⌜ r ≡ verdictOf (firstBad (λ e. judgedDatapoint (found datapointId (e .id) (now (table .entry))) e) (setEntries firstDatapointEntry 4 n (drop 6 (now (m .entry))))) ⌝ }
@@ -250,18 +257,21 @@ pub fn judge_datapoints(table: &[Datapoint], m: &[u8], entries: &[Found], n: u16
     while k < count {
         let f = entries[k];
         let code = judge_datapoint(table, m, f);
-        if code != 0 {
+        if code != NO_ERROR {
             let at = f.at as usize;
             let v = verdict_at(m, at, code);
             return v;
         }
         k += 1;
     }
-    Verdict { id: 0, code: 0 }
+    Verdict {
+        id: 0,
+        code: NO_ERROR,
+    }
 }
 
 // The entries applied in order.
-pub fn apply_datapoints(table: &mut [Datapoint], m: &[u8], entries: &[Found], n: u16)
+fn apply_datapoints(table: &mut [Datapoint], m: &[u8], entries: &[Found], n: u16)
     requires { ⌜ (length (now table) ≤ 1000) × (rising 0 (map datapointId (now table)) ≡ true) × (fills 4 n (drop 6 (now m)) ≡ true) × (allShort 14 (setEntries firstDatapointEntry 4 n (drop 6 (now m))) ≡ true)
         × (take n (now entries) ≡ foundEntries (now table) n 6 (drop 6 (now m))) ⌝ }
     ensures { λ _. ⌜ now (table .exit) ≡ applied datapointId setDatapoint (setEntries firstDatapointEntry 4 n (drop 6 (now (m .entry)))) (now (table .entry)) ⌝ }
@@ -276,56 +286,65 @@ pub fn apply_datapoints(table: &mut [Datapoint], m: &[u8], entries: &[Found], n:
 }
 
 // The entries of items judged one after the other: the first bad one decides.
-pub fn judge_items(table: &[Item], m: &[u8], n: u16) -> Verdict
+fn judge_items(table: &[Item], m: &[u8], n: u16) -> Verdict
     requires { ⌜ (length (now table) ≤ 64) × (rising 0 (map itemId (now table)) ≡ true) × (fills 3 n (drop 6 (now m)) ≡ true) ⌝ }
     ensures { λ r. ⌜ r ≡ verdictOf (firstBad (λ e. judgedItem (found itemId (e .id) (now (table .entry))) e) (setEntries firstItemEntry 3 n (drop 6 (now (m .entry))))) ⌝ }
 {
-    let mut at: usize = 6;
+    let mut at: usize = MESSAGE_HEAD;
     let mut left = n;
     while 0 < left {
         let code = judge_item(table, m, at);
-        if code != 0 {
+        if code != NO_ERROR {
             let v = verdict_at(m, at, code);
             return v;
         }
-        let end = entry_end(m, at, 3);
+        let end = entry_end(m, at, ITEM_ENTRY_HEAD);
         at = end;
         left -= 1;
     }
-    Verdict { id: 0, code: 0 }
+    Verdict {
+        id: 0,
+        code: NO_ERROR,
+    }
 }
 
 // The entries of items applied in order.
-pub fn apply_items(table: &mut [Item], m: &[u8], n: u16)
+fn apply_items(table: &mut [Item], m: &[u8], n: u16)
     requires { ⌜ (length (now table) ≤ 64) × (rising 0 (map itemId (now table)) ≡ true) × (fills 3 n (drop 6 (now m)) ≡ true) × (allShort 16 (setEntries firstItemEntry 3 n (drop 6 (now m))) ≡ true) ⌝ }
     ensures { λ _. ⌜ now (table .exit) ≡ applied itemId setItem (setEntries firstItemEntry 3 n (drop 6 (now (m .entry)))) (now (table .entry)) ⌝ }
 {
-    let mut at: usize = 6;
+    let mut at: usize = MESSAGE_HEAD;
     let mut left = n;
     while 0 < left {
         apply_item(table, m, at);
-        let end = entry_end(m, at, 3);
+        let end = entry_end(m, at, ITEM_ENTRY_HEAD);
         at = end;
         left -= 1;
     }
 }
 
 // Rows 10 and 6, for entries with heads of so many bytes.
-pub fn set_verdict(m: &[u8], head: usize) -> Verdict
+fn set_verdict(m: &[u8], head: usize) -> Verdict
     requires { ⌜ (6 ≤ length (now m)) × (1 ≤ head) × (head ≤ 4) ⌝ }
     ensures { λ r. ⌜ r ≡ verdictOf (filledFinding head (now (m .entry))) ⌝ }
 {
     let start = start_of(m);
     let n = number_of(m);
-    if is_filled(&m[6..], head, n) {
+    if is_filled(&m[MESSAGE_HEAD..], head, n) {
         if n == 0 {
-            return Verdict { id: start, code: 6 };
+            return Verdict {
+                id: start,
+                code: BAD_SERVICE_PARAMETER,
+            };
         }
-        return Verdict { id: 0, code: 0 };
+        return Verdict {
+            id: 0,
+            code: NO_ERROR,
+        };
     }
     Verdict {
         id: start,
-        code: 10,
+        code: MESSAGE_INCONSISTENT,
     }
 }
 
@@ -340,17 +359,17 @@ pub fn set_datapoints(table: &mut [Datapoint], m: &[u8], out: &mut [u8], at: usi
     let mut entries = [Found { at: 0, place: 0 }; 62];
     let filled = find_entries(table, m, n, &mut entries);
     if !filled {
-        return put_coded(out, at, m, start, 10);
+        return put_coded(out, at, m, start, MESSAGE_INCONSISTENT);
     }
     if n == 0 {
-        return put_coded(out, at, m, start, 6);
+        return put_coded(out, at, m, start, BAD_SERVICE_PARAMETER);
     }
     let u = judge_datapoints(table, m, &entries, n);
-    if u.code != 0 {
+    if u.code != NO_ERROR {
         return put_coded(out, at, m, u.id, u.code);
     }
     apply_datapoints(table, m, &entries, n);
-    put_coded(out, at, m, start, 0)
+    put_coded(out, at, m, start, NO_ERROR)
 }
 
 // SetServerItem: the answer, into the buffer at `at`; answers where it ends.
@@ -359,16 +378,16 @@ pub fn set_items(table: &mut [Item], m: &[u8], out: &mut [u8], at: usize) -> usi
     ensures { λ r. ⌜ Answered (setServerItem (itemsOnly (now (table .entry))) (now (m .entry)) .after .items)
         (now (out .entry)) at (setServerItem (itemsOnly (now (table .entry))) (now (m .entry)) .says) r (now (out .exit)) (now (table .exit)) ⌝ }
 {
-    let v = set_verdict(m, 3);
-    if v.code != 0 {
+    let v = set_verdict(m, ITEM_ENTRY_HEAD);
+    if v.code != NO_ERROR {
         return put_coded(out, at, m, v.id, v.code);
     }
     let n = number_of(m);
     let u = judge_items(table, m, n);
-    if u.code != 0 {
+    if u.code != NO_ERROR {
         return put_coded(out, at, m, u.id, u.code);
     }
     apply_items(table, m, n);
     let start = start_of(m);
-    put_coded(out, at, m, start, 0)
+    put_coded(out, at, m, start, NO_ERROR)
 }

@@ -18,7 +18,7 @@ use masks::item::four_items_fit_after;
 use masks::item::item_fits_after;
 
 // Whether the table of datapoints is well formed, in one pass.
-pub fn datapoints_well_formed(table: &[Datapoint]) -> bool
+fn datapoints_well_formed(table: &[Datapoint]) -> bool
     ensures { λ r. ⌜ r ≡ tableOk 1000 datapointId datapointOk (now (table .entry)) ⌝ }
 {
     if table.len() > MOST_DATAPOINTS {
@@ -50,7 +50,7 @@ pub fn datapoints_well_formed(table: &[Datapoint]) -> bool
 }
 
 // Whether the table of items is well formed, in one pass.
-pub fn items_well_formed(table: &[Item]) -> bool
+fn items_well_formed(table: &[Item]) -> bool
     ensures { λ r. ⌜ r ≡ tableOk 64 itemId itemOk (now (table .entry)) ⌝ }
 {
     if table.len() > MOST_ITEMS {
