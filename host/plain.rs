@@ -3,7 +3,7 @@
 //! Where the comments quote:
 //!   (01)   01-scope.md, which decides;
 //!   (000)  000_feb9994ac7e2d72b.txt, the protocol paper;
-//!   (R)    READINGS.md, how open points are read.
+//!   (R)    docs/DECISIONS.md, how open points are read.
 //!
 //! Order of this file: the records; sizes; refusals 1 to 4; the link; the messages; the call.
 //! Nothing here is quick or clever: lists are searched from the front and bytes are gathered in a Vec<u8>.

@@ -12,7 +12,7 @@ use Rattle.words.specs.Words.{if_then_else_}
 use Rattle.baos.specs.declared.datapoint.Datapoint.{Datapoint}
 use Rattle.baos.specs.Datapoint.{withValid, withRequest, withStatus, withState, withValue, commanded, zeroDatapoint}
 use Rattle.baos.specs.Set.{span, firstDatapointEntry, setDatapoint}
-use Rattle.baos.specs.Table.{changed, place, rising}
+use Rattle.baos.specs.Table.{changedAt, place, rising}
 use Rattle.baos.proofs.EntriesLaws.{idBytes, changed-here, changed-nowhere}
 
 -- ---- a command that replaces no value
@@ -118,10 +118,10 @@ module _ (at : ℕ) (s : List ℕ) (one : getD (drop at s) 3 0 ≡ 1) where
 
 -- ---- what is changed goes by the record at the place, which was searched before
 module _ {A : Type 0} (idOf : A → ℕ) (blank : A) (n : ℕ) (xs : List A) (t : rising 0 (map idOf xs) ≡ true) (f : A → A) (p : ℕ) (e : p ≡ place idOf n xs) where
-  pub changed-there : p < length xs → set xs p (if eqb (idOf (getD xs p blank)) n then f (getD xs p blank) else getD xs p blank) ≡ changed idOf n f xs
+  pub changed-there : p < length xs → set xs p (if eqb (idOf (getD xs p blank)) n then f (getD xs p blank) else getD xs p blank) ≡ changedAt idOf n f xs
   changed-there l =
       ap (λ (i : ℕ). set xs i (if eqb (idOf (getD xs i blank)) n then f (getD xs i blank) else getD xs i blank)) e
       ∙ sym (changed-here idOf blank n xs t f (omega (arith, e, l)))
 
-  pub unchanged-there : length xs ≤ p → xs ≡ changed idOf n f xs
+  pub unchanged-there : length xs ≤ p → xs ≡ changedAt idOf n f xs
   unchanged-there l = sym (changed-nowhere idOf blank n xs t f (omega (arith, e, l)))

@@ -13,7 +13,7 @@ use Rattle.words.specs.Words.{if_then_else_, ofTwoBytes}
 use Rattle.baos.specs.Datapoint.{datapointId, zeroDatapoint, commanded}
 use Rattle.baos.specs.Item.{itemId, zeroItem, withBytes}
 use Rattle.baos.specs.Set.{SetEntry, span, firstDatapointEntry, firstItemEntry, datapointCode, itemCode, judgedDatapoint, judgedItem, setDatapoint, setItem}
-use Rattle.baos.specs.Table.{found, changed, place, rising}
+use Rattle.baos.specs.Table.{found, changedAt, place, rising}
 use Rattle.words.proofs.WordLaws.{true-T}
 use Rattle.baos.proofs.PlaceLaws.{found-at, changed-at}
 use Rattle.baos.specs.declared.datapoint.Datapoint.{Datapoint}
@@ -108,7 +108,7 @@ module _ {A : Type 0} (idOf : A → ℕ) (blank : A) (n : ℕ) (xs : List A) (t 
   found-nowhere l =
       found-at idOf blank n 0 xs (true-T t) ∙ ap (λ (y : Bool). if y && eqb (idOf here) n then here ∷ [] else []) (le-ltb (place idOf n xs) (length xs) l)
 
-  pub changed-here : (f : A → A) → place idOf n xs < length xs → changed idOf n f xs ≡ set xs (place idOf n xs) (if eqb (idOf here) n then f here else here)
+  pub changed-here : (f : A → A) → place idOf n xs < length xs → changedAt idOf n f xs ≡ set xs (place idOf n xs) (if eqb (idOf here) n then f here else here)
   changed-here f l =
       changed-at idOf blank n f 0 xs (true-T t) ∙ ap (λ (y : Bool). if y && eqb (idOf here) n then set xs (place idOf n xs) (f here) else xs) (lt-ltb (place idOf n xs) (length xs) l)
       ∙ go (eqb (idOf here) n)
@@ -117,7 +117,7 @@ module _ {A : Type 0} (idOf : A → ℕ) (blank : A) (n : ℕ) (xs : List A) (t 
       go true = refl
       go false = sym (set-getD xs (place idOf n xs) blank)
 
-  pub changed-nowhere : (f : A → A) → length xs ≤ place idOf n xs → changed idOf n f xs ≡ xs
+  pub changed-nowhere : (f : A → A) → length xs ≤ place idOf n xs → changedAt idOf n f xs ≡ xs
   changed-nowhere f l =
       changed-at idOf blank n f 0 xs (true-T t) ∙ ap (λ (y : Bool). if y && eqb (idOf here) n then set xs (place idOf n xs) (f here) else xs) (le-ltb (place idOf n xs) (length xs) l)
 

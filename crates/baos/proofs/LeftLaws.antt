@@ -16,7 +16,7 @@ use Rattle.baos.specs.Message.{Finding, bad, verdictOf, fine}
 use Rattle.baos.specs.Set.{SetEntry, span, fills, setEntries, firstBad, applied, allShort, setDatapoint, setItem, takesCommand, datapointCode, itemCode, judgedDatapoint, judgedItem}
 use Rattle.baos.specs.Datapoint.{datapointId, sizeOf, unusedBitsOk}
 use Rattle.baos.specs.Item.{itemId, itemOk, withBytes}
-use Rattle.baos.specs.Table.{rising, tableOk, found, changed}
+use Rattle.baos.specs.Table.{rising, tableOk, found, changedAt}
 use Rattle.baos.proofs.SetLaws.{span-head}
 use Rattle.baos.proofs.DatapointLaws as DatapointLaws
 
@@ -83,7 +83,7 @@ module _ (h at n : ℕ) (s : List ℕ) (more : 1 ≤ n) where
           T-true (every (λ o. leb (length (o .value)) most) rest) (right (leb (length (entry .value)) most) (every (λ o. leb (length (o .value)) most) rest) t),
         )
 
-    pub applied-next : {A : Type 0} (idOf : A → ℕ) (f : SetEntry → A → A) (xs : List A) → applied idOf f (setEntries first h n (drop at s)) xs ≡ applied idOf f rest (changed idOf (entry .id) (f entry) xs)
+    pub applied-next : {A : Type 0} (idOf : A → ℕ) (f : SetEntry → A → A) (xs : List A) → applied idOf f (setEntries first h n (drop at s)) xs ≡ applied idOf f rest (changedAt idOf (entry .id) (f entry) xs)
     unfolding applied
     applied-next idOf f xs = ap (λ (es : List SetEntry). applied idOf f es xs) entries-next
 
@@ -115,10 +115,10 @@ ok-table most idOf ok xs t =
     (leb→le (length xs) most (left (leb (length xs) most) (rising 0 (map idOf xs)) z), T-true (rising 0 (map idOf xs)) (right (leb (length xs) most) (rising 0 (map idOf xs)) z))
 
 -- ---- the IDs stay
-pub ids-stay : {A : Type 0} (idOf : A → ℕ) (n : ℕ) (f : A → A) → ((x : A) → idOf (f x) ≡ idOf x) → (xs : List A) → map idOf (changed idOf n f xs) ≡ map idOf xs
-unfolding changed
+pub ids-stay : {A : Type 0} (idOf : A → ℕ) (n : ℕ) (f : A → A) → ((x : A) → idOf (f x) ≡ idOf x) → (xs : List A) → map idOf (changedAt idOf n f xs) ≡ map idOf xs
+unfolding changedAt
 ids-stay idOf n f keeps [] = refl
-ids-stay {A} idOf n f keeps (x ∷ xs) = ap (λ (k : ℕ). k ∷ map idOf (changed idOf n f xs)) (go (eqb (idOf x) n)) ∙ ap (λ (ks : List ℕ). idOf x ∷ ks) (ids-stay idOf n f keeps xs)
+ids-stay {A} idOf n f keeps (x ∷ xs) = ap (λ (k : ℕ). k ∷ map idOf (changedAt idOf n f xs)) (go (eqb (idOf x) n)) ∙ ap (λ (ks : List ℕ). idOf x ∷ ks) (ids-stay idOf n f keeps xs)
   where
     go : (y : Bool) → idOf (if y then f x else x) ≡ idOf x
     go true = keeps x

@@ -10,7 +10,7 @@ pub mod EntriesLaws
 pub mod EntryLaws
 pub mod FieldsFit
 pub mod FormedLaws
-pub mod FoundLaws
+pub mod EntryPlaceLaws
 pub mod GatherLaws
 pub mod GetLaws
 pub mod IndicationLaws

@@ -1,4 +1,4 @@
--- The place of an ID in a table whose IDs rise, and how `found` and `changed` are had from it. One set of laws for items and datapoints.
+-- The place of an ID in a table whose IDs rise, and how `found` and `changedAt` are had from it. One set of laws for items and datapoints.
 use mathlib.Core.Path.{_≡_, refl, sym, _∙_, ap, subst}
 use Prim.Native.Nat.{ℕ, zero, suc, _<_, _≤_}
 use native.Mathlib.Omega.{arith}
@@ -10,7 +10,7 @@ use lib.Dec.{T, leb, ltb, eqb, ltb→lt, lt→ltb, leb→le, le→leb}
 use borrow.Author.Tests.{lt-ltb, le-ltb, ltb-true, ltb-false, ne-eqb}
 use Rattle.words.specs.Words.{if_then_else_, every}
 use Rattle.words.proofs.WordLaws.{left, right, both, parts3, true-T, same-test}
-use Rattle.baos.specs.Table.{rising, tableOk, found, changed, place}
+use Rattle.baos.specs.Table.{rising, tableOk, found, changedAt, place}
 
 ltb-suc : (a b : ℕ) → ltb (suc a) (suc b) ≡ ltb a b
 ltb-suc a b = same-test (ltb (suc a) (suc b)) (ltb a b) (λ t. lt→ltb a b (omega (arith, ltb→lt (suc a) (suc b) t))) (λ t. lt→ltb (suc a) (suc b) (omega (arith, ltb→lt a b t)))
@@ -142,12 +142,12 @@ module _ {A : Type 0} (idOf : A → ℕ) (blank : A) where
       ap (λ (y : Bool). if y then x ∷ [] else found idOf n xs) (ne-eqb (idOf x) n (λ e. omega (arith, e)))
       ∙ found-none n (idOf x) xs (rest-rises last x xs t) (omega arith)
 
-  changed-none : (n : ℕ) (f : A → A) (last : ℕ) (xs : List A) → T (rising last (map idOf xs)) → n ≤ last → changed idOf n f xs ≡ xs
-  unfolding changed
+  changed-none : (n : ℕ) (f : A → A) (last : ℕ) (xs : List A) → T (rising last (map idOf xs)) → n ≤ last → changedAt idOf n f xs ≡ xs
+  unfolding changedAt
   changed-none n f last [] t l = refl
   changed-none n f last (x ∷ xs) t l =
       let k : last < idOf x = first-above last x xs t in
-      ap (λ (y : Bool). (if y then f x else x) ∷ changed idOf n f xs) (ne-eqb (idOf x) n (λ e. omega (arith, e)))
+      ap (λ (y : Bool). (if y then f x else x) ∷ changedAt idOf n f xs) (ne-eqb (idOf x) n (λ e. omega (arith, e)))
       ∙ ap (λ (ys : List A). x ∷ ys) (changed-none n f (idOf x) xs (rest-rises last x xs t) (omega arith))
 
   -- `found` is the record at the place alone, if it has the ID
@@ -166,10 +166,10 @@ module _ {A : Type 0} (idOf : A → ℕ) (blank : A) where
           simp (e, d, place-none n (idOf x) xs (rest-rises last x xs t) (ltb-false (idOf x) n e))
           (found-none n (idOf x) xs (rest-rises last x xs t) (ltb-false (idOf x) n e) ∙ sym (neither (ltb 0 (length (x ∷ xs))) (x ∷ []) []))
 
-  -- `changed` is `set` at the place, if the record there has the ID
+  -- `changedAt` is `set` at the place, if the record there has the ID
   pub changed-at : (n : ℕ) (f : A → A) (last : ℕ) (xs : List A) → T (rising last (map idOf xs))
-      → changed idOf n f xs ≡ (if stands n xs then set xs (place idOf n xs) (f (getD xs (place idOf n xs) blank)) else xs)
-  unfolding changed place
+      → changedAt idOf n f xs ≡ (if stands n xs then set xs (place idOf n xs) (f (getD xs (place idOf n xs) blank)) else xs)
+  unfolding changedAt place
   changed-at n f last [] t = refl
   changed-at n f last (x ∷ xs) t = go (ltb (idOf x) n) (eqb (idOf x) n) refl refl (changed-at n f (idOf x) xs (rest-rises last x xs t))
     where
@@ -177,8 +177,8 @@ module _ {A : Type 0} (idOf : A → ℕ) (blank : A) where
       inside true p y = refl
       inside false p y = refl
 
-      go : (u v : Bool) → ltb (idOf x) n ≡ u → eqb (idOf x) n ≡ v → changed idOf n f xs ≡ (if stands n xs then set xs (place idOf n xs) (f (getD xs (place idOf n xs) blank)) else xs)
-          → changed idOf n f (x ∷ xs) ≡ (if stands n (x ∷ xs) then set (x ∷ xs) (place idOf n (x ∷ xs)) (f (getD (x ∷ xs) (place idOf n (x ∷ xs)) blank)) else x ∷ xs)
+      go : (u v : Bool) → ltb (idOf x) n ≡ u → eqb (idOf x) n ≡ v → changedAt idOf n f xs ≡ (if stands n xs then set xs (place idOf n xs) (f (getD xs (place idOf n xs) blank)) else xs)
+          → changedAt idOf n f (x ∷ xs) ≡ (if stands n (x ∷ xs) then set (x ∷ xs) (place idOf n (x ∷ xs)) (f (getD (x ∷ xs) (place idOf n (x ∷ xs)) blank)) else x ∷ xs)
       go true v e d r =
           simp (e, ne-eqb (idOf x) n (λ q. omega (arith, q, ltb-true (idOf x) n e)))
           (ap (λ (ys : List A). x ∷ ys) r ∙ sym (inside (stands n xs) (place idOf n xs) (f (getD xs (place idOf n xs) blank)))

@@ -11,7 +11,7 @@ use lib.Dec.{T, leb, ltb, eqb, ltb→lt, lt→ltb}
 use borrow.Author.Tests.{ne-eqb, eqb-true}
 use Rattle.words.specs.Words.{if_then_else_, every}
 use Rattle.words.proofs.WordLaws.{left, right, both, parts3, join3}
-use Rattle.baos.specs.Table.{Tables, rising, Rises, tableOk, found, changed}
+use Rattle.baos.specs.Table.{Tables, rising, Rises, tableOk, found, changedAt}
 use Rattle.baos.specs.Set.{SetEntry, applied}
 
 -- ---- "IDs are 1 or more and strictly rise": the test decides it
@@ -79,8 +79,8 @@ module _ {A : Type 0} (idOf : A → ℕ) where
 
   -- the record of one ID changed by f
   pub table-changed : (most : ℕ) (ok fit : A → Bool) (n : ℕ) (f : A → A) → ((x : A) → idOf (f x) ≡ idOf x) → ((x : A) → T (fit x) → T (ok x) → T (ok (f x)))
-      → (xs : List A) → T (every (at n fit) xs) → T (tableOk most idOf ok xs) → T (tableOk most idOf ok (changed idOf n f xs))
-  unfolding changed
+      → (xs : List A) → T (every (at n fit) xs) → T (tableOk most idOf ok xs) → T (tableOk most idOf ok (changedAt idOf n f xs))
+  unfolding changedAt
   table-changed most ok fit n f h g xs s t = table-map most ok (at n fit) (λ x. if eqb (idOf x) n then f x else x) ids oks xs s t
     where
       ids : (x : A) → idOf (if eqb (idOf x) n then f x else x) ≡ idOf x
@@ -122,13 +122,13 @@ module _ {A : Type 0} (idOf : A → ℕ) where
 
   -- ---- entries of a set applied in turn
   fit-kept : (fit : SetEntry → A → Bool) (f : SetEntry → A → A) → ((o : SetEntry) (x : A) → idOf (f o x) ≡ idOf x) → ((o p : SetEntry) (x : A) → fit p (f o x) ≡ fit p x)
-      → (o p : SetEntry) (xs : List A) → every (at (p .id) (fit p)) (changed idOf (o .id) (f o) xs) ≡ every (at (p .id) (fit p)) xs
-  unfolding at changed
+      → (o p : SetEntry) (xs : List A) → every (at (p .id) (fit p)) (changedAt idOf (o .id) (f o) xs) ≡ every (at (p .id) (fit p)) xs
+  unfolding at changedAt
   fit-kept fit f h k o p [] = refl
   fit-kept fit f h k o p (x ∷ xs) = go (eqb (idOf x) (o .id)) refl (fit-kept fit f h k o p xs)
     where
-      go : (u : Bool) → eqb (idOf x) (o .id) ≡ u → every (at (p .id) (fit p)) (changed idOf (o .id) (f o) xs) ≡ every (at (p .id) (fit p)) xs
-          → every (at (p .id) (fit p)) (changed idOf (o .id) (f o) (x ∷ xs)) ≡ every (at (p .id) (fit p)) (x ∷ xs)
+      go : (u : Bool) → eqb (idOf x) (o .id) ≡ u → every (at (p .id) (fit p)) (changedAt idOf (o .id) (f o) xs) ≡ every (at (p .id) (fit p)) xs
+          → every (at (p .id) (fit p)) (changedAt idOf (o .id) (f o) (x ∷ xs)) ≡ every (at (p .id) (fit p)) (x ∷ xs)
       go true e r = simp (e, h o x, k o p x, r)
       go false e r = simp (e, r)
 
@@ -139,13 +139,13 @@ module _ {A : Type 0} (idOf : A → ℕ) where
   unfolding applied
   applied-ok most ok fit f h k g [] xs s t = t
   applied-ok most ok fit f h k g (o ∷ os) xs s t =
-      applied-ok most ok fit f h k g os (changed idOf (o .id) (f o) xs) (kept os (right (every (at (o .id) (fit o)) xs) (every (λ p. every (at (p .id) (fit p)) xs) os) s))
+      applied-ok most ok fit f h k g os (changedAt idOf (o .id) (f o) xs) (kept os (right (every (at (o .id) (fit o)) xs) (every (λ p. every (at (p .id) (fit p)) xs) os) s))
       (table-changed most ok (fit o) (o .id) (f o) (h o) (g o) xs (left (every (at (o .id) (fit o)) xs) (every (λ p. every (at (p .id) (fit p)) xs) os) s) t)
     where
-      kept : (ps : List SetEntry) → T (every (λ p. every (at (p .id) (fit p)) xs) ps) → T (every (λ p. every (at (p .id) (fit p)) (changed idOf (o .id) (f o) xs)) ps)
+      kept : (ps : List SetEntry) → T (every (λ p. every (at (p .id) (fit p)) xs) ps) → T (every (λ p. every (at (p .id) (fit p)) (changedAt idOf (o .id) (f o) xs)) ps)
       kept [] q = tt
       kept (p ∷ ps) q =
-          both (every (at (p .id) (fit p)) (changed idOf (o .id) (f o) xs)) (every (λ r. every (at (r .id) (fit r)) (changed idOf (o .id) (f o) xs)) ps)
+          both (every (at (p .id) (fit p)) (changedAt idOf (o .id) (f o) xs)) (every (λ r. every (at (r .id) (fit r)) (changedAt idOf (o .id) (f o) xs)) ps)
           (rw (fit-kept fit f h k o p xs) (left (every (at (p .id) (fit p)) xs) (every (λ r. every (at (r .id) (fit r)) xs) ps) q))
           (kept ps (right (every (at (p .id) (fit p)) xs) (every (λ r. every (at (r .id) (fit r)) xs) ps) q))
 

@@ -20,8 +20,8 @@ use Rattle.baos.proofs.inner.Told as Said
 use Rattle.baos.proofs.inner.Told.Laws as Said′
 use Rattle.baos.proofs.inner.Verdict as Judged
 use Rattle.baos.proofs.inner.Verdict.Laws as Judged′
-use Rattle.baos.proofs.inner.Found as Sought
-use Rattle.baos.proofs.inner.Found.Laws as Sought′
+use Rattle.baos.proofs.inner.EntryPlace as Sought
+use Rattle.baos.proofs.inner.EntryPlace.Laws as Sought′
 use Rattle.baos.proofs.bus.Outcome as O
 use Rattle.baos.proofs.bus.Outcome.Laws as O′
 use Rattle.baos.proofs.bus.BusEvent as B
@@ -46,8 +46,8 @@ toldD = structD Said.the-type Said′.the-laws Said′.the-plain (λ x f. refl)
 abbrev pub verdictD : Data
 verdictD = structD Judged.the-type Judged′.the-laws Judged′.the-plain (λ x f. refl)
 
-abbrev pub foundD : Data
-foundD = structD Sought.the-type Sought′.the-laws Sought′.the-plain (λ x f. refl)
+abbrev pub entryPlaceD : Data
+entryPlaceD = structD Sought.the-type Sought′.the-laws Sought′.the-plain (λ x f. refl)
 
 abbrev pub outcomeD : Data
 outcomeD = enumD O.the-type O′.the-laws tt O′.the-plain (λ x f. refl)
@@ -93,5 +93,5 @@ zero-verdict = LL.owes Judged.the-type Judged′.the-laws (record { id = 0; code
 pub told-good : (c e : ℕ) → c < 2 ^ 16 → e < 2 ^ 64 → Good toldD (record { count = c; end = e })
 told-good c e f g = LL.owes Said.the-type Said′.the-laws (record { count = c; end = e }) ((refl, f), ((refl, g), tt))
 
-pub found-good : (a p : ℕ) → a < 2 ^ 16 → p < 2 ^ 16 → Good foundD (record { at = a; place = p })
+pub found-good : (a p : ℕ) → a < 2 ^ 16 → p < 2 ^ 16 → Good entryPlaceD (record { at = a; place = p })
 found-good a p f g = LL.owes Sought.the-type Sought′.the-laws (record { at = a; place = p }) ((refl, f), ((refl, g), tt))

@@ -7,7 +7,8 @@ use lib.Dec.{leb, ltb, eqb}
 use Rattle.words.specs.Words.{if_then_else_, pad, isPadded}
 use Rattle.baos.specs.declared.datapoint.Datapoint.{Datapoint}
 
--- "Type codes: 0 to 6 are 1 to 7 bits in the low bits of one byte; 7 is 1 byte; 8, 9, 10, 11, 12, 13, 14 are 2, 3, 4, 6, 8, 10, 14 bytes."
+-- "Type codes: 0 to 6 are 1 to 7 bits in the low bits of one byte; 7 is 1 byte; 8, 9, 10, 11, 12, 13, 14 are 2, 3, 4,
+-- 6, 8, 10, 14 bytes."
 unfoldable pub sizeOf : ℕ → ℕ
 sizeOf typecode = getD (1 ∷ 1 ∷ 1 ∷ 1 ∷ 1 ∷ 1 ∷ 1 ∷ 1 ∷ 2 ∷ 3 ∷ 4 ∷ 6 ∷ 8 ∷ 10 ∷ 14 ∷ []) typecode 0
 
@@ -88,8 +89,8 @@ busValue v d = withMark true (withValue v (fromBus (d .state)) d)
 unfoldable pub outcome : ℕ → Datapoint → Datapoint
 outcome status d = withState (withStatus status (d .state)) d
 
--- "Commands: 0 nothing; 1 value, bit 4 set; 2 status 11; 3 both; 4 bit 2 set; 5 status 00. A value sent with 0, 2, 4 or 5 is checked and unused.
--- The commands do not look at config flags."
+-- "Commands: 0 nothing; 1 value, bit 4 set; 2 status 11; 3 both; 4 bit 2 set; 5 status 00. A value sent with 0, 2, 4
+-- or 5 is checked and unused. The commands do not look at config flags."
 unfoldable pub commanded : ℕ → List ℕ → Datapoint → Datapoint
 commanded c v d =
     if eqb c 1 then withValue v (withValid (d .state)) d

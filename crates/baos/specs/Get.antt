@@ -37,7 +37,8 @@ roomForEntries = longestMessage - 6
 unfoldable pub listing : ℕ → ℕ → List AnswerEntry → List ℕ
 listing sub start es = 0xF0 ∷ sub ∷ twoBytes start ++ twoBytes (length es) ++ flatten (map (λ (e : AnswerEntry). e .bytes) es)
 
--- Rows 10, 6, 2 and 3: `size` is the length of such a request, `badFilter` says that its filter is above 2, `es` are the entries to return.
+-- Rows 10, 6, 2 and 3: `size` is the length of such a request, `badFilter` says that its filter is above 2, `es` are
+-- the entries to return.
 unfoldable pub getFinding : ℕ → Bool → List ℕ → List AnswerEntry → Finding
 getFinding size badFilter m es =
     if not (eqb (length m) size) then bad (startOf m) 10

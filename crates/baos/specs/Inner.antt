@@ -1,3 +1,3 @@
-pub mod Found
+pub mod EntryPlaces
 pub mod Gather
 pub mod Promise

@@ -49,6 +49,7 @@ unfoldable pub afterOf : Finding → Tables → Tables → Tables
 afterOf fine t t′ = t′
 afterOf (bad id code) t t′ = t
 
--- where nothing is wrong: the answer, and the tables t′; else the error answer, and the tables t as they were: "Nothing is set then."
+-- where nothing is wrong: the answer, and the tables t′; else the error answer, and the tables t as they were:
+-- "Nothing is set then."
 unfoldable pub served : Finding → List ℕ → List ℕ → Tables → Tables → Served
 served f m answer t t′ = record { says = answerOf f m answer; after = afterOf f t t′ }

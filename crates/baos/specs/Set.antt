@@ -9,7 +9,7 @@ use Rattle.baos.specs.declared.datapoint.Datapoint.{Datapoint}
 use Rattle.baos.specs.declared.item.Item.{Item}
 use Rattle.baos.specs.Datapoint.{datapointId, sizeOf, unusedBitsOk, commanded}
 use Rattle.baos.specs.Item.{itemId, withBytes}
-use Rattle.baos.specs.Table.{Tables, withDatapoints, withItems, found, changed}
+use Rattle.baos.specs.Table.{Tables, withDatapoints, withItems, found, changedAt}
 use Rattle.baos.specs.Message.{startOf, numberOf, coded, Finding, fine, bad, Served, served}
 
 -- an entry of a set request: an ID, a command (an item's entry has none: 0) and the bytes sent
@@ -51,8 +51,8 @@ itemCode i value =
 unfoldable pub takesCommand : ℕ → Bool
 takesCommand c = leb c 5
 
--- Rows 8, 9 and 8: the code of an entry for this datapoint. "datapoint length neither 0 nor the type's; or 0 with command 1 or 3";
--- "a value whose unused bits are set".
+-- Rows 8, 9 and 8: the code of an entry for this datapoint. "datapoint length neither 0 nor the type's; or 0 with
+-- command 1 or 3"; "a value whose unused bits are set".
 unfoldable pub datapointCode : Datapoint → ℕ → List ℕ → ℕ
 datapointCode d command value =
     if not (takesCommand command) then 8
@@ -85,7 +85,7 @@ setFinding h first judge m =
 -- "Otherwise entries apply in order; an ID given twice takes both in turn."
 unfoldable pub applied : {A : Type 0} → (A → ℕ) → (SetEntry → A → A) → List SetEntry → List A → List A
 applied idOf f [] xs = xs
-applied idOf f (e ∷ es) xs = applied idOf f es (changed idOf (e .id) (f e) xs)
+applied idOf f (e ∷ es) xs = applied idOf f es (changedAt idOf (e .id) (f e) xs)
 
 -- "Positive set answer: start echoed, 00 00, 00."
 unfoldable pub setting : ℕ → (List ℕ → SetEntry) → (SetEntry → ℕ) → (List SetEntry → Tables) → Tables → List ℕ → Served

@@ -60,7 +60,8 @@ unfoldable pub wellFormed : Tables → Bool
 wellFormed t =
     tableOk 1000 datapointId datapointOk (t .datapoints) && tableOk 64 itemId itemOk (t .items) && leb (length (t .parameters)) 255
 
--- What refusal 1 asks of the tables, with whether a frame is outstanding beside them. No record names a frame, so that nothing depends on it.
+-- What refusal 1 asks of the tables, with whether a frame is outstanding beside them. No record names a frame, so
+-- that nothing depends on it.
 abbrev pub tablesOk : Bool → Tables → Bool
 tablesOk outstanding t = wellFormed t
 
@@ -70,8 +71,8 @@ found idOf n [] = []
 found idOf n (x ∷ xs) = let rest = found idOf n xs in if eqb (idOf x) n then x ∷ [] else rest
 
 -- the entry of an ID changed by f, all others as they are
-unfoldable pub changed : {A : Type 0} → (A → ℕ) → ℕ → (A → A) → List A → List A
-changed idOf n f xs = map (λ x. if eqb (idOf x) n then f x else x) xs
+unfoldable pub changedAt : {A : Type 0} → (A → ℕ) → ℕ → (A → A) → List A → List A
+changedAt idOf n f xs = map (λ x. if eqb (idOf x) n then f x else x) xs
 
 -- how many records have an ID below n: where the record of ID n stands in a table whose IDs rise
 unfoldable pub place : {A : Type 0} → (A → ℕ) → ℕ → List A → ℕ

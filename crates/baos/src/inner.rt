@@ -1,4 +1,5 @@
-// What functions hand to each other. The paper has none of these, and no caller from outside sees one; their definitions stand in specs/Inner.
+// What functions hand to each other. The paper has none of these, and no caller from outside sees one; their
+// definitions stand in specs/Inner.
 
 // What is to be gathered.
 pub struct Wanted {
@@ -34,7 +35,7 @@ pub struct Verdict {
 }
 
 // An entry of a set of datapoints: where it begins in the message, and the place where the datapoint of its ID belongs.
-pub struct Found {
+pub struct EntryPlace {
     pub at: u16,
     pub place: u16,
 }

@@ -20,7 +20,8 @@ pub const ANSWER: u8 = 0x80;
 // DatapointValue.Ind.
 pub const DATAPOINT_VALUE_INDICATION: u8 = 0xC1;
 
-// Main service, sub-service, start and number stand in front of the entries; a request for values has a filter behind them; what the longest message has left.
+// Main service, sub-service, start and number stand in front of the entries; a request for values has a filter behind
+// them; what the longest message has left.
 pub const MESSAGE_HEAD: usize = 6;
 
 pub const VALUE_REQUEST: usize = 7;

@@ -1,6 +1,8 @@
-// The bench: the tables at a fixed width with a count beside each, the link record and the output of one server, by value.
+// The bench: the tables at a fixed width with a count beside each, the link record and the output of one server, by
+// value.
 ghost use mathlib.Core.Path.{_≡_};
-ghost use Rattle.bench.specs.Bench.{idleLink, emptyBench, withLink, withDatapoint, withItem, withParameters, withValue};
+ghost use Rattle.bench.specs.Bench.{idleLink, emptyBench, withLink, withDatapoint, withItem, withParameters};
+ghost use Rattle.bench.specs.Bench.{withValue};
 use baos::datapoint::Datapoint;
 use baos::item::Item;
 use calls::reply::Reply;
@@ -40,7 +42,8 @@ pub fn idle_link(expected: bool, send: bool) -> Link
     }
 }
 
-// Empty tables, and the link as document 01 has it unless it says otherwise: "nothing is outstanding and both bits are odd".
+// Empty tables, and the link as document 01 has it unless it says otherwise: "nothing is outstanding and both bits
+// are odd".
 pub fn empty() -> Bench
     ensures { λ r. ⌜ r ≡ emptyBench ⌝ }
 {

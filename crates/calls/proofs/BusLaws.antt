@@ -9,7 +9,7 @@ use Rattle.words.specs.Words.{if_then_else_}
 use Rattle.words.proofs.WordLaws.{left, right, T-true, true-T}
 use Rattle.baos.specs.declared.datapoint.Datapoint.{Datapoint}
 use Rattle.baos.specs.Datapoint.{datapointId, datapointOk, zeroDatapoint}
-use Rattle.baos.specs.Table.{tableOk, rising, found, changed, place}
+use Rattle.baos.specs.Table.{tableOk, rising, found, changedAt, place}
 use Rattle.baos.proofs.TableLaws.{ids-rise}
 use Rattle.baos.proofs.PlaceLaws.{ok-few}
 use Rattle.baos.proofs.EntriesLaws.{found-here, found-nowhere, changed-here}
@@ -65,7 +65,7 @@ module _ (e : BusEvent) (id : ℕ) (v : List ℕ) (ds : List Datapoint) (ok : ta
       same : eqb (there .id) id ≡ true
       same = T-true (eqb (there .id) id) (left (eqb (there .id) id) (takes e v there) (true-T h))
 
-      set-here : set ds spot (taken e v there) ≡ changed datapointId id (taken e v) ds
+      set-here : set ds spot (taken e v there) ≡ changedAt datapointId id (taken e v) ds
       set-here = ap (λ (y : Bool). set ds spot (if y then taken e v there else there)) (sym same) ∙ sym (changed-here datapointId zeroDatapoint id ds (in-order ds ok) (taken e v) l)
 
   -- the record at the place takes the event, where it is the one of the ID and takes it

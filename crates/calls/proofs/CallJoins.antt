@@ -18,7 +18,7 @@ use Rattle.ft12.proofs.EventLaws.{range-stays}
 use Rattle.baos.specs.declared.datapoint.Datapoint.{Datapoint}
 use Rattle.baos.specs.declared.item.Item.{Item}
 use Rattle.baos.specs.Datapoint.{datapointId, datapointOk}
-use Rattle.baos.specs.Table.{Tables, tablesOf, datapointsOnly, tableOk, wellFormed, found, changed}
+use Rattle.baos.specs.Table.{Tables, tablesOf, datapointsOnly, tableOk, wellFormed, found, changedAt}
 use Rattle.baos.specs.Indication.{indication}
 use Rattle.baos.proofs.KeepLaws
 use Rattle.calls.specs.declared.event.Event.{Event}
@@ -173,9 +173,9 @@ module _ (v : List ℕ) (ds : List Datapoint) (is : List Item) (ps : List ℕ) (
           record { reply = ap replyNumbers (simp f at (z .reply)) ∙ q .reply; tables = ap (λ (y : List Datapoint). tablesOf y is ps) (simp f at (z .datapoints)) ∙ q .tables; link = q .link; output = q .output }
 
   pub leaves-bus-value : (id : ℕ) (r : Reply) (ds′ : List Datapoint) → BusEventTaken Value id v ds r ds′ → Leaves (call (BusValue id) v (tablesOf ds is ps) k out) r (tablesOf ds′ is ps) k out
-  unfolding busOk happens atDatapoint changed taken
+  unfolding busOk happens atDatapoint changedAt taken
   leaves-bus-value id = bus-leaves (BusValue id) Value id (value-fits v (found datapointId id ds)) refl
 
   pub leaves-outcome : (id : ℕ) (o : Outcome) (r : Reply) (ds′ : List Datapoint) → BusEventTaken (Transmission o) id v ds r ds′ → Leaves (call (TransmissionOutcome id o) v (tablesOf ds is ps) k out) r (tablesOf ds′ is ps) k out
-  unfolding busOk happens atDatapoint changed taken
+  unfolding busOk happens atDatapoint changedAt taken
   leaves-outcome id o = bus-leaves (TransmissionOutcome id o) (Transmission o) id (outcome-fits o v (found datapointId id ds)) refl

@@ -21,7 +21,7 @@ use Rattle.calls.specs.declared.event.Event.{Event}
 use Rattle.calls.specs.Event.{busOk}
 use Rattle.calls.specs.Reply.{sentCount}
 use Rattle.calls.specs.Call.{happens, refusal, refused, accepted, call}
-use Rattle.calls.specs.Numbers.{isEvent, eventOf, numberOf, noEvent}
+use Rattle.calls.specs.Numbers.{isEvent, eventNumbered, replyNumber, noEvent}
 use Rattle.calls.specs.Exported.{Answered, answered, calledBy, Gives, freshLine}
 use Rattle.calls.proofs.SentLaws.{sent-small}
 
@@ -31,16 +31,16 @@ module _ (event byte id outcome : ℕ) (v : List ℕ) (t : Tables) (k : Link) (o
   no-event n = simp n (record { number = refl; tables = refl; link = refl; output = refl })
 
   pub an-event : isEvent event outcome ≡ true
-      → let c = call (eventOf event byte id outcome) v t k out in t .parameters ≡ c .tables .parameters
-      → Gives (calledBy event byte id outcome v t k out) (numberOf (c .reply)) (tablesOf (c .tables .datapoints) (c .tables .items) (t .parameters)) (c .link) (c .output)
+      → let c = call (eventNumbered event byte id outcome) v t k out in t .parameters ≡ c .tables .parameters
+      → Gives (calledBy event byte id outcome v t k out) (replyNumber (c .reply)) (tablesOf (c .tables .datapoints) (c .tables .items) (t .parameters)) (c .link) (c .output)
   unfolding calledBy answered
   an-event n p =
-      let c = call (eventOf event byte id outcome) v t k out in
+      let c = call (eventNumbered event byte id outcome) v t k out in
       simp n (record { number = refl; tables = ap (λ (ps : List ℕ). tablesOf (c .tables .datapoints) (c .tables .items) ps) p; link = refl; output = refl })
 
   -- the count of bytes sent is a number of 32 bits
-  pub count-fits : sentCount (call (eventOf event byte id outcome) v t k out .reply) < 2 ^ 31
-  count-fits = omega (arith, sent-small (eventOf event byte id outcome) v t k out)
+  pub count-fits : sentCount (call (eventNumbered event byte id outcome) v t k out .reply) < 2 ^ 31
+  count-fits = omega (arith, sent-small (eventNumbered event byte id outcome) v t k out)
 
 -- ---- what the C header says of the number: 0 to 262 bytes are to be sent; or it is below 0, -1 to -4 or -100, and everything is as it was
 pub record Kept (a : Answered) (t : Tables) (k : Link) (out : List ℕ) : Type 0 where
@@ -48,10 +48,10 @@ pub record Kept (a : Answered) (t : Tables) (k : Link) (out : List ℕ) : Type 0
   pub link : a .link ≡ k
   pub output : a .output ≡ out
 
-pub data Told (a : Answered) (t : Tables) (k : Link) (out : List ℕ) : Type 0 where
-  sends : (n : ℕ) → n ≤ 262 → a .number ≡ pos n → Told a t k out
-  refuses : (n : ℕ) → 1 ≤ n → n ≤ 4 → a .number ≡ negℤ (pos n) → Kept a t k out → Told a t k out
-  names-none : a .number ≡ noEvent → Kept a t k out → Told a t k out
+pub data AnswerTold (a : Answered) (t : Tables) (k : Link) (out : List ℕ) : Type 0 where
+  sends : (n : ℕ) → n ≤ 262 → a .number ≡ pos n → AnswerTold a t k out
+  refuses : (n : ℕ) → 1 ≤ n → n ≤ 4 → a .number ≡ negℤ (pos n) → Kept a t k out → AnswerTold a t k out
+  names-none : a .number ≡ noEvent → Kept a t k out → AnswerTold a t k out
 
 refusal-small : (e : Event) (v : List ℕ) (t : Tables) (k : Link) (room : ℕ) → refusal e v t k room ≤ 4
 unfolding refusal
@@ -64,23 +64,23 @@ refusal-small e v t k room = go (wellFormed t) (inRange k) (ltb room 262) (busOk
     go true true false false = omega arith
     go true true false true = omega arith
 
-call-told : (e : Event) (v : List ℕ) (t : Tables) (k : Link) (out : List ℕ) → Told (answered (call e v t k out)) t k out
-unfolding answered call refused accepted numberOf sentCount
+call-told : (e : Event) (v : List ℕ) (t : Tables) (k : Link) (out : List ℕ) → AnswerTold (answered (call e v t k out)) t k out
+unfolding answered call refused accepted replyNumber sentCount
 call-told e v t k out = go (eqb (refusal e v t k (length out)) 0) refl
   where
-    go : (u : Bool) → eqb (refusal e v t k (length out)) 0 ≡ u → Told (answered (call e v t k out)) t k out
+    go : (u : Bool) → eqb (refusal e v t k (length out)) 0 ≡ u → AnswerTold (answered (call e v t k out)) t k out
     go true p = let small = simp p at (sent-small e v t k out) in simp p (sends (length (happens e v t (lineOf k) .sent)) small refl)
     go false p =
         let n = refusal e v t k (length out) in
         let some = eqb-false n 0 p in
         simp p (refuses n (pos-of-ne-zero some) (refusal-small e v t k (length out)) refl (record { tables = refl; link = refl; output = refl }))
 
-pub answer-told : (event byte id outcome : ℕ) (v : List ℕ) (t : Tables) (k : Link) (out : List ℕ) → Told (calledBy event byte id outcome v t k out) t k out
+pub answer-told : (event byte id outcome : ℕ) (v : List ℕ) (t : Tables) (k : Link) (out : List ℕ) → AnswerTold (calledBy event byte id outcome v t k out) t k out
 unfolding calledBy
 answer-told event byte id outcome v t k out = go (isEvent event outcome) refl
   where
-    go : (u : Bool) → isEvent event outcome ≡ u → Told (calledBy event byte id outcome v t k out) t k out
-    go true p = simp p (call-told (eventOf event byte id outcome) v t k out)
+    go : (u : Bool) → isEvent event outcome ≡ u → AnswerTold (calledBy event byte id outcome v t k out) t k out
+    go true p = simp p (call-told (eventNumbered event byte id outcome) v t k out)
     go false p = simp p (names-none refl (record { tables = refl; link = refl; output = refl }))
 
 -- the outcome is one

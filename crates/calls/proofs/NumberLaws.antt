@@ -22,7 +22,7 @@ use Rattle.calls.specs.declared.reply.Reply.the-variants.{Accepted}
 use Rattle.baos.specs.Bus.{statusOf}
 use Rattle.calls.specs.Event.{numbersOf}
 use Rattle.calls.specs.Reply.{sentCount}
-use Rattle.calls.specs.Numbers.{isEvent, outcomeOf, eventOf, given}
+use Rattle.calls.specs.Numbers.{isEvent, outcomeNumbered, eventNumbered, given}
 
 -- ---- whether the numbers name an event, as the code tests it
 module _ (e o : ℕ) where
@@ -40,32 +40,32 @@ module _ (e o : ℕ) where
 
 -- ---- the event of each number
 module _ (b id o : ℕ) where
-  pub first : (e : ℕ) → e ≡ 1 → eventOf e b id o ≡ HostByte b
-  unfolding eventOf
+  pub first : (e : ℕ) → e ≡ 1 → eventNumbered e b id o ≡ HostByte b
+  unfolding eventNumbered
   first e h = rw h refl
 
-  pub second : (e : ℕ) → e ≡ 2 → eventOf e b id o ≡ IdleMark
-  unfolding eventOf
+  pub second : (e : ℕ) → e ≡ 2 → eventNumbered e b id o ≡ IdleMark
+  unfolding eventNumbered
   second e h = rw h refl
 
-  pub third : (e : ℕ) → e ≡ 3 → eventOf e b id o ≡ AckWaitOver
-  unfolding eventOf
+  pub third : (e : ℕ) → e ≡ 3 → eventNumbered e b id o ≡ AckWaitOver
+  unfolding eventNumbered
   third e h = rw h refl
 
-  pub fourth : (e : ℕ) → e ≡ 4 → eventOf e b id o ≡ Poll
-  unfolding eventOf
+  pub fourth : (e : ℕ) → e ≡ 4 → eventNumbered e b id o ≡ Poll
+  unfolding eventNumbered
   fourth e h = rw h refl
 
-  pub fifth : (e : ℕ) → e ≡ 5 → eventOf e b id o ≡ BusValue id
-  unfolding eventOf
+  pub fifth : (e : ℕ) → e ≡ 5 → eventNumbered e b id o ≡ BusValue id
+  unfolding eventNumbered
   fifth e h = rw h refl
 
-  pub sixth : (e : ℕ) → e ≢ 1 → e ≢ 2 → e ≢ 3 → e ≢ 4 → e ≢ 5 → eventOf e b id o ≡ TransmissionOutcome id (outcomeOf o)
-  unfolding eventOf
+  pub sixth : (e : ℕ) → e ≢ 1 → e ≢ 2 → e ≢ 3 → e ≢ 4 → e ≢ 5 → eventNumbered e b id o ≡ TransmissionOutcome id (outcomeNumbered o)
+  unfolding eventNumbered
   sixth e n₁ n₂ n₃ n₄ n₅ = simp (ne-eqb e 1 n₁, ne-eqb e 2 n₂, ne-eqb e 3 n₃, ne-eqb e 4 n₄, ne-eqb e 5 n₅)
 
-pub last-outcome : (n : ℕ) → n ≢ 0 → n ≢ 1 → outcomeOf n ≡ InProgress
-unfolding outcomeOf
+pub last-outcome : (n : ℕ) → n ≢ 0 → n ≢ 1 → outcomeNumbered n ≡ InProgress
+unfolding outcomeNumbered
 last-outcome n n₀ n₁ = simp (ne-eqb n 0 n₀, ne-eqb n 1 n₁)
 
 -- ---- minus a number, in 32 bits
@@ -97,11 +97,11 @@ unfolding sentCount
 count-small r n e l = subst (λ (s : Reply). sentCount s < 2 ^ 31) e l
 
 -- ---- the numbers that are looked at are those of the event, as the paper's list has them; so an event is named by its own numbers and by no others
-status-named : (o : ℕ) → ltb o 3 ≡ true → statusOf (outcomeOf o) ≡ o
-unfolding statusOf outcomeOf
+status-named : (o : ℕ) → ltb o 3 ≡ true → statusOf (outcomeNumbered o) ≡ o
+unfolding statusOf outcomeNumbered
 status-named o h = go (eqb o 0) (eqb o 1) refl refl
   where
-    go : (u v : Bool) → eqb o 0 ≡ u → eqb o 1 ≡ v → statusOf (outcomeOf o) ≡ o
+    go : (u v : Bool) → eqb o 0 ≡ u → eqb o 1 ≡ v → statusOf (outcomeNumbered o) ≡ o
     go true v p q = rw (eqb-true o 0 p) refl
     go false true p q = rw (eqb-true o 1 q) refl
     go false false p q = let two : o ≡ 2 = omega (arith, eqb-false o 0 p, eqb-false o 1 q, ltb-true o 3 h) in rw two refl
@@ -126,11 +126,11 @@ is-six e o h n₁ n₂ n₃ n₄ n₅ = go (eqb e 6) (leb 1 e) (ltb e 6) refl re
     go false true true p q r = absurd (none-between e n₁ n₂ n₃ n₄ n₅ (leb-true 1 e q) (ltb-true e 6 r))
 
 module _ (e b id o : ℕ) where
-  pub named : isEvent e o ≡ true → numbersOf (eventOf e b id o) ≡ given e b id o
-  unfolding isEvent eventOf given numbersOf
+  pub named : isEvent e o ≡ true → numbersOf (eventNumbered e b id o) ≡ given e b id o
+  unfolding isEvent eventNumbered given numbersOf
   named h = go (eqb e 1) (eqb e 2) (eqb e 3) (eqb e 4) (eqb e 5) refl refl refl refl refl
     where
-      go : (p q r s t : Bool) → eqb e 1 ≡ p → eqb e 2 ≡ q → eqb e 3 ≡ r → eqb e 4 ≡ s → eqb e 5 ≡ t → numbersOf (eventOf e b id o) ≡ given e b id o
+      go : (p q r s t : Bool) → eqb e 1 ≡ p → eqb e 2 ≡ q → eqb e 3 ≡ r → eqb e 4 ≡ s → eqb e 5 ≡ t → numbersOf (eventNumbered e b id o) ≡ given e b id o
       go true q r s t h₁ h₂ h₃ h₄ h₅ = rw (eqb-true e 1 h₁) refl
       go false true r s t h₁ h₂ h₃ h₄ h₅ = rw (eqb-true e 2 h₂) refl
       go false false true s t h₁ h₂ h₃ h₄ h₅ = rw (eqb-true e 3 h₃) refl
@@ -173,10 +173,10 @@ not-named e b id o n x q = true-T {b = false} (sym n ∙ naming e b id o x q)
 
 -- every event is named by its numbers, and no two have the same
 abbrev fromNumbers : List ℕ → Event
-fromNumbers l = eventOf (getD l 0 0) (getD l 1 0) (getD l 1 0) (getD l 2 0)
+fromNumbers l = eventNumbered (getD l 0 0) (getD l 1 0) (getD l 1 0) (getD l 2 0)
 
 pub told : (x : Event) → fromNumbers (numbersOf x) ≡ x
-unfolding numbersOf statusOf eventOf outcomeOf
+unfolding numbersOf statusOf eventNumbered outcomeNumbered
 told (HostByte b) = refl
 told IdleMark = refl
 told AckWaitOver = refl

@@ -1,4 +1,5 @@
--- One call: from event, lent value, tables, link record and output buffer to reply, buffer to its end, tables and link record.
+-- One call: from event, lent value, tables, link record and output buffer to reply, buffer to its end, tables and
+-- link record.
 use Prim.Native.Nat.{ℕ}
 use mathlib.Core.Bool.{not}
 use mathlib.Core.List.{List, [], _++_}
@@ -7,14 +8,16 @@ use lib.Dec.{ltb, eqb}
 use Rattle.words.specs.Words.{if_then_else_, isEmpty}
 use Rattle.ft12.specs.declared.record.Link.{Link}
 use Rattle.ft12.specs.Record.{Line, lineOf, linkOf, holdsFrame, inRange}
-use Rattle.ft12.specs.Rules.{Up, nothing, acknowledged, dropped, reset, message, Moved, onHostByte, onIdleMark, onAckWaitOver, onMessage}
+use Rattle.ft12.specs.Rules.{Up, nothing, acknowledged, dropped, reset, message, Moved, onHostByte, onIdleMark}
+use Rattle.ft12.specs.Rules.{onAckWaitOver, onMessage}
 use Rattle.baos.specs.Datapoint.{busValue, outcome}
 use Rattle.baos.specs.Table.{Tables, tablesOk}
 use Rattle.baos.specs.Message.{Served}
 use Rattle.baos.specs.Service.{carriedOut}
 use Rattle.baos.specs.Indication.{indication}
 use Rattle.calls.specs.declared.event.Event.{Event}
-use Rattle.calls.specs.declared.event.Event.the-variants.{HostByte, IdleMark, AckWaitOver, Poll, BusValue, TransmissionOutcome}
+use Rattle.calls.specs.declared.event.Event.the-variants.{HostByte, IdleMark, AckWaitOver, Poll, BusValue}
+use Rattle.calls.specs.declared.event.Event.the-variants.{TransmissionOutcome}
 use Rattle.calls.specs.declared.reply.Reply.{Reply}
 use Rattle.calls.specs.declared.reply.Reply.the-variants.{Refused, Accepted}
 use Rattle.baos.specs.Bus.{statusOf}
@@ -33,7 +36,8 @@ quiet t l = record { sent = []; tables = t; line = l }
 unfoldable pub saying : List ℕ → Served → Line → Done
 saying s v l = record { sent = s ++ (onMessage (v .says) l) .sent; tables = v .after; line = (onMessage (v .says) l) .line }
 
--- a message that the link hands up is carried out; that a frame was acknowledged or dropped, and a reset, leave the tables
+-- a message that the link hands up is carried out; that a frame was acknowledged or dropped, and a reset, leave the
+-- tables
 unfoldable pub handedUp : Up → List ℕ → Tables → Line → Done
 handedUp nothing s t l = record { sent = s; tables = t; line = l }
 handedUp acknowledged s t l = record { sent = s; tables = t; line = l }
@@ -44,8 +48,8 @@ handedUp (message m) s t l = saying s (carriedOut t m) l
 unfoldable pub onMoved : Moved → Tables → Done
 onMoved v t = handedUp (v .up) (v .sent) t (v .line)
 
--- "Poll: with nothing outstanding and some mark set, one indication is framed, sent and held as outstanding [..]. Otherwise nothing."
--- Where no mark is set the indication says nothing and changes nothing.
+-- "Poll: with nothing outstanding and some mark set, one indication is framed, sent and held as outstanding [..].
+-- Otherwise nothing." Where no mark is set the indication says nothing and changes nothing.
 unfoldable pub onPoll : Tables → Line → Done
 onPoll t l = if isEmpty (l .outstanding) then saying [] (indication t) l else quiet t l
 

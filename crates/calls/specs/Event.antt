@@ -6,9 +6,10 @@ use Rattle.words.specs.Words.{isEmpty}
 use Rattle.baos.specs.declared.datapoint.Datapoint.{Datapoint}
 use Rattle.baos.specs.Datapoint.{datapointId, isValue}
 use Rattle.baos.specs.Bus.{statusOf}
-use Rattle.baos.specs.Table.{Tables, withDatapoints, found, changed}
+use Rattle.baos.specs.Table.{Tables, withDatapoints, found, changedAt}
 use Rattle.calls.specs.declared.event.Event.{Event}
-use Rattle.calls.specs.declared.event.Event.the-variants.{HostByte, IdleMark, AckWaitOver, Poll, BusValue, TransmissionOutcome}
+use Rattle.calls.specs.declared.event.Event.the-variants.{HostByte, IdleMark, AckWaitOver, Poll, BusValue}
+use Rattle.calls.specs.declared.event.Event.the-variants.{TransmissionOutcome}
 
 -- an event's place in the paper's list of six, and its values
 unfoldable pub numbersOf : Event → List ℕ
@@ -21,15 +22,15 @@ numbersOf (TransmissionOutcome id o) = 6 ∷ id ∷ statusOf o ∷ []
 
 -- the tables with the datapoint of this ID changed
 unfoldable pub atDatapoint : ℕ → (Datapoint → Datapoint) → Tables → Tables
-atDatapoint id f t = withDatapoints (changed datapointId id f (t .datapoints)) t
+atDatapoint id f t = withDatapoints (changedAt datapointId id f (t .datapoints)) t
 
 -- the datapoint that was found takes this value
 unfoldable pub valueFits : List Datapoint → List ℕ → Bool
 valueFits [] v = false
 valueFits (d ∷ ds) v = isValue (d .typecode) v
 
--- Refusal 4 is given for a "bus event: ID absent, value length not the type's, or unused bits set"; this says that it is not. An outcome is a bus
--- event too, of which only the ID is judged.
+-- Refusal 4 is given for a "bus event: ID absent, value length not the type's, or unused bits set"; this says that it
+-- is not. An outcome is a bus event too, of which only the ID is judged.
 unfoldable pub busOk : Event → List ℕ → Tables → Bool
 busOk (HostByte b) v t = true
 busOk IdleMark v t = true

@@ -9,7 +9,7 @@ use Rattle.ft12.specs.declared.record.Link.{Link}
 use Rattle.ft12.specs.Record.{Line}
 use Rattle.baos.specs.Table.{Tables}
 use Rattle.calls.specs.Call.{Called, call}
-use Rattle.calls.specs.Numbers.{isEvent, eventOf, numberOf, noEvent}
+use Rattle.calls.specs.Numbers.{isEvent, eventNumbered, replyNumber, noEvent}
 
 -- what a call answers and leaves, its reply as a number
 pub record Answered : Type 0 where
@@ -19,12 +19,12 @@ pub record Answered : Type 0 where
   pub output : List ℕ
 
 unfoldable pub answered : Called → Answered
-answered c = record { number = numberOf (c .reply); tables = c .tables; link = c .link; output = c .output }
+answered c = record { number = replyNumber (c .reply); tables = c .tables; link = c .link; output = c .output }
 
 -- the call of the event that the numbers name; where they name none, the number of that and everything as it was
 unfoldable pub calledBy : ℕ → ℕ → ℕ → ℕ → List ℕ → Tables → Link → List ℕ → Answered
 calledBy event byte id outcome v t k out =
-    if isEvent event outcome then answered (call (eventOf event byte id outcome) v t k out)
+    if isEvent event outcome then answered (call (eventNumbered event byte id outcome) v t k out)
     else record { number = noEvent; tables = t; link = k; output = out }
 
 -- number, tables, link record and output buffer are those of a

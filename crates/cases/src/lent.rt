@@ -19,8 +19,8 @@ use words::bytes::put_bytes;
 const EMPTY: u8 = b'e';
 // An item more, not writable: ID, size, data.
 const ITEM: u8 = b'i';
-// Datapoints more: how many, the first one's ID, type code, config flags, DPT, state, two bytes of value, whether the first of these
-// rises by one from each to the next, report mark. The IDs do.
+// Datapoints more: how many, the first one's ID, type code, config flags, DPT, state, two bytes of value, whether the
+// first of these rises by one from each to the next, report mark. The IDs do.
 const DATAPOINTS: u8 = b'd';
 // Parameter bytes: how many, and the first; they rise by one.
 const PARAMETERS: u8 = b'p';
@@ -117,7 +117,8 @@ pub fn told(wanted: Bench, line: Line) -> Bench
     wanted
 }
 
-// n values from the bus, of one byte each. Behind their number stand the first datapoint's ID and the first value; both rise by one.
+// n values from the bus, of one byte each. Behind their number stand the first datapoint's ID and the first value;
+// both rise by one.
 pub fn after_bus(bench: Bench, a: [u8; 264], n: u8) -> Bench
     ensures { λ r. ⌜ r ≡ bussed a n bench ⌝ }
 {

@@ -1,5 +1,6 @@
-// The examples of document 01, section "Examples", and the worked exchange of document 000, section 4.1, run through the server's call, byte by byte.
-// Each is written out as a line trace; what the server sends and what its tables and its link then hold is compared with what the papers say.
+// The examples of document 01, section "Examples", and the worked exchange of document 000, section 4.1, run through
+// the server's call, byte by byte. Each is written out as a line trace; what the server sends and what its tables and
+// its link then hold is compared with what the papers say.
 ghost use mathlib.Core.Path.{_≡_};
 ghost use Rattle.cases.specs.Tally.{tallied};
 

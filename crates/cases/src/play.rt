@@ -48,7 +48,8 @@ fn kept(said: Line, line: Line) -> Line
 
 // The bits and the bytes of a line that asks for the link.
 fn link_asked(t: Trial, a: [u8; 264], asked: &[u8]) -> Trial
-    ensures { λ r. ⌜ Goes t (t .bench) (LinkIs (t .bench .link) (isOne a 0) (isOne a 1) (isOne a 2) (drop 3 (now (asked .entry)))) r ⌝ }
+    ensures { λ r. ⌜ Goes t (t .bench) (LinkIs (t .bench .link) (isOne a 0) (isOne a 1) (isOne a 2)
+        (drop 3 (now (asked .entry)))) r ⌝ }
 {
     if asked.len() < 3 {
         return trial::link(t, a[0] == 1, a[1] == 1, a[2] == 1, b"");

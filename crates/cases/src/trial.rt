@@ -72,7 +72,8 @@ fn has_sent(bench: Bench, wanted: &[u8]) -> bool
     check::same(&out[..n], wanted)
 }
 
-// The bench after these bytes from the host, one event each, and whether they drew what is wanted, all of it at the last one.
+// The bench after these bytes from the host, one event each, and whether they drew what is wanted, all of it at the
+// last one.
 fn drawn(bench: Bench, bytes: &[u8], wanted: &[u8]) -> Trial
     ensures { λ r. ⌜ Shows (heard (now (bytes .entry)) bench) (Draws (now (bytes .entry)) (now (wanted .entry)) bench) r ⌝ }
 {
@@ -111,7 +112,8 @@ pub fn host(trial: Trial, bytes: &[u8], wanted: &[u8]) -> Trial
     after(trial, d.bench, d.right)
 }
 
-// The bench after these bytes from the host, and whether the receiver found damage at this place, counted from 0, and nothing was sent.
+// The bench after these bytes from the host, and whether the receiver found damage at this place, counted from 0, and
+// nothing was sent.
 fn found_damage(bench: Bench, bytes: &[u8], place: usize) -> Trial
     ensures { λ r. ⌜ Shows (heard (now (bytes .entry)) bench) (Damaged (now (bytes .entry)) place bench) r ⌝ }
 {
@@ -155,7 +157,8 @@ fn damage_lines(bytes: &[u8], place: usize) {
     }
 }
 
-// The host sends damaged bytes. The receiver is to find it at this place, and to drop all from there on; nothing is to be sent.
+// The host sends damaged bytes. The receiver is to find it at this place, and to drop all from there on; nothing is
+// to be sent.
 pub fn damaged(trial: Trial, bytes: &[u8], place: u8) -> Trial
     ensures { λ r. ⌜ Goes trial (heard (now (bytes .entry)) (trial .bench)) (Damaged (now (bytes .entry)) place (trial .bench)) r ⌝ }
 {

@@ -15,7 +15,7 @@ use Rattle.baos.specs.declared.item.Item.{Item}
 use Rattle.baos.specs.Table.{Tables}
 use Rattle.baos.proofs.TableLaws.{same-tables}
 use Rattle.demands.specs.Run.{Ran}
-use Rattle.demands.specs.Example.{Case, found, stated, lineAt, exchange, item1, ask1, answer1, case1, case2, ask1even, case2even, datapoint, datapoint5, answer3, set5, case3, case4, oneByteFrom, oneBytes, entriesFrom, case5, case5more, parameterBytes, case6, case6more, case9, case9one, cases}
+use Rattle.demands.specs.Example.{Case, runOf, stated, lineAt, exchange, item1, ask1, answer1, case1, case2, ask1even, case2even, datapoint, datapoint5, answer3, set5, case3, case4, oneByteFrom, oneBytes, entriesFrom, case5, case5more, parameterBytes, case6, case6more, case9, case9one, cases}
 use Rattle.demands.proofs.Opened.{opened}
 
 -- ---- the tests
@@ -54,11 +54,11 @@ abbrev ranTests : Ran → Ran → List Bool
 ranTests a b = same (a .sent) (b .sent) ∷ sameTables (a .tables) (b .tables) ∷ sameLink (a .link) (b .link) ∷ []
 
 unfoldable pub agrees : Case → Bool
-agrees c = all-pass (ranTests (found c) (stated c))
+agrees c = all-pass (ranTests (runOf c) (stated c))
 
 -- ---- computed
 tested : T (every agrees cases)
-unfolding cases opened found stated sameDatapoint sameItem sameTables sameLink agrees lineAt exchange item1 ask1 answer1 case1 case2 ask1even case2even datapoint datapoint5 answer3 set5 case3 case4 oneByteFrom oneBytes entriesFrom case5 case5more parameterBytes case6 case6more case9 case9one
+unfolding cases opened runOf stated sameDatapoint sameItem sameTables sameLink agrees lineAt exchange item1 ask1 answer1 case1 case2 ask1even case2even datapoint datapoint5 answer3 set5 case3 case4 oneByteFrom oneBytes entriesFrom case5 case5more parameterBytes case6 case6more case9 case9one
 tested = tt
 
 -- ---- what the tests mean
@@ -118,17 +118,17 @@ ran-eq a b t =
       link = link-eq (a .link) (b .link) (g 2) i;
     }
 
-pub case-holds : (c : Case) → T (agrees c) → found c ≡ stated c
+pub case-holds : (c : Case) → T (agrees c) → runOf c ≡ stated c
 unfolding agrees
-case-holds c t = ran-eq (found c) (stated c) t
+case-holds c t = ran-eq (runOf c) (stated c) t
 
-each : (cs : List Case) → T (every agrees cs) → (c : Case) → List·Memᴰ c cs → found c ≡ stated c
+each : (cs : List Case) → T (every agrees cs) → (c : Case) → List·Memᴰ c cs → runOf c ≡ stated c
 each [] t c h = absurd (List·Memᴰ·not-nil h)
 each (d ∷ cs) t c h = go (List·Memᴰ·cases-cons h) (each cs (right (agrees d) (every agrees cs) t) c)
   where
-    go : (c ≡ d) ⊎ List·Memᴰ c cs → (List·Memᴰ c cs → found c ≡ stated c) → found c ≡ stated c
-    go (inl e) r = subst (λ (x : Case). found x ≡ stated x) (sym e) (case-holds d (left (agrees d) (every agrees cs) t))
+    go : (c ≡ d) ⊎ List·Memᴰ c cs → (List·Memᴰ c cs → runOf c ≡ stated c) → runOf c ≡ stated c
+    go (inl e) r = subst (λ (x : Case). runOf x ≡ stated x) (sym e) (case-holds d (left (agrees d) (every agrees cs) t))
     go (inr m) r = r m
 
-pub computed-hold : (c : Case) → List·Memᴰ c cases → found c ≡ stated c
+pub computed-hold : (c : Case) → List·Memᴰ c cases → runOf c ≡ stated c
 computed-hold = each cases tested

@@ -11,7 +11,7 @@ use Rattle.ft12.specs.Frame.{acknowledgement, dataFrame}
 use Rattle.ft12.specs.Receiver.{isBeginning}
 use Rattle.ft12.specs.Record.{Line, hostControl}
 use Rattle.ft12.specs.Rules.{Up, nothing, acknowledged, dropped, reset, message, atStart, gathering, expecting, onHostByte, onIdleMark}
-use Rattle.ft12.specs.Delivery.{Run, told, run, delivered}
+use Rattle.ft12.specs.Delivery.{Hearing, upFirst, hearing, delivered}
 use Rattle.words.proofs.WordLaws.{true-T}
 use Rattle.ft12.proofs.HearingLaws.{beginning-runs, frame-reads, request-heard}
 use Rattle.baos.specs.Table.{Tables}
@@ -44,7 +44,7 @@ noMessage (dropped ∷ us) = noMessage us
 noMessage (reset ∷ us) = noMessage us
 noMessage (message m ∷ us) = false
 
-abbrev ranWith : Tables → Run → Done
+abbrev ranWith : Tables → Hearing → Done
 ranWith t r = record { sent = r .sent; tables = t; line = r .line }
 
 -- what is handed up at one byte, and what the bytes behind it do
@@ -52,17 +52,17 @@ module _ (bs : List ℕ) (t : Tables) (s : List ℕ) (l : Line) where
   abbrev behind : Done → Done
   behind d = following (d .sent) (inTurn (map HostByte bs) (d .tables) (d .line))
 
-  handed-leaves : (u : Up) → T (noMessage (told u (run bs l .ups))) → (T (noMessage (run bs l .ups)) → inTurn (map HostByte bs) t l ≡ ranWith t (run bs l))
-      → behind (handedUp u s t l) ≡ record { sent = s ++ run bs l .sent; tables = t; line = run bs l .line }
-  unfolding noMessage told handedUp following
+  handed-leaves : (u : Up) → T (noMessage (upFirst u (hearing bs l .ups))) → (T (noMessage (hearing bs l .ups)) → inTurn (map HostByte bs) t l ≡ ranWith t (hearing bs l))
+      → behind (handedUp u s t l) ≡ record { sent = s ++ hearing bs l .sent; tables = t; line = hearing bs l .line }
+  unfolding noMessage upFirst handedUp following
   handed-leaves nothing n r = rw (r n)
   handed-leaves acknowledged n r = rw (r n)
   handed-leaves dropped n r = rw (r n)
   handed-leaves reset n r = rw (r n)
   handed-leaves (message m) n r = absurd n
 
-pub bytes-leave : (bs : List ℕ) (t : Tables) (l : Line) → T (noMessage (run bs l .ups)) → inTurn (map HostByte bs) t l ≡ ranWith t (run bs l)
-unfolding inTurn run happens onMoved
+pub bytes-leave : (bs : List ℕ) (t : Tables) (l : Line) → T (noMessage (hearing bs l .ups)) → inTurn (map HostByte bs) t l ≡ ranWith t (hearing bs l)
+unfolding inTurn hearing happens onMoved
 bytes-leave [] t l n = refl
 bytes-leave (b ∷ bs) t l n =
     let v = onHostByte b l in
@@ -83,27 +83,27 @@ unfolding delivered
 delivery-leaves bs t l n = marked bs t l ∙ ap thenMarked (bytes-leave bs t l n)
 
 -- ---- a sound request
-last-told : (u : Up) (m : List ℕ) → told u [] ≡ message m ∷ [] → u ≡ message m
-unfolding told noMessage
+last-told : (u : Up) (m : List ℕ) → upFirst u [] ≡ message m ∷ [] → u ≡ message m
+unfolding upFirst noMessage
 last-told nothing m e = absurd (true-T (sym (ap noMessage e)))
 last-told acknowledged m e = absurd (true-T (sym (ap noMessage e)))
 last-told dropped m e = absurd (true-T (sym (ap noMessage e)))
 last-told reset m e = absurd (true-T (sym (ap noMessage e)))
 last-told (message x) m e = cc
 
--- a byte whose run hands up one message: it is carried out
-last-carries : (x : ℕ) (m : List ℕ) (t : Tables) (l l′ : Line) → run (x ∷ []) l ≡ record { sent = acknowledgement; ups = message m ∷ []; line = l′ }
+-- a byte whose hearing hands up one message: it is carried out
+last-carries : (x : ℕ) (m : List ℕ) (t : Tables) (l l′ : Line) → hearing (x ∷ []) l ≡ record { sent = acknowledgement; ups = message m ∷ []; line = l′ }
     → onMoved (onHostByte x l) t ≡ saying acknowledgement (carriedOut t m) l′
 unfolding onMoved handedUp
 last-carries x m t l l′ e =
     let v = onHostByte x l in
-    let sent : v .sent ≡ acknowledgement = sym (append-nil (v .sent)) ∙ (unfold run in ap (λ (r : Run). r .sent) e) in
-    let up : v .up ≡ message m = last-told (v .up) m (unfold run in ap (λ (r : Run). r .ups) e) in
-    let line : v .line ≡ l′ = unfold run in ap (λ (r : Run). r .line) e in
+    let sent : v .sent ≡ acknowledgement = sym (append-nil (v .sent)) ∙ (unfold hearing in ap (λ (r : Hearing). r .sent) e) in
+    let up : v .up ≡ message m = last-told (v .up) m (unfold hearing in ap (λ (r : Hearing). r .ups) e) in
+    let line : v .line ≡ l′ = unfold hearing in ap (λ (r : Hearing). r .line) e in
     rw (sent, up, line)
 
-gathers : (p : List ℕ) (l : Line) → T (isBeginning p) → run p (atStart l) ≡ record { sent = []; ups = []; line = gathering p l }
-unfolding run
+gathers : (p : List ℕ) (l : Line) → T (isBeginning p) → hearing p (atStart l) ≡ record { sent = []; ups = []; line = gathering p l }
+unfolding hearing
 gathers p l b = rw append-nil at (beginning-runs p [] l b)
 
 -- the beginning of a frame is gathered, and the byte behind it does what it does
@@ -121,8 +121,8 @@ pub request-carried : (c : ℕ) (m : List ℕ) (t : Tables) (l : Line) → lengt
     → inTurn (thenIdle (dataFrame c m)) t l ≡ thenMarked (saying acknowledgement (carriedOut t m) (expecting (not (l .expected)) l))
 request-carried c m t l h s e o =
     let r = frame-reads c m h in
-    let last : run (r .last ∷ []) (gathering (r .before) l) ≡ run (dataFrame c m) l =
-    sym (ap (λ (b : List ℕ). run b l) (r .bytes) ∙ ap (run (r .before ++ r .last ∷ [])) s ∙ beginning-runs (r .before) (r .last ∷ []) l (r .gathered)) in
+    let last : hearing (r .last ∷ []) (gathering (r .before) l) ≡ hearing (dataFrame c m) l =
+    sym (ap (λ (b : List ℕ). hearing b l) (r .bytes) ∙ ap (hearing (r .before ++ r .last ∷ [])) s ∙ beginning-runs (r .before) (r .last ∷ []) l (r .gathered)) in
     let carried = last-carries (r .last) m t (gathering (r .before) l) _ (last ∙ request-heard c m l h s e o) in
     marked (dataFrame c m) t l
     ∙ ap thenMarked (ap (λ (b : List ℕ). inTurn (map HostByte b) t l) (r .bytes) ∙ ap (inTurn (map HostByte (r .before ++ r .last ∷ [])) t) s ∙ bytes-then (r .before) (r .last) t l (r .gathered) ∙ carried)

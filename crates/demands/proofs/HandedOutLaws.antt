@@ -19,7 +19,7 @@ use Rattle.ft12.specs.Record.{Line, lineOf}
 use Rattle.ft12.specs.Rules.{heardAt, onHeard, onHostByte, onIdleMark}
 use Rattle.baos.specs.declared.datapoint.Datapoint.{Datapoint}
 use Rattle.baos.specs.Datapoint.{datapointId, datapointOk, sizeOf, valueOf, isUpdated, withValid, withoutUpdated, withRequest, withStatus, withState, withValue, withMark, handedOut, busValue, outcome, commanded}
-use Rattle.baos.specs.Table.{Tables, rising, changed, wellFormed}
+use Rattle.baos.specs.Table.{Tables, rising, changedAt, wellFormed}
 use Rattle.baos.specs.Message.{subService, startOf, numberOf, filterOf, coded, Finding, fine, bad, Served, answerOf, afterOf, served}
 use Rattle.baos.specs.Get.{AnswerEntry, listing, getFinding, getting, getServerItem, getDatapointDescription, valueEntry, asked, handingOut, getDatapointValue, getParameterByte}
 use Rattle.baos.specs.Set.{SetEntry, setFinding, applied, setting, setServerItem, setDatapoint, setDatapointValue}
@@ -160,8 +160,8 @@ unfolding fresh
 fresh-map id f h [] e = refl
 fresh-map id f h (d ∷ ds) e = or-false _ _ (h d (none-left _ _ e)) (fresh-map id f h ds (none-right (isFresh id d) (fresh id ds) e))
 
-fresh-changed : (id n : ℕ) (f : Datapoint → Datapoint) → ((d : Datapoint) → isFresh id d ≡ false → eqb (d .id) n ≡ true → isFresh id (f d) ≡ false) → (ds : List Datapoint) → fresh id ds ≡ false → fresh id (changed datapointId n f ds) ≡ false
-unfolding changed
+fresh-changed : (id n : ℕ) (f : Datapoint → Datapoint) → ((d : Datapoint) → isFresh id d ≡ false → eqb (d .id) n ≡ true → isFresh id (f d) ≡ false) → (ds : List Datapoint) → fresh id ds ≡ false → fresh id (changedAt datapointId n f ds) ≡ false
+unfolding changedAt
 fresh-changed id n f h ds e = fresh-map id (λ (d : Datapoint). if eqb (d .id) n then f d else d) (λ d o. go d (eqb (d .id) n) refl o) ds e
   where
     go : (d : Datapoint) (u : Bool) → eqb (d .id) n ≡ u → isFresh id d ≡ false → isFresh id (if u then f d else d) ≡ false

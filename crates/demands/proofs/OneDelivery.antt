@@ -11,7 +11,7 @@ use Rattle.words.specs.Words.{if_then_else_, isEmpty, areBytes}
 use Rattle.ft12.specs.Frame.{acknowledgement, longestMessage, dataFrame}
 use Rattle.ft12.specs.Record.{Line, linkOf, hostControl, serverControl, lineOk}
 use Rattle.ft12.specs.Rules.{atStart, holding, expecting, onIdleMark, onMessage}
-use Rattle.ft12.specs.Delivery.{Delivery, sound, isSound, arrives, Possible, Run, delivered}
+use Rattle.ft12.specs.Delivery.{Delivery, sound, isSound, arrives, Possible, Hearing, delivered}
 use Rattle.ft12.proofs.HearingLaws.{quiet, repeat-heard}
 use Rattle.ft12.proofs.DeliveryLaws.{damaged-nothing, host-control}
 use Rattle.baos.specs.Table.{Tables, wellFormed}
@@ -76,20 +76,20 @@ module _ (m : List ℕ) (carried : Carried m) (bit : Bool) where
 
   -- ---- one delivery
   -- with no message handed up: what the link sends, and the line it leaves
-  module _ (d : Delivery) (t : Tables) (l : Line) (ready : Ready t l) (r : Run) (e : delivered (arrives f d) l ≡ r) (n : T (noMessage (r .ups))) where
+  module _ (d : Delivery) (t : Tables) (l : Line) (ready : Ready t l) (r : Hearing) (e : delivered (arrives f d) l ≡ r) (n : T (noMessage (r .ups))) where
     pub unheeded : (lent : ℕ → Lent) → Roomy lent → delivery lent f d t (linkOf l) ≡ ran (r .sent) t (r .line)
     unfolding delivery
     unheeded lent room =
-        idle-run (arrives f d) lent t l room (ready .tables) (ready .line) ∙ ap ranOf (delivery-leaves (arrives f d) t l (rw e n)) ∙ ap (λ (x : Run). ran (x .sent) t (x .line)) e
+        idle-run (arrives f d) lent t l room (ready .tables) (ready .line) ∙ ap ranOf (delivery-leaves (arrives f d) t l (rw e n)) ∙ ap (λ (x : Hearing). ran (x .sent) t (x .line)) e
 
     pub unheeded-ready : Ready t (r .line)
     unheeded-ready =
         let lasts = idle-lasts (arrives f d) t l (ready .tables) (ready .line) in
-        let same = delivery-leaves (arrives f d) t l (rw e n) ∙ ap (λ (x : Run). record { sent = x .sent; tables = t; line = x .line }) e in
+        let same = delivery-leaves (arrives f d) t l (rw e n) ∙ ap (λ (x : Hearing). record { sent = x .sent; tables = t; line = x .line }) e in
         record {
           tables = ready .tables;
           line = subst (λ (x : Done). T (lineOk (x .line))) same (lasts .line);
-          start = subst (λ (x : Run). x .line ≡ atStart (x .line)) e (delivered-start (arrives f d) l);
+          start = subst (λ (x : Hearing). x .line ≡ atStart (x .line)) e (delivered-start (arrives f d) l);
         }
 
   -- "a damaged one draws none": where what arrives does not begin with E5, nothing is sent, and tables and line are as they were

@@ -3,7 +3,7 @@ use mathlib.Core.Path.{_≡_}
 use mathlib.Core.Bool.{true, false}
 use mathlib.Core.List.{[], _∷_, _++_}
 use Rattle.ft12.specs.Frame.{fixedFrame, dataFrame}
-use Rattle.demands.specs.Example.{Case, found, stated, lineAt, datapoint, datapoint5, answer3, set5}
+use Rattle.demands.specs.Example.{Case, runOf, stated, lineAt, datapoint, datapoint5, answer3, set5}
 use Rattle.demands.proofs.Opened.{opened}
 use Rattle.demands.proofs.ComputedExamples.{sameDatapoint, sameItem, sameLink, sameTables, agrees, case-holds}
 
@@ -19,5 +19,5 @@ secondSet =
     }
 
 -- both sets are carried out, and both answered: the value is the second's
-pub second-set : found secondSet ≡ stated secondSet
-second-set = case-holds secondSet (unfold opened found stated sameDatapoint sameItem sameTables sameLink agrees secondSet lineAt datapoint datapoint5 answer3 set5 in tt)
+pub second-set : runOf secondSet ≡ stated secondSet
+second-set = case-holds secondSet (unfold opened runOf stated sameDatapoint sameItem sameTables sameLink agrees secondSet lineAt datapoint datapoint5 answer3 set5 in tt)

@@ -12,7 +12,7 @@ use Rattle.baos.specs.declared.datapoint.Datapoint.{Datapoint}
 use Rattle.baos.specs.declared.item.Item.{Item}
 use Rattle.baos.specs.Datapoint.{datapointId}
 use Rattle.baos.specs.Item.{itemId}
-use Rattle.baos.specs.Table.{Tables, datapointsOnly, itemsOnly, parametersOnly, wellFormed, found as entryOf}
+use Rattle.baos.specs.Table.{Tables, datapointsOnly, itemsOnly, parametersOnly, wellFormed, found}
 use Rattle.baos.specs.Message.{mainService, subService, startOf, numberOf, filterOf, coded}
 use Rattle.baos.specs.Get.{AnswerEntry, listing, itemEntry, descriptionEntry, valueEntry, passes}
 use Rattle.baos.specs.Set.{fills, firstDatapointEntry}
@@ -30,8 +30,8 @@ pub record Case : Type 0 where
   pub lineAfter : Line
 
 -- each byte is one call, with the least output room that is not refused
-unfoldable pub found : Case → Ran
-found c = run (replicate 262 0) (map HostByte (c .bytes)) (c .tables) (linkOf (c .line))
+unfoldable pub runOf : Case → Ran
+runOf c = run (replicate 262 0) (map HostByte (c .bytes)) (c .tables) (linkOf (c .line))
 
 unfoldable pub stated : Case → Ran
 stated c = record { sent = c .sent; tables = c .tablesAfter; link = linkOf (c .lineAfter) }
@@ -165,16 +165,18 @@ abbrev pub AnsweredWith : Tables → List ℕ → List AnswerEntry → Type 0
 AnsweredWith t m es = carriedOut t m .says ≡ (if isEmpty es then coded m 0xFFFF 2 else listing (subService m + 0x80) 0xFFFF es)
 
 pub record LastId (t : Tables) (m : List ℕ) : Type 0 where
-  pub item : subService m ≡ 0x01 → length m ≡ 6 → AnsweredWith t m (map itemEntry (entryOf itemId 0xFFFF (t .items)))
-  pub description : subService m ≡ 0x03 → length m ≡ 6 → AnsweredWith t m (map descriptionEntry (entryOf datapointId 0xFFFF (t .datapoints)))
+  pub item : subService m ≡ 0x01 → length m ≡ 6 → AnsweredWith t m (map itemEntry (found itemId 0xFFFF (t .items)))
+  pub description : subService m ≡ 0x03 → length m ≡ 6
+      → AnsweredWith t m (map descriptionEntry (found datapointId 0xFFFF (t .datapoints)))
   pub value : subService m ≡ 0x05 → length m ≡ 7 → filterOf m ≤ 2
-      → AnsweredWith t m (map valueEntry (keep (passes (filterOf m)) (entryOf datapointId 0xFFFF (t .datapoints))))
+      → AnsweredWith t m (map valueEntry (keep (passes (filterOf m)) (found datapointId 0xFFFF (t .datapoints))))
   -- there is no parameter byte of that index
   pub parameter : subService m ≡ 0x07 → length m ≡ 6 → AnsweredWith t m []
 
 abbrev pub LastIdOnly : Type 0
 LastIdOnly =
-    (t : Tables) (m : List ℕ) → T (wellFormed t) → TwoByteIds t → mainService m ≡ 0xF0 → startOf m ≡ 0xFFFF → 1 ≤ numberOf m → LastId t m
+    (t : Tables) (m : List ℕ) → T (wellFormed t) → TwoByteIds t → mainService m ≡ 0xF0 → startOf m ≡ 0xFFFF
+    → 1 ≤ numberOf m → LastId t m
 
 -- ---- 8: "empty datapoint table"
 -- the request m is answered with this code and ID, and no table changes
@@ -186,7 +188,8 @@ pub record EmptyTable (t : Tables) (m : List ℕ) : Type 0 where
   pub descriptions : subService m ≡ 0x03 → length m ≡ 6 → 1 ≤ numberOf m → RefusedWith t m (startOf m) 2
   pub values : subService m ≡ 0x05 → length m ≡ 7 → 1 ≤ numberOf m → filterOf m ≤ 2 → RefusedWith t m (startOf m) 2
   -- "a datapoint set whose one or more entries fill the message gives 7"
-  pub set : subService m ≡ 0x06 → 6 ≤ length m → 1 ≤ numberOf m → T (fills 4 (numberOf m) (drop 6 m)) → RefusedWith t m (firstDatapointEntry (drop 6 m) .id) 7
+  pub set : subService m ≡ 0x06 → 6 ≤ length m → 1 ≤ numberOf m → T (fills 4 (numberOf m) (drop 6 m))
+      → RefusedWith t m (firstDatapointEntry (drop 6 m) .id) 7
 
 abbrev pub EmptyTables : Type 0
 EmptyTables = (t : Tables) (m : List ℕ) → t .datapoints ≡ [] → mainService m ≡ 0xF0 → EmptyTable t m
@@ -198,7 +201,7 @@ pub data Example : Type 0 where
   empty-tables : Example
 
 abbrev pub Holds : Example → Type 0
-Holds (computed c) = found c ≡ stated c
+Holds (computed c) = runOf c ≡ stated c
 Holds last-id-only = LastIdOnly
 Holds empty-tables = EmptyTables
 

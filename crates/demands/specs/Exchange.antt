@@ -1,8 +1,9 @@
--- Demand 3. "Start with tables, link record and output room that no call refuses, the receiver at a frame start and nothing outstanding. One request, first byte
--- F0, carrying the expected count bit is delivered any number of times, at least once sound; each other delivery has exactly one byte changed or lost; each is
--- followed by an idle mark, and nothing else happens. Then the tables and the expected bit are those after one sound delivery. Each sound delivery draws one
--- acknowledgement, a damaged one draws none, and the answer is sent at most once, exactly when one sound delivery would send it. This is here because retries are
--- the normal state of the line."
+-- Demand 3. "Start with tables, link record and output room that no call refuses, the receiver at a frame start and
+-- nothing outstanding. One request, first byte F0, carrying the expected count bit is delivered any number of times,
+-- at least once sound; each other delivery has exactly one byte changed or lost; each is followed by an idle mark,
+-- and nothing else happens. Then the tables and the expected bit are those after one sound delivery. Each sound
+-- delivery draws one acknowledgement, a damaged one draws none, and the answer is sent at most once, exactly when one
+-- sound delivery would send it. This is here because retries are the normal state of the line."
 use Prim.Native.Nat.{ℕ, suc, _≤_}
 use mathlib.Core.Path.{_≡_}
 use mathlib.Core.Bool.{Bool, true, false, not, _&&_, _||_}
@@ -35,8 +36,8 @@ inTurn (e ∷ es) t l =
     following (d .sent) (inTurn es (d .tables) (d .line))
 
 -- ---- the deliveries
--- What is lent to a call beside tables and link record: "other events ignore what is lent there", and an output buffer, which may be as the call before
--- left it, or any other.
+-- What is lent to a call beside tables and link record: "other events ignore what is lent there", and an output
+-- buffer, which may be as the call before left it, or any other.
 pub record Lent : Type 0 where
   pub value : List ℕ
   pub output : List ℕ
@@ -90,7 +91,8 @@ noneRefused lent f (d ∷ ds) t k =
     allAccepted (lent 0) (thenIdle (arrives f d)) t k && noneRefused (λ i. lent (suc i)) f ds (r .tables) (r .link)
 
 -- ---- the premises
--- "Start with tables, link record and output room that no call refuses, the receiver at a frame start and nothing outstanding."
+-- "Start with tables, link record and output room that no call refuses, the receiver at a frame start and nothing
+-- outstanding."
 pub record Start (lent : ℕ → ℕ → Lent) (t : Tables) (k : Link) : Type 0 where
   pub tables : T (wellFormed t)
   pub link : T (inRange k)
@@ -124,14 +126,14 @@ someSound (d ∷ ds) = isSound d || someSound ds
 unfoldable pub answerFrame : Tables → Link → List ℕ → List ℕ
 answerFrame t k m = if isEmpty (carriedOut t m .says) then [] else dataFrame (serverControl (k .send)) (carriedOut t m .says)
 
--- what each delivery draws, where this answer's frame is still to be sent: a sound one the acknowledgement and the answer, and then no later one the answer; a
--- damaged one nothing
+-- what each delivery draws, where this answer's frame is still to be sent: a sound one the acknowledgement and the
+-- answer, and then no later one the answer; a damaged one nothing
 unfoldable pub draws : List ℕ → List Delivery → List (List ℕ)
 draws answer [] = []
 draws answer (d ∷ ds) = (if isSound d then acknowledgement ++ answer else []) ∷ draws (if isSound d then [] else answer) ds
 
--- "A damaged frame may begin with E5 [..]. It can then act as the acknowledgement of an outstanding frame and, if its message begins F0, does no more.":
--- the link record k′ is k, or k with its outstanding frame acknowledged
+-- "A damaged frame may begin with E5 [..]. It can then act as the acknowledgement of an outstanding frame and, if its
+-- message begins F0, does no more.": the link record k′ is k, or k with its outstanding frame acknowledged
 pub data Rest (k k′ : Link) : Type 0 where
   same : k′ ≡ k → Rest k k′
   acknowledged : isEmpty (lineOf k .outstanding) ≡ false → k′ ≡ linkOf (cleared (not (k .send)) (lineOf k)) → Rest k k′
@@ -143,7 +145,8 @@ pub record Once (lent : ℕ → ℕ → Lent) (m : List ℕ) (ds : List Delivery
   -- "exactly when one sound delivery would send it": what that sends, and what it does to the tables
   pub alone : delivery (lent 0) (requestFrame k m) sound t k .sent ≡ acknowledgement ++ answerFrame t k m
   pub carried : delivery (lent 0) (requestFrame k m) sound t k .tables ≡ carriedOut t m .after
-  -- "Each sound delivery draws one acknowledgement, a damaged one draws none, and the answer is sent at most once, exactly when [..]"
+  -- "Each sound delivery draws one acknowledgement, a damaged one draws none, and the answer is sent at most once,
+  -- exactly when [..]"
   pub drawn : exchange lent (requestFrame k m) ds t k .sent ≡ draws (answerFrame t k m) ds
   -- "Then the tables and the expected bit are those after one sound delivery."
   pub tables : exchange lent (requestFrame k m) ds t k .tables ≡ delivery (lent 0) (requestFrame k m) sound t k .tables
@@ -152,14 +155,17 @@ pub record Once (lent : ℕ → ℕ → Lent) (m : List ℕ) (ds : List Delivery
   pub accepted : T (noneRefused lent (requestFrame k m) ds t k)
   -- what the demand leaves open: the rest of the link record
   pub rest : Rest (delivery (lent 0) (requestFrame k m) sound t k .link) (exchange lent (requestFrame k m) ds t k .link)
-  pub undisturbed : T (noneBeginsE5 (requestFrame k m) ds) → exchange lent (requestFrame k m) ds t k .link ≡ delivery (lent 0) (requestFrame k m) sound t k .link
+  pub undisturbed : T (noneBeginsE5 (requestFrame k m) ds)
+      → exchange lent (requestFrame k m) ds t k .link ≡ delivery (lent 0) (requestFrame k m) sound t k .link
 
 abbrev pub Demand3 : Type 0
 Demand3 =
-    (lent : ℕ → ℕ → Lent) (m : List ℕ) (ds : List Delivery) (t : Tables) (k : Link) → Start lent t k → Request m → EachPossible (requestFrame k m) ds → T (someSound ds)
+    (lent : ℕ → ℕ → Lent) (m : List ℕ) (ds : List Delivery) (t : Tables) (k : Link) → Start lent t k → Request m
+    → EachPossible (requestFrame k m) ds → T (someSound ds)
     → Once lent m ds t k
 
--- To read it: whatever is lent beside the events, and whatever stands in the output buffers, which may be others at each call so long as each has 262 bytes, the
--- request is carried out at its first sound delivery and never again. Of all deliveries, each a run of calls with one host byte each and one with an idle mark:
--- `drawn` lists, delivery by delivery, the bytes that are sent; `tables` and `expected` are those after one sound delivery from the same start; no call is refused.
--- Beyond the demand, `rest` and `undisturbed` say what becomes of the rest of the link record.
+-- To read it: whatever is lent beside the events, and whatever stands in the output buffers, which may be others at
+-- each call so long as each has 262 bytes, the request is carried out at its first sound delivery and never again. Of
+-- all deliveries, each a run of calls with one host byte each and one with an idle mark: `drawn` lists, delivery by
+-- delivery, the bytes that are sent; `tables` and `expected` are those after one sound delivery from the same start;
+-- no call is refused. Beyond the demand, `rest` and `undisturbed` say what becomes of the rest of the link record.

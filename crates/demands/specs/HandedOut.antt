@@ -1,5 +1,6 @@
--- "The filter asks for updated readings only, and a reading is handed out once." Between two bus values for a datapoint, whatever events come, at most one message that the
--- server builds carries the datapoint with bit 3 set. A frame that is sent again is no message built anew.
+-- "The filter asks for updated readings only, and a reading is handed out once." Between two bus values for a
+-- datapoint, whatever events come, at most one message that the server builds carries the datapoint with bit 3 set. A
+-- frame that is sent again is no message built anew.
 use Prim.Native.Nat.{ℕ, zero, suc, _+_, _≤_}
 use mathlib.Core.Bool.{Bool, false, not, _&&_, _||_}
 use mathlib.Core.List.{List, [], _∷_, _++_}
@@ -8,7 +9,8 @@ use lib.Dec.{T, eqb}
 use Rattle.words.specs.Words.{if_then_else_, ofTwoBytes, isEmpty, every}
 use Rattle.ft12.specs.declared.record.Link.{Link}
 use Rattle.ft12.specs.declared.rules.Heard.{Heard}
-use Rattle.ft12.specs.declared.rules.Heard.the-variants.{Gathered, Dropped, Ignored, Acknowledged, Reset, Repeat, Request}
+use Rattle.ft12.specs.declared.rules.Heard.the-variants.{Gathered, Dropped, Ignored, Acknowledged, Reset, Repeat}
+use Rattle.ft12.specs.declared.rules.Heard.the-variants.{Request}
 use Rattle.ft12.specs.Frame.{messageOf}
 use Rattle.ft12.specs.Record.{Line, lineOf}
 use Rattle.ft12.specs.Rules.{heardAt}
@@ -18,7 +20,8 @@ use Rattle.baos.specs.Message.{subService, numberOf}
 use Rattle.baos.specs.Service.{carriedOut}
 use Rattle.baos.specs.Indication.{indication}
 use Rattle.calls.specs.declared.event.Event.{Event}
-use Rattle.calls.specs.declared.event.Event.the-variants.{HostByte, IdleMark, AckWaitOver, Poll, BusValue, TransmissionOutcome}
+use Rattle.calls.specs.declared.event.Event.the-variants.{HostByte, IdleMark, AckWaitOver, Poll, BusValue}
+use Rattle.calls.specs.declared.event.Event.the-variants.{TransmissionOutcome}
 use Rattle.calls.specs.Call.{call}
 use Rattle.demands.specs.HostHears.{Happening, allAccepted}
 
@@ -59,7 +62,8 @@ builds Poll t l = if isEmpty (l .outstanding) then indication t .says else []
 builds (BusValue id) t l = []
 builds (TransmissionOutcome id o) t l = []
 
--- The one place that says when a reading of this ID is handed out: it is shown, with bit 3 set, in the message that is built.
+-- The one place that says when a reading of this ID is handed out: it is shown, with bit 3 set, in the message that
+-- is built.
 unfoldable pub handsOut : ℕ → Event → Tables → Line → Bool
 handsOut id e t l = showsUpdated id (valuesIn (builds e t l))
 

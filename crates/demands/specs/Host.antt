@@ -1,5 +1,5 @@
--- The host's rules: what the host hears in the bytes that reach it, from a frame start on. Written from the paper for the host's end; nothing of the server's
--- receiver is used.
+-- The host's rules: what the host hears in the bytes that reach it, from a frame start on. Written from the paper for
+-- the host's end; nothing of the server's receiver is used.
 use Prim.Native.Nat.{ℕ, zero, suc}
 use mathlib.Core.Bool.{Bool, true, false, _&&_}
 use mathlib.Core.List.{List, [], _∷_}
@@ -8,8 +8,8 @@ use lib.Dec.{leb, eqb}
 use Rattle.words.specs.Words.{if_then_else_}
 use Rattle.ft12.specs.Frame.{checksum}
 
--- an acknowledgement; a fixed frame and its C; a data frame of the server, its count bit (true where it is odd) and its message; a data frame that is not the
--- server's; bytes that are none of these
+-- an acknowledgement; a fixed frame and its C; a data frame of the server, its count bit (true where it is odd) and
+-- its message; a data frame that is not the server's; bytes that are none of these
 pub data HostHeard : Type 0 where
   heard-acknowledgement : HostHeard
   heard-fixed : ℕ → HostHeard
@@ -28,8 +28,8 @@ controlAndData s = take (getD s 1 0) (drop 4 s)
 unfoldable pub behindThem : List ℕ → List ℕ
 behindThem s = drop (getD s 1 0) (drop 4 s)
 
--- "Data frame: 68 L L 68, control, data, checksum, 16. L from 1 to 255 counts control and data [..]. The checksum is the sum of control and data bytes, the
--- carry beyond eight bits dropped."
+-- "Data frame: 68 L L 68, control, data, checksum, 16. L from 1 to 255 counts control and data [..]. The checksum is
+-- the sum of control and data bytes, the carry beyond eight bits dropped."
 unfoldable pub isData : List ℕ → Bool
 isData s =
     eqb (getD s 0 0) 0x68 && leb 1 (getD s 1 0) && leb (getD s 1 0) 255 && eqb (getD s 2 0) (getD s 1 0) && eqb (getD s 3 0) 0x68

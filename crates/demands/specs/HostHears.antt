@@ -1,5 +1,6 @@
--- What the host is to hear of a call, and of calls one after the other. "Each data frame we send reads back, by the host's rules, to its one message": the frame of an
--- answer to what `carriedOut` says, that of a poll to what `indication` says, and one that is sent again to what the outstanding frame carries.
+-- What the host is to hear of a call, and of calls one after the other. "Each data frame we send reads back, by the
+-- host's rules, to its one message": the frame of an answer to what `carriedOut` says, that of a poll to what
+-- `indication` says, and one that is sent again to what the outstanding frame carries.
 use Prim.Native.Nat.{ℕ}
 use mathlib.Core.Path.{_≡_}
 use mathlib.Core.Bool.{Bool, true, false, _&&_}
@@ -9,7 +10,8 @@ use lib.Dec.{T, ltb, eqb}
 use Rattle.words.specs.Words.{if_then_else_, isEmpty}
 use Rattle.ft12.specs.declared.record.Link.{Link}
 use Rattle.ft12.specs.declared.rules.Heard.{Heard}
-use Rattle.ft12.specs.declared.rules.Heard.the-variants.{Gathered, Dropped, Ignored, Acknowledged, Reset, Repeat, Request}
+use Rattle.ft12.specs.declared.rules.Heard.the-variants.{Gathered, Dropped, Ignored, Acknowledged, Reset, Repeat}
+use Rattle.ft12.specs.declared.rules.Heard.the-variants.{Request}
 use Rattle.ft12.specs.Frame.{messageOf}
 use Rattle.ft12.specs.Record.{Line, lineOf}
 use Rattle.ft12.specs.Rules.{heardAt}
@@ -17,7 +19,8 @@ use Rattle.baos.specs.Table.{Tables}
 use Rattle.baos.specs.Service.{carriedOut}
 use Rattle.baos.specs.Indication.{indication}
 use Rattle.calls.specs.declared.event.Event.{Event}
-use Rattle.calls.specs.declared.event.Event.the-variants.{HostByte, IdleMark, AckWaitOver, Poll, BusValue, TransmissionOutcome}
+use Rattle.calls.specs.declared.event.Event.the-variants.{HostByte, IdleMark, AckWaitOver, Poll, BusValue}
+use Rattle.calls.specs.declared.event.Event.the-variants.{TransmissionOutcome}
 use Rattle.calls.specs.Call.{refusal, call}
 use Rattle.demands.specs.Run.{sentOf}
 use Rattle.demands.specs.Host.{HostHeard, heard-acknowledgement, heard-fixed, heard-message, hostReads}
@@ -91,5 +94,6 @@ allToHear (h ∷ hs) t k =
 abbrev pub HostHearsAll : Type 0
 HostHearsAll = (hs : List Happening) (t : Tables) (k : Link) → T (allAccepted hs t k) → hostReads (allSent hs t k) ≡ allToHear hs t k
 
--- To read it: the host that reads all bytes of any run of accepted calls, one after the other, hears the acknowledgements, messages and resets of the calls in turn,
--- each with its count bit, and nothing else; no byte of them is damage to it.
+-- To read it: the host that reads all bytes of any run of accepted calls, one after the other, hears the
+-- acknowledgements, messages and resets of the calls in turn, each with its count bit, and nothing else; no byte of
+-- them is damage to it.

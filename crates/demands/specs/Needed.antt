@@ -1,4 +1,5 @@
--- What demand 3 asks at the start and of the deliveries is needed: with one premise left out and all others kept, its conclusion is false.
+-- What demand 3 asks at the start and of the deliveries is needed: with one premise left out and all others kept, its
+-- conclusion is false.
 use Prim.Native.Nat.{ℕ, zero, suc, _≤_}
 use mathlib.Core.Path.{_≡_}
 use mathlib.Core.Bool.{true, false}
@@ -14,12 +15,15 @@ use Rattle.baos.specs.Table.{Tables, wellFormed}
 use Rattle.calls.specs.declared.event.Event.{Event}
 use Rattle.calls.specs.declared.event.Event.the-variants.{HostByte}
 use Rattle.demands.specs.Example.{lineAt, item1, ask1, answer1, datapoint5, set5, answer3}
-use Rattle.demands.specs.Exchange.{Lent, Start, Request, requestFrame, EachPossible, someSound, calls, thenIdle, delivery, Once, Demand3}
+use Rattle.demands.specs.Exchange.{Lent, Start, Request, requestFrame, EachPossible, someSound, calls, thenIdle}
+use Rattle.demands.specs.Exchange.{delivery, Once, Demand3}
 
 -- demand 3 with other premises in the places of its own
-abbrev pub Demand3For : ((ℕ → ℕ → Lent) → Tables → Link → Type 0) → (List ℕ → Type 0) → (List ℕ → List Delivery → Type 0) → (List Delivery → Type 0) → Type 0
+abbrev pub Demand3For : ((ℕ → ℕ → Lent) → Tables → Link → Type 0) → (List ℕ → Type 0)
+    → (List ℕ → List Delivery → Type 0) → (List Delivery → Type 0) → Type 0
 Demand3For Starts Requests Deliveries SomeSound =
-    (lent : ℕ → ℕ → Lent) (m : List ℕ) (ds : List Delivery) (t : Tables) (k : Link) → Starts lent t k → Requests m → Deliveries (requestFrame k m) ds → SomeSound ds
+    (lent : ℕ → ℕ → Lent) (m : List ℕ) (ds : List Delivery) (t : Tables) (k : Link) → Starts lent t k → Requests m
+    → Deliveries (requestFrame k m) ds → SomeSound ds
     → Once lent m ds t k
 
 -- "tables [..] that no call refuses" left out
@@ -84,22 +88,24 @@ restingLink = linkOf (lineAt true true [])
 unfoldable pub roomy : ℕ → Lent
 roomy n = record { value = []; output = replicate 262 0 }
 
--- "each is followed by an idle mark": example 1's request with a byte lost, and then sound. With no mark between the two the sound one is dropped with the rest.
+-- "each is followed by an idle mark": example 1's request with a byte lost, and then sound. With no mark between the
+-- two the sound one is dropped with the rest.
 unfoldable pub unmarked : List Event
 unmarked = map HostByte (arrives ask1 (lost 3)) ++ thenIdle ask1
 
 unfoldable pub marked : List Event
 marked = thenIdle (arrives ask1 (lost 3)) ++ thenIdle ask1
 
--- "exactly one byte": example 3's request with two changed, value and checksum, and then sound. The first sets the value 0 that nobody sent, and the second is taken
--- for its repeat.
+-- "exactly one byte": example 3's request with two changed, value and checksum, and then sound. The first sets the
+-- value 0 that nobody sent, and the second is taken for its repeat.
 unfoldable pub twoChanged : List Event
 twoChanged = thenIdle (arrives (arrives (dataFrame 0x73 (set5 1)) (changed 15 0x00)) (changed 16 0x78)) ++ thenIdle (dataFrame 0x73 (set5 1))
 
--- "first byte F0": "A damaged frame may begin with E5: its first byte 68 [..] was lost before a length of E5. It can then act as the acknowledgement of an
--- outstanding frame and, if its message begins F0, does no more." This one does not, and spells a frame behind E5 E5: 68 and the control byte 73 stand before it, and
--- it goes on 73 68, 73 (hex) bytes of control and data, their checksum, 16. It has 228 bytes, so that the length is E5. What it spells is a set: 27 times, the status
--- of datapoint 5.
+-- "first byte F0": "A damaged frame may begin with E5: its first byte 68 [..] was lost before a length of E5. It can
+-- then act as the acknowledgement of an outstanding frame and, if its message begins F0, does no more." This one does
+-- not, and spells a frame behind E5 E5: 68 and the control byte 73 stand before it, and it goes on 73 68, 73 (hex)
+-- bytes of control and data, their checksum, 16. It has 228 bytes, so that the length is E5. What it spells is a set:
+-- 27 times, the status of datapoint 5.
 unfoldable pub statusEntries : ℕ → List ℕ
 statusEntries zero = []
 statusEntries (suc n) = 0x00 ∷ 0x05 ∷ 0x02 ∷ 0x00 ∷ statusEntries n
@@ -132,8 +138,9 @@ pub record Needed : Type 0 where
   pub spelt-sent : delivery roomy (requestFrame restingLink spelling) (lost 0) (datapoint5 0x00 0) restingLink .sent ≡ 0xE5 ∷ answer3
   pub spelt-tables : delivery roomy (requestFrame restingLink spelling) (lost 0) (datapoint5 0x00 0) restingLink .tables ≡ datapoint5 0x03 0
 
--- To read it: without any one of the premises named, and with all the others, demand 3 is false. With a table that is not well formed, a link
--- record that is not in range or output room below 262 bytes a call is refused; from mid-frame,
--- or with a frame outstanding, a sound delivery draws no acknowledgement; a message that does not begin F0 can spell another frame, which one lost byte sets free; a
--- byte changed into itself, or two bytes changed, make a delivery that is sound, of the same request or of another; with no sound delivery nothing is set; with no
--- idle mark behind a damaged delivery the sound one behind it is lost.
+-- To read it: without any one of the premises named, and with all the others, demand 3 is false. With a table that is
+-- not well formed, a link record that is not in range or output room below 262 bytes a call is refused; from
+-- mid-frame, or with a frame outstanding, a sound delivery draws no acknowledgement; a message that does not begin F0
+-- can spell another frame, which one lost byte sets free; a byte changed into itself, or two bytes changed, make a
+-- delivery that is sound, of the same request or of another; with no sound delivery nothing is set; with no idle mark
+-- behind a damaged delivery the sound one behind it is lost.

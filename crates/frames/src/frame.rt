@@ -45,11 +45,12 @@ pub fn put_fixed_frame(out: &mut [u8], at: usize, c: u8)
     out[at + 3] = FRAME_END;
 }
 
-// Frames the message of n bytes that stands in the buffer from at + 5 on, where it stands: 68 L L 68 and the control byte in
-// front of it, checksum and 16 behind it.
+// Frames the message of n bytes that stands in the buffer from at + 5 on, where it stands: 68 L L 68 and the control
+// byte in front of it, checksum and 16 behind it.
 pub fn frame_in_place(out: &mut [u8], at: usize, n: usize, control: u8)
     requires { ⌜ (n ≤ 254) × (at + n + 7 ≤ length (now out)) ⌝ }
-    ensures { λ _. ⌜ now (out .exit) ≡ put (now (out .entry)) at (dataFrame control (take n (drop (at + 5) (now (out .entry))))) ⌝ }
+    ensures { λ _. ⌜ now (out .exit)
+        ≡ put (now (out .entry)) at (dataFrame control (take n (drop (at + 5) (now (out .entry))))) ⌝ }
 {
     let count = (n + 1) as u8;
     let end = at + BEFORE_MESSAGE + n;

@@ -45,8 +45,8 @@ fn judge_fixed(g: &[u8], b: u8) -> Judgement
     Judgement::Damage
 }
 
-// After 68: L from 1 to 255, the same L, 68, L bytes of control and data, their checksum, 16. Only the checksum's place costs more than
-// a constant amount of work.
+// After 68: L from 1 to 255, the same L, 68, L bytes of control and data, their checksum, 16. Only the checksum's
+// place costs more than a constant amount of work.
 fn judge_data(g: &[u8], b: u8) -> Judgement
     requires { ⌜ 0 < length (now g) ⌝ }
     ensures { λ r. ⌜ r ≡ judgedData (now (g .entry)) b ⌝ }

@@ -18,7 +18,7 @@ use Rattle.ft12.specs.Frame.{acknowledgement, total, checksum, dataFrame
 use Rattle.ft12.specs.Receiver.{only, judgedFirst, judgedData, judged, gathers, isBeginning}
 use Rattle.ft12.specs.Record.{Line, hostControl}
 use Rattle.ft12.specs.Rules.{acknowledged, message, atStart, startDropping, gathering, cleared, expecting, caseOfAcknowledgement, caseOfData, caseOf, heardAt, onHeard, onHostByte}
-use Rattle.ft12.specs.Delivery.{Delivery, sound, changed, lost, isSound, arrives, Possible, Run, told, run, delivered}
+use Rattle.ft12.specs.Delivery.{Delivery, sound, changed, lost, isSound, arrives, Possible, Hearing, upFirst, hearing, delivered}
 use Rattle.words.proofs.WordLaws.{both, true-T, bytes-at}
 use Rattle.ft12.proofs.ReceiverLaws.{headed, judged-start, judged-fixed-2, judged-fixed-3, judged-data-1, judged-data-2, judged-data-3, judged-sum, judged-end, beginning-prefix}
 use Rattle.ft12.proofs.FrameLaws.{frame-length, head-gathers, body-beginning, summed-beginning, fixed-beginning}
@@ -259,11 +259,11 @@ unfoldable pub atRest : Line
 atRest = record { gathered = []; dropping = false; expected = true; send = true; outstanding = []; resends = 0 }
 
 -- what comes of it with its first byte lost
-unfoldable pub spelt : Run
+unfoldable pub spelt : Hearing
 spelt = delivered (arrives (dataFrame 0x73 spelling) (lost 0)) atRest
 
 -- E5 comes first, and yet an acknowledgement is sent and a message is handed up
 pub other-message : (length spelling ≡ 228) × T (areBytes spelling) × (atRest ≡ atStart atRest) × Possible (dataFrame 0x73 spelling) (lost 0)
     × (getD (arrives (dataFrame 0x73 spelling) (lost 0)) 0 0 ≡ 0xE5) × (spelt .sent ≡ acknowledgement) × (spelt .ups ≡ message (replicate 114 0) ∷ [])
-unfolding spelling atRest spelt arrives dataFrame checksum total delivered run told onHostByte heardAt caseOf caseOfAcknowledgement caseOfData onHeard judged judgedFirst judgedData atStart startDropping gathering cleared expecting hostControl messageOf areBytes
+unfolding spelling atRest spelt arrives dataFrame checksum total delivered hearing upFirst onHostByte heardAt caseOf caseOfAcknowledgement caseOfData onHeard judged judgedFirst judgedData atStart startDropping gathering cleared expecting hostControl messageOf areBytes
 other-message = (refl, tt, refl, omega arith, refl, refl, refl)

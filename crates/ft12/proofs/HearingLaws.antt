@@ -17,14 +17,14 @@ use Rattle.ft12.specs.Frame.{acknowledgement, checksum, dataFrame, messa
 use Rattle.ft12.specs.Receiver.{judgedFirst, judged, isMore, gathers, isBeginning}
 use Rattle.ft12.specs.Record.{Line, hostControl}
 use Rattle.ft12.specs.Rules.{acknowledged, message, Moved, still, receiving, atStart, startDropping, gathering, cleared, expecting, caseOfAcknowledgement, caseOfData, caseOf, heardAt, onHeard, onHostByte, onIdleMark}
-use Rattle.ft12.specs.Delivery.{ReadsAs, Run, told, run, delivered}
+use Rattle.ft12.specs.Delivery.{ReadsAs, Hearing, upFirst, hearing, delivered}
 use Rattle.words.proofs.WordLaws.{left, right}
 use Rattle.ft12.proofs.ReceiverLaws.{headed, judged-start, judged-end}
 use Rattle.ft12.proofs.FrameLaws.{summed-beginning, frame-but-last, frame-message}
 use Rattle.ft12.proofs.RulesLaws.{is-more, damage-keeps}
 
 -- nothing sent, nothing handed up
-abbrev pub quiet : Line → Run
+abbrev pub quiet : Line → Hearing
 quiet l = record { sent = []; ups = []; line = l }
 
 -- ---- runs of bytes
@@ -33,38 +33,38 @@ more-heard : (g : List ℕ) (x : ℕ) (l : Line) → judged g x ≡ More → onH
 unfolding onHostByte heardAt gathering caseOf onHeard
 more-heard g x l e = rw e
 
-gathers-run : (g p bs : List ℕ) (l : Line) → T (gathers g p) → run (p ++ bs) (gathering g l) ≡ run bs (gathering (g ++ p) l)
-unfolding run told gathers
+gathers-run : (g p bs : List ℕ) (l : Line) → T (gathers g p) → hearing (p ++ bs) (gathering g l) ≡ hearing bs (gathering (g ++ p) l)
+unfolding hearing upFirst gathers
 gathers-run g [] bs l t = rw append-nil
 gathers-run g (x ∷ p) bs l t =
     let e : judged g x ≡ More = is-more (judged g x) (left (isMore (judged g x)) (gathers (g ++ x ∷ []) p) t) in
     rw (more-heard g x l e, ← append-snoc g x p) (gathers-run (g ++ x ∷ []) p bs l (right (isMore (judged g x)) (gathers (g ++ x ∷ []) p) t))
 
 -- from a frame start, the beginning of a frame is gathered
-pub beginning-runs : (p bs : List ℕ) (l : Line) → T (isBeginning p) → run (p ++ bs) (atStart l) ≡ run bs (gathering p l)
+pub beginning-runs : (p bs : List ℕ) (l : Line) → T (isBeginning p) → hearing (p ++ bs) (atStart l) ≡ hearing bs (gathering p l)
 unfolding isBeginning atStart gathering
 beginning-runs p bs l t = gathers-run [] p bs l t
 
 -- "the rest is dropped up to the next idle mark"
-pub dropping-runs : (bs : List ℕ) (l : Line) → run bs (startDropping l) ≡ quiet (startDropping l)
-unfolding run told onHostByte heardAt onHeard startDropping
+pub dropping-runs : (bs : List ℕ) (l : Line) → hearing bs (startDropping l) ≡ quiet (startDropping l)
+unfolding hearing upFirst onHostByte heardAt onHeard startDropping
 dropping-runs [] l = refl
 dropping-runs (b ∷ bs) l = dropping-runs bs l
 
 -- "Any byte that breaks these forms is damage, found at that byte"
-pub damage-runs : (p : List ℕ) (x : ℕ) (q : List ℕ) (l : Line) → T (isBeginning p) → judged p x ≡ Damage → run (p ++ x ∷ q) (atStart l) ≡ quiet (startDropping l)
-damage-runs p x q l t e = beginning-runs p (x ∷ q) l t ∙ (unfold run told in rw heard (dropping-runs q l))
+pub damage-runs : (p : List ℕ) (x : ℕ) (q : List ℕ) (l : Line) → T (isBeginning p) → judged p x ≡ Damage → hearing (p ++ x ∷ q) (atStart l) ≡ quiet (startDropping l)
+damage-runs p x q l t e = beginning-runs p (x ∷ q) l t ∙ (unfold hearing upFirst in rw heard (dropping-runs q l))
   where
     heard : onHostByte x (gathering p l) ≡ still (startDropping l)
     heard = unfold gathering startDropping in damage-keeps x (receiving p false l) e
 
 -- ---- a whole data frame
 -- what a byte heard so does, and nothing else
-abbrev pub alone : Moved → Run
-alone v = record { sent = v .sent; ups = told (v .up) []; line = v .line }
+abbrev pub alone : Moved → Hearing
+alone v = record { sent = v .sent; ups = upFirst (v .up) []; line = v .line }
 
-one-runs : (x : ℕ) (l : Line) → run (x ∷ []) l ≡ alone (onHostByte x l)
-unfolding run
+one-runs : (x : ℕ) (l : Line) → hearing (x ∷ []) l ≡ alone (onHostByte x l)
+unfolding hearing
 one-runs x l = simp append-nil
 
 -- the bytes of a data frame but the last
@@ -79,9 +79,9 @@ frame-heard p x c n l e = rw e
 
 -- bytes that read as a data frame: what the last one's case does, and nothing before it
 pub reading-heard : (f : List ℕ) (c : ℕ) (m : List ℕ) (r : ReadsAs f c m) (l : Line) → l ≡ atStart l
-    → run f l ≡ alone (onHeard (caseOfData c (suc (length m)) (l .expected) (isEmpty (l .outstanding))) (r .last) (gathering (r .before) l))
+    → hearing f l ≡ alone (onHeard (caseOfData c (suc (length m)) (l .expected) (isEmpty (l .outstanding))) (r .last) (gathering (r .before) l))
 reading-heard f c m r l s =
-    ap (run f) s ∙ ap (λ (b : List ℕ). run b (atStart l)) (r .bytes) ∙ beginning-runs (r .before) (r .last ∷ []) l (r .gathered)
+    ap (hearing f) s ∙ ap (λ (b : List ℕ). hearing b (atStart l)) (r .bytes) ∙ beginning-runs (r .before) (r .last ∷ []) l (r .gathered)
     ∙ one-runs (r .last) (gathering (r .before) l) ∙ ap alone (frame-heard (r .before) (r .last) c (suc (length m)) l (r .ends))
 
 -- "Each data frame we send reads back, by the host's rules, to its one message and count bit": a frame that is built reads as what it was built of
@@ -98,7 +98,7 @@ frame-reads c m h =
 
 -- so a frame that is built is heard
 pub sound-heard : (c : ℕ) (m : List ℕ) (l : Line) → length m ≤ 254 → l ≡ atStart l
-    → run (dataFrame c m) l ≡ alone (onHeard (caseOfData c (suc (length m)) (l .expected) (isEmpty (l .outstanding))) 0x16 (gathering (front c m) l))
+    → hearing (dataFrame c m) l ≡ alone (onHeard (caseOfData c (suc (length m)) (l .expected) (isEmpty (l .outstanding))) 0x16 (gathering (front c m) l))
 unfolding frame-reads
 sound-heard c m l h s = reading-heard (dataFrame c m) c m (frame-reads c m h) l s
 
@@ -137,35 +137,35 @@ module _ (c n : ℕ) where
   other-case false free p q = simp (ne-eqb c 0x73 p, ne-eqb c 0x53 q)
 
 module _ (c : ℕ) (m : List ℕ) (l : Line) (short : length m ≤ 254) (start : l ≡ atStart l) where
-  heard-as : (h : Heard) → caseOfData c (suc (length m)) (l .expected) (isEmpty (l .outstanding)) ≡ h → run (dataFrame c m) l ≡ alone (onHeard h 0x16 (gathering (front c m) l))
+  heard-as : (h : Heard) → caseOfData c (suc (length m)) (l .expected) (isEmpty (l .outstanding)) ≡ h → hearing (dataFrame c m) l ≡ alone (onHeard h 0x16 (gathering (front c m) l))
   heard-as h e = rw (← e) (sound-heard c m l short start)
 
-  ignored : caseOfData c (suc (length m)) (l .expected) (isEmpty (l .outstanding)) ≡ Ignored → run (dataFrame c m) l ≡ quiet l
-  ignored e = heard-as Ignored e ∙ (unfold onHeard told gathering atStart in ap quiet (sym start))
+  ignored : caseOfData c (suc (length m)) (l .expected) (isEmpty (l .outstanding)) ≡ Ignored → hearing (dataFrame c m) l ≡ quiet l
+  ignored e = heard-as Ignored e ∙ (unfold onHeard upFirst gathering atStart in ap quiet (sym start))
 
   carried-out : alone (onHeard (Request (suc (length m))) 0x16 (gathering (front c m) l)) ≡ record { sent = acknowledgement; ups = message m ∷ []; line = expecting (not (l .expected)) l }
-  unfolding onHeard told gathering atStart
+  unfolding onHeard upFirst gathering atStart
   carried-out =
       let carried : messageOf (front c m ++ 0x16 ∷ []) ≡ m = ap messageOf (sym (frame-but-last c m)) ∙ frame-message c m in
       λ i. record { sent = acknowledgement; ups = message (carried i) ∷ []; line = expecting (not (l .expected)) (sym start i) }
 
   -- "Expected count bit, nothing outstanding: E5, bit flips, message carried out"
   pub request-heard : c ≡ hostControl (l .expected) → isEmpty (l .outstanding) ≡ true
-      → run (dataFrame c m) l ≡ record { sent = acknowledgement; ups = message m ∷ []; line = expecting (not (l .expected)) l }
+      → hearing (dataFrame c m) l ≡ record { sent = acknowledgement; ups = message m ∷ []; line = expecting (not (l .expected)) l }
   request-heard e o = heard-as (Request (suc (length m))) (rw o (request-case c (suc (length m)) (l .expected) e)) ∙ carried-out
 
   -- "Expected bit, something outstanding: dropped, unanswered, bit kept"
-  pub waiting-unheard : c ≡ hostControl (l .expected) → isEmpty (l .outstanding) ≡ false → run (dataFrame c m) l ≡ quiet l
+  pub waiting-unheard : c ≡ hostControl (l .expected) → isEmpty (l .outstanding) ≡ false → hearing (dataFrame c m) l ≡ quiet l
   waiting-unheard e o = ignored (rw o (waiting-case c (suc (length m)) (l .expected) e))
 
   -- "Other bit: E5, message dropped."
-  pub repeat-heard : c ≡ hostControl (not (l .expected)) → run (dataFrame c m) l ≡ record { sent = acknowledgement; ups = []; line = l }
+  pub repeat-heard : c ≡ hostControl (not (l .expected)) → hearing (dataFrame c m) l ≡ record { sent = acknowledgement; ups = []; line = l }
   repeat-heard e =
       heard-as Repeat (repeat-case c (suc (length m)) (l .expected) (isEmpty (l .outstanding)) e)
-      ∙ (unfold onHeard told gathering atStart in ap (λ (k : Line). record { sent = acknowledgement; ups = []; line = k }) (sym start))
+      ∙ (unfold onHeard upFirst gathering atStart in ap (λ (k : Line). record { sent = acknowledgement; ups = []; line = k }) (sym start))
 
   -- "A sound frame with another control byte is ignored, unanswered."
-  pub other-ignored : c ≢ 0x73 → c ≢ 0x53 → run (dataFrame c m) l ≡ quiet l
+  pub other-ignored : c ≢ 0x73 → c ≢ 0x53 → hearing (dataFrame c m) l ≡ quiet l
   other-ignored p q = ignored (other-case c (suc (length m)) (l .expected) (isEmpty (l .outstanding)) p q)
 
 -- ---- idle marks
@@ -186,11 +186,11 @@ unfolding delivered onIdleMark
 failing-nothing bs l f s = rw s (go f)
   where
     go : Fails bs → delivered bs (atStart l) ≡ quiet (atStart l)
-    go (stops t) = rw (← append-nil bs, beginning-runs bs [] l t) (unfold run atStart gathering in refl)
+    go (stops t) = rw (← append-nil bs, beginning-runs bs [] l t) (unfold hearing atStart gathering in refl)
     go (breaks p x q e t d) = rw (e, damage-runs p x q l t d) (unfold atStart startDropping in refl)
 
 -- "E5: acknowledgement. Clears the outstanding frame and flips the send bit; with nothing outstanding it is ignored."
-abbrev pub acknowledges : Line → Run
+abbrev pub acknowledges : Line → Hearing
 acknowledges l =
     record {
       sent = [];
@@ -199,11 +199,11 @@ acknowledges l =
     }
 
 -- what one byte did, and what those behind it did
-abbrev before : Moved → Run → Run
-before v r = record { sent = v .sent ++ r .sent; ups = told (v .up) (r .ups); line = r .line }
+abbrev before : Moved → Hearing → Hearing
+before v r = record { sent = v .sent ++ r .sent; ups = upFirst (v .up) (r .ups); line = r .line }
 
 first-delivered : (b : ℕ) (bs : List ℕ) (l : Line) (v : Moved) → onHostByte b l ≡ v → delivered (b ∷ bs) l ≡ before v (delivered bs (v .line))
-unfolding delivered run
+unfolding delivered hearing
 first-delivered b bs l v e = ap (λ (w : Moved). before w (delivered bs (w .line))) e
 
 E5-heard : (l : Line) → onHostByte 0xE5 (atStart l) ≡ onHeard (caseOfAcknowledgement (isEmpty (l .outstanding))) 0xE5 (atStart l)
@@ -228,7 +228,7 @@ module _ (l : Line) (start : l ≡ atStart l) where
 
   -- an E5 before bytes that do nothing where nothing is outstanding
   E5-first : (bs : List ℕ) → ((k : Line) → k ≡ atStart k → isEmpty (k .outstanding) ≡ true → delivered bs k ≡ quiet k) → delivered (0xE5 ∷ bs) l ≡ acknowledges l
-  unfolding told
+  unfolding upFirst
   E5-first bs h = go (isEmpty (l .outstanding)) refl
     where
       go : (u : Bool) → isEmpty (l .outstanding) ≡ u → delivered (0xE5 ∷ bs) l ≡ acknowledges l

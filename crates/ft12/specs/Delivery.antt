@@ -13,8 +13,8 @@ use Rattle.ft12.specs.Record.{Line}
 use Rattle.ft12.specs.Rules.{Up, nothing, acknowledged, dropped, reset, message, onHostByte, onIdleMark}
 
 -- ---- reading a frame
--- From a frame start the bytes f, one by one, are one whole data frame with this control byte and message: each byte but the last asks for more, and the
--- last ends it.
+-- From a frame start the bytes f, one by one, are one whole data frame with this control byte and message: each byte
+-- but the last asks for more, and the last ends it.
 pub record ReadsAs (f : List ℕ) (c : ℕ) (m : List ℕ) : Type 0 where
   pub before : List ℕ
   pub last : ℕ
@@ -49,26 +49,26 @@ Possible f (lost k) = k < length f
 
 -- ---- host bytes one after the other
 -- all that was sent, all that was handed up, and the line after them
-pub record Run : Type 0 where
+pub record Hearing : Type 0 where
   pub sent : List ℕ
   pub ups : List Up
   pub line : Line
 
 -- what is handed up in front of what is handed up later
-unfoldable pub told : Up → List Up → List Up
-told nothing us = us
-told acknowledged us = acknowledged ∷ us
-told dropped us = dropped ∷ us
-told reset us = reset ∷ us
-told (message m) us = message m ∷ us
+unfoldable pub upFirst : Up → List Up → List Up
+upFirst nothing us = us
+upFirst acknowledged us = acknowledged ∷ us
+upFirst dropped us = dropped ∷ us
+upFirst reset us = reset ∷ us
+upFirst (message m) us = message m ∷ us
 
-unfoldable pub run : List ℕ → Line → Run
-run [] l = record { sent = []; ups = []; line = l }
-run (b ∷ bs) l =
+unfoldable pub hearing : List ℕ → Line → Hearing
+hearing [] l = record { sent = []; ups = []; line = l }
+hearing (b ∷ bs) l =
     let v = onHostByte b l in
-    let r = run bs (v .line) in
-    record { sent = v .sent ++ r .sent; ups = told (v .up) (r .ups); line = r .line }
+    let r = hearing bs (v .line) in
+    record { sent = v .sent ++ r .sent; ups = upFirst (v .up) (r .ups); line = r .line }
 
 -- bytes, and the idle mark behind them
-unfoldable pub delivered : List ℕ → Line → Run
-delivered bs l = record { sent = run bs l .sent; ups = run bs l .ups; line = onIdleMark (run bs l .line) .line }
+unfoldable pub delivered : List ℕ → Line → Hearing
+delivered bs l = record { sent = hearing bs l .sent; ups = hearing bs l .ups; line = onIdleMark (hearing bs l .line) .line }

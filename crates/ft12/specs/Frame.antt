@@ -24,7 +24,8 @@ total (x ∷ xs) = x + total xs
 unfoldable pub checksum : List ℕ → ℕ
 checksum s = total s % 256
 
--- "Data frame: 68 L L 68, control, data, checksum, 16. L from 1 to 255 counts control and data; so a message has at most 254 bytes and a frame 261."
+-- "Data frame: 68 L L 68, control, data, checksum, 16. L from 1 to 255 counts control and data; so a message has at
+-- most 254 bytes and a frame 261."
 abbrev pub longestMessage : ℕ
 longestMessage = 254
 

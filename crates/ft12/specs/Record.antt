@@ -71,11 +71,13 @@ hostControl odd = if odd then 0x73 else 0x53
 unfoldable pub serverControl : Bool → ℕ
 serverControl odd = if odd then 0xF3 else 0xD3
 
--- "It is in range when the receiver bytes are a beginning, not the whole, of some sound frame, or none while the receiver drops"
+-- "It is in range when the receiver bytes are a beginning, not the whole, of some sound frame, or none while the
+-- receiver drops"
 unfoldable pub receiverOk : Bool → List ℕ → Bool
 receiverOk dropping gathered = if dropping then isEmpty gathered else isBeginning gathered
 
--- "either nothing is outstanding and the count is 0, or a whole server data frame is, under the send bit, with a count of 0 to 3"
+-- "either nothing is outstanding and the count is 0, or a whole server data frame is, under the send bit, with a
+-- count of 0 to 3"
 unfoldable pub outstandingOk : Bool → ℕ → List ℕ → Bool
 outstandingOk send resends outstanding =
     if isEmpty outstanding then eqb resends 0

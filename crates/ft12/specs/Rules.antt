@@ -1,5 +1,6 @@
--- The link rules of the server end. "The link rules know nothing of datapoints: the link hands up a message and takes one back." It also tells
--- when the outstanding frame was acknowledged, when it was dropped and when the host asked for a reset; none of the three touches a table.
+-- The link rules of the server end. "The link rules know nothing of datapoints: the link hands up a message and takes
+-- one back." It also tells when the outstanding frame was acknowledged, when it was dropped and when the host asked
+-- for a reset; none of the three touches a table.
 use Prim.Native.Nat.{ℕ, _+_}
 use mathlib.Core.Path.{_≡_}
 use mathlib.Core.Bool.{Bool, true, false, not, _||_}
@@ -9,7 +10,8 @@ use lib.Dec.{ltb, eqb}
 use Rattle.ft12.specs.declared.receiver.Judgement.{Judgement}
 use Rattle.ft12.specs.declared.receiver.Judgement.the-variants.{More, Damage, Acknowledgement, Fixed, Data}
 use Rattle.ft12.specs.declared.rules.Heard.{Heard}
-use Rattle.ft12.specs.declared.rules.Heard.the-variants.{Gathered, Dropped, Ignored, Acknowledged, Reset, Repeat, Request}
+use Rattle.ft12.specs.declared.rules.Heard.the-variants.{Gathered, Dropped, Ignored, Acknowledged, Reset}
+use Rattle.ft12.specs.declared.rules.Heard.the-variants.{Repeat, Request}
 use Rattle.words.specs.Words.{if_then_else_, isEmpty}
 use Rattle.ft12.specs.Frame.{acknowledgement, fixedFrame, dataFrame, longestMessage, messageOf}
 use Rattle.ft12.specs.Receiver.{judged}
@@ -17,8 +19,8 @@ use Rattle.ft12.specs.Record.{Line, lineOf, linkOf, hostControl, serverC
 use Rattle.ft12.specs.declared.record.Link.{Link}
 use Rattle.ft12.specs.declared.rules.Bits.{Bits}
 
--- what the link hands up: nothing, that the outstanding frame was acknowledged, that it was dropped after its last wait, that the host asked for a reset
--- (which drops it too), or a message to be carried out
+-- what the link hands up: nothing, that the outstanding frame was acknowledged, that it was dropped after its last
+-- wait, that the host asked for a reset (which drops it too), or a message to be carried out
 pub data Up : Type 0 where
   nothing : Up
   acknowledged : Up
@@ -50,7 +52,8 @@ startDropping l = receiving [] true l
 unfoldable pub gathering : List ℕ → Line → Line
 gathering g l = receiving g false l
 
--- nothing outstanding any more, and this send bit: "one that is cleared or dropped leaves count 0 and none of its bytes"
+-- nothing outstanding any more, and this send bit: "one that is cleared or dropped leaves count 0 and none of its
+-- bytes"
 unfoldable pub cleared : Bool → Line → Line
 cleared send l = record { gathered = l .gathered; dropping = l .dropping; expected = l .expected; send = send; outstanding = []; resends = 0 }
 
@@ -71,8 +74,9 @@ caseOfAcknowledgement free = if free then Ignored else Acknowledged
 unfoldable pub caseOfFixed : ℕ → Heard
 caseOfFixed c = if eqb c 0x40 then Reset else Ignored
 
--- "Expected count bit, nothing outstanding: [..] carried out [..]. Expected bit, something outstanding: dropped, unanswered, bit kept (build).
--- Other bit: E5, message dropped." "A sound frame with another control byte is ignored, unanswered."
+-- "Expected count bit, nothing outstanding: [..] carried out [..]. Expected bit, something outstanding: dropped,
+-- unanswered, bit kept (build). Other bit: E5, message dropped." "A sound frame with another control byte is ignored,
+-- unanswered."
 unfoldable pub caseOfData : ℕ → ℕ → Bool → Bool → Heard
 caseOfData c n expected free =
     if eqb c (hostControl expected) then (if free then Request n else Ignored)
@@ -89,9 +93,10 @@ caseOf (Data c n) expected free = caseOfData c n expected free
 unfoldable pub heardAt : ℕ → Line → Heard
 heardAt b l = if l .dropping then Dropped else caseOf (judged (l .gathered) b) (l .expected) (isEmpty (l .outstanding))
 
--- What each does. "After every idle mark, whole frame or acknowledgement the receiver is at a frame start"; damage: "the rest is dropped up to the next
--- idle mark". Acknowledgement: "Clears the outstanding frame and flips the send bit". Reset: "answered E5, both bits become odd, the outstanding frame is
--- dropped". A request: "E5, bit flips, message carried out".
+-- What each does. "After every idle mark, whole frame or acknowledgement the receiver is at a frame start"; damage:
+-- "the rest is dropped up to the next idle mark". Acknowledgement: "Clears the outstanding frame and flips the send
+-- bit". Reset: "answered E5, both bits become odd, the outstanding frame is dropped". A request: "E5, bit flips,
+-- message carried out".
 unfoldable pub onHeard : Heard → ℕ → Line → Moved
 onHeard Gathered b l = still (gathering (l .gathered ++ b ∷ []) l)
 onHeard Dropped b l = still (startDropping l)
@@ -114,7 +119,8 @@ bitsOf l = record { expected = l .expected; send = l .send; resends = l .resends
 abbrev pub BitsAfter : Heard → Bits → Bits → Type 0
 BitsAfter h before after = (l : Line) (b : ℕ) → bitsOf l ≡ before → bitsOf (onHeard h b l .line) ≡ after
 
--- a request's bytes stay in the receiver until its message was carried out, since the message stands among them; then an idle mark's work clears them
+-- a request's bytes stay in the receiver until its message was carried out, since the message stands among them; then
+-- an idle mark's work clears them
 unfoldable pub unread : Heard → List ℕ → Line → Line
 unread Gathered g l = l
 unread Dropped g l = l
@@ -130,20 +136,22 @@ afterHostByte b k = linkOf (unread (heardAt b (lineOf k)) (lineOf k .gathered) (
 
 -- ---- the other events
 
--- "An idle mark in mid-frame drops what was gathered. After every idle mark [..] the receiver is at a frame start; the mark alters nothing else."
+-- "An idle mark in mid-frame drops what was gathered. After every idle mark [..] the receiver is at a frame start;
+-- the mark alters nothing else."
 unfoldable pub onIdleMark : Line → Moved
 onIdleMark l = still (atStart l)
 
--- "outstanding frame sent again unaltered, three times at most. The fourth wait drops it, sends 10 C0 C0 16 and makes the send bit odd (build).
--- With nothing outstanding: nothing."
+-- "outstanding frame sent again unaltered, three times at most. The fourth wait drops it, sends 10 C0 C0 16 and makes
+-- the send bit odd (build). With nothing outstanding: nothing."
 unfoldable pub onAckWaitOver : Line → Moved
 onAckWaitOver l =
     if isEmpty (l .outstanding) then still l
     else if ltb (l .resends) 3 then record { sent = l .outstanding; up = nothing; line = holding (l .outstanding) (l .resends + 1) l }
     else record { sent = fixedFrame 0xC0; up = dropped; line = cleared true l }
 
--- A message is taken back: framed, sent and held as outstanding; "a new frame starts with count 0". No message is empty, and none is taken that is
--- above 254 bytes or comes while something is outstanding: nothing sent, nothing changed. The services and the server meet neither of the two.
+-- A message is taken back: framed, sent and held as outstanding; "a new frame starts with count 0". No message is
+-- empty, and none is taken that is above 254 bytes or comes while something is outstanding: nothing sent, nothing
+-- changed. The services and the server meet neither of the two.
 unfoldable pub onMessage : List ℕ → Line → Moved
 onMessage m l =
     if isEmpty m || ltb longestMessage (length m) || not (isEmpty (l .outstanding)) then still l

@@ -12,7 +12,8 @@ pub struct Link {
     pub expected: bool,
     // The count bit of the next data frame that the server sends, or of the outstanding one.
     pub send: bool,
-    // The bytes of the frame that waits for its acknowledgement, and how many they are: none where nothing is outstanding.
+    // The bytes of the frame that waits for its acknowledgement, and how many they are: none where nothing is
+    // outstanding.
     pub outstanding: [u8; 261],
     pub held: u16,
     // How often the outstanding frame was sent again.

@@ -1,5 +1,5 @@
-// Gathering entries into an answer: the core by value, and the two passes over a lent table. The first measures, and nothing is written before it is known
-// that all entries fit; the second builds.
+// Gathering entries into an answer: the core by value, and the two passes over a lent table. The first measures, and
+// nothing is written before it is known that all entries fit; the second builds.
 ghost use mathlib.Core.Path.{_≡_};
 ghost use mathlib.Core.Bool.{true};
 ghost use mathlib.Core.List.{_++_};
@@ -9,7 +9,9 @@ ghost use Rattle.baos.specs.Get.{itemEntry};
 ghost use Rattle.baos.specs.Datapoint.{datapointId, datapointOk};
 ghost use Rattle.baos.specs.Item.{itemId, itemOk};
 ghost use Rattle.baos.specs.Table.{place, tableOk};
-ghost use Rattle.baos.specs.Inner.Gather.{isBehind, isWithin, isWanted, entryOf, wideOf, leftOf, ended, withEntry, measured, walked, nothingGathered, datapointStep, itemStep, datapointsBuilt, datapointsLeft, itemsBuilt};
+ghost use Rattle.baos.specs.Inner.Gather.{isBehind, isWithin, isWanted, entryOf, wideOf, leftOf, ended, withEntry};
+ghost use Rattle.baos.specs.Inner.Gather.{measured, walked, nothingGathered, datapointStep, itemStep};
+ghost use Rattle.baos.specs.Inner.Gather.{datapointsBuilt, datapointsLeft, itemsBuilt};
 ghost use Rattle.baos.specs.Inner.Promise.{Written, WrittenWide, Answered};
 use baos::datapoint::Datapoint;
 use baos::inner::Gathered;
@@ -31,7 +33,8 @@ fn is_behind(w: Wanted, id: u16) -> bool
     w.end <= id as u32
 }
 
-// Whether the record is to be gathered. Its ID is in the range: the passes begin at the place of the first ID, and end behind the last.
+// Whether the record is to be gathered. Its ID is in the range: the passes begin at the place of the first ID, and
+// end behind the last.
 fn is_wanted(w: Wanted, d: Datapoint) -> bool
     requires { ⌜ (w .start ≤ d .id) × (d .id < w .end) ⌝ }
     ensures { λ r. ⌜ r ≡ isWanted w d ⌝ }
@@ -135,7 +138,8 @@ fn item_measured(w: Wanted, i: Item, g: Gathered) -> Gathered
 
 // The first pass over the datapoints, from the place of the first ID of the range on.
 pub fn measure_datapoints(table: &[Datapoint], from: usize, w: Wanted) -> Gathered
-    requires { ⌜ (tableOk 1000 datapointId datapointOk (now table) ≡ true) × (from ≡ place datapointId (w .start) (now table)) ⌝ }
+    requires { ⌜ (tableOk 1000 datapointId datapointOk (now table) ≡ true)
+        × (from ≡ place datapointId (w .start) (now table)) ⌝ }
     ensures { λ r. ⌜ r ≡ walked (datapointStep w) nothingGathered (drop from (now (table .entry))) ⌝ }
 {
     let mut g = Gathered {
@@ -177,9 +181,10 @@ pub fn measure_items(table: &[Item], from: usize, w: Wanted) -> Gathered
     g
 }
 
-// The second pass over the datapoints, from the place of the first ID of the range on: the entries go into the buffer at `at`, and each record is left as it
-// is after its entry was built. Answers where the entries end. A wanted record is read anew, so that the others are not copied, and stored before its entry is
-// built, so that only what is changed is stored. An entry that others follow is written with all of its value's memory, without a look at its size; all
+// The second pass over the datapoints, from the place of the first ID of the range on: the entries go into the buffer
+// at `at`, and each record is left as it is after its entry was built. Answers where the entries end. A wanted record
+// is read anew, so that the others are not copied, and stored before its entry is built, so that only what is changed
+// is stored. An entry that others follow is written with all of its value's memory, without a look at its size; all
 // entries together have `size` bytes.
 pub fn build_datapoints(
     table: &mut [Datapoint],
@@ -189,8 +194,13 @@ pub fn build_datapoints(
     at: usize,
     size: usize,
 ) -> usize
-    requires { ⌜ (tableOk 1000 datapointId datapointOk (now table) ≡ true) × (from ≡ place datapointId (w .start) (now table)) × (at + length (datapointsBuilt w (drop from (now table))) ≤ length (now out)) × (size ≡ length (datapointsBuilt w (drop from (now table)))) ⌝ }
-    ensures { λ r. ⌜ Answered (take from (now (table .entry)) ++ datapointsLeft w (drop from (now (table .entry)))) (now (out .entry)) at (datapointsBuilt w (drop from (now (table .entry)))) r (now (out .exit)) (now (table .exit)) ⌝ }
+    requires { ⌜ (tableOk 1000 datapointId datapointOk (now table) ≡ true)
+        × (from ≡ place datapointId (w .start) (now table))
+        × (at + length (datapointsBuilt w (drop from (now table))) ≤ length (now out))
+        × (size ≡ length (datapointsBuilt w (drop from (now table)))) ⌝ }
+    ensures { λ r. ⌜ Answered (take from (now (table .entry)) ++ datapointsLeft w
+        (drop from (now (table .entry)))) (now (out .entry)) at (datapointsBuilt w (drop from (now (table .entry)))) r
+        (now (out .exit)) (now (table .exit)) ⌝ }
 {
     let stop = at + size;
     let mut i = from;
@@ -218,7 +228,8 @@ pub fn build_datapoints(
 
 // The second pass over the items, which stay as they are.
 pub fn build_items(table: &[Item], from: usize, w: Wanted, out: &mut [u8], at: usize) -> usize
-    requires { ⌜ (tableOk 64 itemId itemOk (now table) ≡ true) × (from ≡ place itemId (w .start) (now table)) × (at + length (itemsBuilt w (drop from (now table))) ≤ length (now out)) ⌝ }
+    requires { ⌜ (tableOk 64 itemId itemOk (now table) ≡ true) × (from ≡ place itemId (w .start) (now table))
+        × (at + length (itemsBuilt w (drop from (now table))) ≤ length (now out)) ⌝ }
     ensures { λ r. ⌜ Written (now (out .entry)) at (itemsBuilt w (drop from (now (table .entry)))) r (now (out .exit)) ⌝ }
 {
     let mut i = from;

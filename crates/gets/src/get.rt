@@ -8,7 +8,8 @@ ghost use Rattle.baos.specs.Item.{itemId, itemOk};
 ghost use Rattle.baos.specs.Table.{datapointsOnly, itemsOnly, parametersOnly, tableOk};
 ghost use Rattle.baos.specs.Message.{subService, verdictOf};
 ghost use Rattle.baos.specs.Get.{getServerItem, getParameterByte};
-ghost use Rattle.baos.specs.Inner.Gather.{filterAsked, sizeAsked, wantedOf, requestFinding, gatheredVerdict, getDatapoints, parametersPresent};
+ghost use Rattle.baos.specs.Inner.Gather.{filterAsked, sizeAsked, wantedOf, requestFinding, gatheredVerdict};
+ghost use Rattle.baos.specs.Inner.Gather.{getDatapoints, parametersPresent};
 ghost use Rattle.baos.specs.Inner.Promise.{Written, Answered};
 use crate::gather::build_datapoints;
 use crate::gather::build_items;
@@ -146,7 +147,8 @@ fn parameters_present(count: usize, start: usize, number: usize) -> usize
 
 // GetParameterByte: the answer, into the buffer at `at`; answers where it ends.
 pub fn get_parameters(parameters: &[u8], m: &[u8], out: &mut [u8], at: usize) -> usize
-    requires { ⌜ (length (now parameters) ≤ 255) × (6 ≤ length (now m)) × (subService (now m) < 0x80) × (at + 254 ≤ length (now out)) ⌝ }
+    requires { ⌜ (length (now parameters) ≤ 255) × (6 ≤ length (now m)) × (subService (now m) < 0x80)
+        × (at + 254 ≤ length (now out)) ⌝ }
     ensures { λ r. ⌜ Written (now (out .entry)) at (getParameterByte (parametersOnly (now (parameters .entry))) (now (m .entry)) .says) r (now (out .exit)) ⌝ }
 {
     let v = request_verdict(m, false);
@@ -168,8 +170,8 @@ pub fn get_parameters(parameters: &[u8], m: &[u8], out: &mut [u8], at: usize) ->
     end + n
 }
 
-// GetDatapointDescription, or GetDatapointValue where values are asked for: the answer, into the buffer at `at`; answers where it ends. Nothing is written
-// before the first pass has found that all entries fit.
+// GetDatapointDescription, or GetDatapointValue where values are asked for: the answer, into the buffer at `at`;
+// answers where it ends. Nothing is written before the first pass has found that all entries fit.
 pub fn get_datapoints(
     table: &mut [Datapoint],
     m: &[u8],
@@ -177,9 +179,12 @@ pub fn get_datapoints(
     out: &mut [u8],
     at: usize,
 ) -> usize
-    requires { ⌜ (tableOk 1000 datapointId datapointOk (now table) ≡ true) × (6 ≤ length (now m)) × (subService (now m) < 0x80) × (at + 254 ≤ length (now out)) ⌝ }
-    ensures { λ r. ⌜ Answered (getDatapoints values (datapointsOnly (now (table .entry))) (now (m .entry)) .after .datapoints)
-        (now (out .entry)) at (getDatapoints values (datapointsOnly (now (table .entry))) (now (m .entry)) .says) r (now (out .exit)) (now (table .exit)) ⌝ }
+    requires { ⌜ (tableOk 1000 datapointId datapointOk (now table) ≡ true) × (6 ≤ length (now m))
+        × (subService (now m) < 0x80) × (at + 254 ≤ length (now out)) ⌝ }
+    ensures { λ r. ⌜ Answered (getDatapoints values
+        (datapointsOnly (now (table .entry))) (now (m .entry)) .after .datapoints)
+        (now (out .entry)) at (getDatapoints values (datapointsOnly (now (table .entry))) (now (m .entry)) .says) r
+        (now (out .exit)) (now (table .exit)) ⌝ }
 {
     let v = request_verdict(m, values);
     if v.code != NO_ERROR {
@@ -198,7 +203,8 @@ pub fn get_datapoints(
 
 // GetServerItem: the answer, into the buffer at `at`; answers where it ends.
 pub fn get_items(table: &[Item], m: &[u8], out: &mut [u8], at: usize) -> usize
-    requires { ⌜ (tableOk 64 itemId itemOk (now table) ≡ true) × (6 ≤ length (now m)) × (subService (now m) < 0x80) × (at + 254 ≤ length (now out)) ⌝ }
+    requires { ⌜ (tableOk 64 itemId itemOk (now table) ≡ true) × (6 ≤ length (now m)) × (subService (now m) < 0x80)
+        × (at + 254 ≤ length (now out)) ⌝ }
     ensures { λ r. ⌜ Written (now (out .entry)) at (getServerItem (itemsOnly (now (table .entry))) (now (m .entry)) .says) r (now (out .exit)) ⌝ }
 {
     let v = request_verdict(m, false);

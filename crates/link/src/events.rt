@@ -1,4 +1,5 @@
-// The events on the link record, lent by the serial loop and changed there: each takes the record apart and leaves the work to its parts.
+// The events on the link record, lent by the serial loop and changed there: each takes the record apart and leaves
+// the work to its parts.
 ghost use mathlib.Core.Path.{_≡_};
 ghost use Prim.Native.Nat.{_+_, _≤_};
 ghost use lib.ListN.{length, take, drop};
@@ -13,7 +14,8 @@ use crate::parts::message_at;
 use ft12::record::Link;
 use ft12::rules::Heard;
 
-// A host byte. Where it ends a request, its message stands among the receiver's bytes, from place 5 on, L - 1 bytes long, until `idle_mark` clears them.
+// A host byte. Where it ends a request, its message stands among the receiver's bytes, from place 5 on, L - 1 bytes
+// long, until `idle_mark` clears them.
 pub fn host_byte(link: &mut Link, b: u8) -> Heard
     requires { ⌜ T (inRange (now link)) ⌝ }
     ensures { λ r. ⌜ HostByteHeard (now (link .entry)) b r (now (link .exit)) ⌝ }
@@ -66,10 +68,13 @@ pub fn ack_wait_over(link: &mut Link, out: &mut [u8]) -> usize
     )
 }
 
-// A message is taken back: its n bytes stand in the buffer from at + 5 on. Answers how many bytes from `at` on are to be sent.
+// A message is taken back: its n bytes stand in the buffer from at + 5 on. Answers how many bytes from `at` on are to
+// be sent.
 pub fn take_message(link: &mut Link, out: &mut [u8], at: usize, n: usize) -> usize
     requires { ⌜ T (inRange (now link)) × (at ≤ 1) × (262 ≤ length (now out)) ⌝ }
-    ensures { λ r. ⌜ MessageTaken (take n (drop (at + 5) (now (out .entry)))) (now (link .entry)) (now (out .entry)) at r (now (out .exit)) (now (link .exit)) ⌝ }
+    ensures { λ r. ⌜ MessageTaken (take n
+        (drop (at + 5) (now (out .entry)))) (now (link .entry)) (now (out .entry)) at r
+        (now (out .exit)) (now (link .exit)) ⌝ }
 {
     message_at(
         &mut link.receiver,

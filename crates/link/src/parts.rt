@@ -26,7 +26,9 @@ use words::bytes::put_bytes;
 // No byte in the receiver any more.
 fn empty_receiver(receiver: &mut [u8; 260], received: &mut u16)
     requires { ⌜ now received ≤ 260 ⌝ }
-    ensures { λ _. ⌜ (now (receiver .exit) ≡ replicate (now (received .entry)) 0 ++ drop (now (received .entry)) (now (receiver .entry))) × (now (received .exit) ≡ 0) ⌝ }
+    ensures { λ _. ⌜ (now (receiver .exit)
+        ≡ replicate (now (received .entry)) 0 ++ drop (now (received .entry)) (now (receiver .entry)))
+        × (now (received .exit) ≡ 0) ⌝ }
 {
     let n = *received as usize;
     blank(receiver, n);
@@ -36,7 +38,9 @@ fn empty_receiver(receiver: &mut [u8; 260], received: &mut u16)
 // Nothing outstanding any more.
 fn clear_outstanding(outstanding: &mut [u8; 261], held: &mut u16)
     requires { ⌜ now held ≤ 261 ⌝ }
-    ensures { λ _. ⌜ (now (outstanding .exit) ≡ replicate (now (held .entry)) 0 ++ drop (now (held .entry)) (now (outstanding .entry))) × (now (held .exit) ≡ 0) ⌝ }
+    ensures { λ _. ⌜ (now (outstanding .exit)
+        ≡ replicate (now (held .entry)) 0 ++ drop (now (held .entry)) (now (outstanding .entry)))
+        × (now (held .exit) ≡ 0) ⌝ }
 {
     let n = *held as usize;
     blank(outstanding, n);
@@ -56,7 +60,8 @@ pub fn host_byte_at(
     b: u8,
 ) -> Heard
     requires { ⌜ T (inRange (linkWith (now receiver) (now received) (now dropping) (now expected) (now send) (now outstanding) (now held) (now resends))) ⌝ }
-    ensures { λ r. ⌜ HostByteHeard (linkWith (now (receiver .entry)) (now (received .entry)) (now (dropping .entry)) (now (expected .entry)) (now (send .entry)) (now (outstanding .entry)) (now (held .entry)) (now (resends .entry))) b r
+    ensures { λ r. ⌜ HostByteHeard
+        (linkWith (now (receiver .entry)) (now (received .entry)) (now (dropping .entry)) (now (expected .entry)) (now (send .entry)) (now (outstanding .entry)) (now (held .entry)) (now (resends .entry))) b r
         (linkWith (now (receiver .exit)) (now (received .exit)) (now (dropping .exit)) (now (expected .exit)) (now (send .exit)) (now (outstanding .exit)) (now (held .exit)) (now (resends .exit))) ⌝ }
 {
     if *dropping {
@@ -122,7 +127,8 @@ pub fn idle_mark_at(
 )
     requires { ⌜ T (inRange (linkWith (now receiver) (now received) (now dropping) (now expected) (now send) (now outstanding) (now held) (now resends))) ⌝ }
     ensures { λ _. ⌜ linkWith (now (receiver .exit)) (now (received .exit)) (now (dropping .exit)) (now (expected .exit)) (now (send .exit)) (now (outstanding .exit)) (now (held .exit)) (now (resends .exit))
-        ≡ linkOf (onIdleMark (lineOf (linkWith (now (receiver .entry)) (now (received .entry)) (now (dropping .entry)) (now (expected .entry)) (now (send .entry)) (now (outstanding .entry)) (now (held .entry)) (now (resends .entry)))) .line) ⌝ }
+        ≡ linkOf (onIdleMark (lineOf
+        (linkWith (now (receiver .entry)) (now (received .entry)) (now (dropping .entry)) (now (expected .entry)) (now (send .entry)) (now (outstanding .entry)) (now (held .entry)) (now (resends .entry)))) .line) ⌝ }
 {
     empty_receiver(receiver, received);
     *dropping = false;
@@ -149,7 +155,8 @@ pub fn ack_wait_over_at(
     out: &mut [u8],
 ) -> usize
     requires { ⌜ T (inRange (linkWith (now receiver) (now received) (now dropping) (now expected) (now send) (now outstanding) (now held) (now resends))) × (262 ≤ length (now out)) ⌝ }
-    ensures { λ r. ⌜ AckWaited (linkWith (now (receiver .entry)) (now (received .entry)) (now (dropping .entry)) (now (expected .entry)) (now (send .entry)) (now (outstanding .entry)) (now (held .entry)) (now (resends .entry))) (now (out .entry)) r (now (out .exit))
+    ensures { λ r. ⌜ AckWaited
+        (linkWith (now (receiver .entry)) (now (received .entry)) (now (dropping .entry)) (now (expected .entry)) (now (send .entry)) (now (outstanding .entry)) (now (held .entry)) (now (resends .entry))) (now (out .entry)) r (now (out .exit))
         (linkWith (now (receiver .exit)) (now (received .exit)) (now (dropping .exit)) (now (expected .exit)) (now (send .exit)) (now (outstanding .exit)) (now (held .exit)) (now (resends .exit))) ⌝ }
 {
     if *held == 0 {
@@ -177,8 +184,9 @@ fn keep_frame(outstanding: &mut [u8; 261], out: &[u8], at: usize, size: usize)
     put_bytes(outstanding, 0, &out[at..end]);
 }
 
-// A message is taken back, on the record's parts: the n bytes that stand in the buffer from at + 5 on are framed where they stand, and the frame is
-// held as outstanding. Nothing, above 254 bytes or while something is outstanding: nothing is sent.
+// A message is taken back, on the record's parts: the n bytes that stand in the buffer from at + 5 on are framed
+// where they stand, and the frame is held as outstanding. Nothing, above 254 bytes or while something is outstanding:
+// nothing is sent.
 pub fn message_at(
     receiver: &mut [u8; 260],
     received: &mut u16,
@@ -193,7 +201,8 @@ pub fn message_at(
     n: usize,
 ) -> usize
     requires { ⌜ T (inRange (linkWith (now receiver) (now received) (now dropping) (now expected) (now send) (now outstanding) (now held) (now resends))) × (at ≤ 1) × (262 ≤ length (now out)) ⌝ }
-    ensures { λ r. ⌜ MessageTaken (take n (drop (at + 5) (now (out .entry)))) (linkWith (now (receiver .entry)) (now (received .entry)) (now (dropping .entry)) (now (expected .entry)) (now (send .entry)) (now (outstanding .entry)) (now (held .entry)) (now (resends .entry))) (now (out .entry)) at r (now (out .exit))
+    ensures { λ r. ⌜ MessageTaken (take n (drop (at + 5) (now (out .entry))))
+        (linkWith (now (receiver .entry)) (now (received .entry)) (now (dropping .entry)) (now (expected .entry)) (now (send .entry)) (now (outstanding .entry)) (now (held .entry)) (now (resends .entry))) (now (out .entry)) at r (now (out .exit))
         (linkWith (now (receiver .exit)) (now (received .exit)) (now (dropping .exit)) (now (expected .exit)) (now (send .exit)) (now (outstanding .exit)) (now (held .exit)) (now (resends .exit))) ⌝ }
 {
     if n == 0 {

@@ -28,7 +28,8 @@ fn is_receiver_ok(receiver: &[u8], n: usize, dropping: bool) -> bool
     false
 }
 
-// Whether nothing is outstanding, or n bytes that are a whole frame under the send bit, sent again three times at most, and the others are 0.
+// Whether nothing is outstanding, or n bytes that are a whole frame under the send bit, sent again three times at
+// most, and the others are 0.
 fn is_outstanding_ok(outstanding: &[u8], n: usize, send: bool, resends: u8) -> bool
     requires { ⌜ length (now outstanding) ≡ 261 ⌝ }
     ensures { λ r. ⌜ r ≡ (isPadded 261 n (now (outstanding .entry)) && outstandingOk send resends (take n (now (outstanding .entry)))) ⌝ }

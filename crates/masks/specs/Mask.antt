@@ -1,4 +1,5 @@
--- The unused bits of a record as masks over words of eight bytes. Inner contracts alone cite these; what a record has to be is said by its own test.
+-- The unused bits of a record as masks over words of eight bytes. Inner contracts alone cite these; what a record has
+-- to be is said by its own test.
 use Prim.Native.Nat.{ℕ, _+_, _-_, _*_, _^_}
 use mathlib.Core.Bool.{Bool, _&&_}
 use mathlib.Core.List.{List, [], _∷_}

@@ -10,7 +10,8 @@ use crate::mask::are_clear;
 use crate::mask::word8;
 use baos::datapoint::Datapoint;
 
-// The bits of a record's bytes 4 to 11 and 12 to 19 that have to be 0. One `match` gives both numbers: it is compiled to two tables, and no jump.
+// The bits of a record's bytes 4 to 11 and 12 to 19 that have to be 0. One `match` gives both numbers: it is compiled
+// to two tables, and no jump.
 fn unused_bits(typecode: u8) -> Masks
     requires { ⌜ typecode ≤ 14 ⌝ }
     ensures { λ r. ⌜ r ≡ datapointMasks typecode ⌝ }
@@ -80,7 +81,8 @@ fn unused_bits(typecode: u8) -> Masks
     }
 }
 
-// Whether the record may stand behind one with the ID `last`: a higher ID, and well formed. Two words of eight bytes against masks by type code.
+// Whether the record may stand behind one with the ID `last`: a higher ID, and well formed. Two words of eight bytes
+// against masks by type code.
 pub fn fits_after(d: Datapoint, last: u16) -> bool
     ensures { λ r. ⌜ r ≡ (ltb last (d .id) && datapointOk d) ⌝ }
 {
@@ -114,7 +116,8 @@ pub fn fits_after(d: Datapoint, last: u16) -> bool
     are_clear(m, low, high)
 }
 
-// Whether four records may stand one behind the other, the first behind one with the ID `last`. Four a turn: one loop's jump and count for four records.
+// Whether four records may stand one behind the other, the first behind one with the ID `last`. Four a turn: one
+// loop's jump and count for four records.
 pub fn four_fit_after(a: Datapoint, b: Datapoint, c: Datapoint, d: Datapoint, last: u16) -> bool
     ensures { λ r. ⌜ r ≡ (ltb last (a .id) && datapointOk a && (ltb (a .id) (b .id) && datapointOk b && (ltb (b .id) (c .id) && datapointOk c && (ltb (c .id) (d .id) && datapointOk d)))) ⌝ }
 {

@@ -9,7 +9,8 @@ pub struct Masks {
     pub high: u64,
 }
 
-// Eight bytes as a number, the first the lowest. Compiled to one load, where they lie side by side and nothing else reads one of them alone.
+// Eight bytes as a number, the first the lowest. Compiled to one load, where they lie side by side and nothing else
+// reads one of them alone.
 pub fn word8(b0: u8, b1: u8, b2: u8, b3: u8, b4: u8, b5: u8, b6: u8, b7: u8) -> u64
     ensures { λ r. ⌜ r ≡ word (b0 ∷ b1 ∷ b2 ∷ b3 ∷ b4 ∷ b5 ∷ b6 ∷ b7 ∷ []) ⌝ }
 {

@@ -82,10 +82,12 @@ pub fn put_answer_head(out: &mut [u8], at: usize, m: &[u8], count: u16) -> usize
     put_head(&mut *out, at, m[1] + ANSWER, start, count)
 }
 
-// What stands in front of an indication's entries, once they stand in the buffer from at + 6 on: its StartDatapoint is the first one's ID.
+// What stands in front of an indication's entries, once they stand in the buffer from at + 6 on: its StartDatapoint
+// is the first one's ID.
 pub fn put_indication_head(out: &mut [u8], at: usize, count: u16)
     requires { ⌜ at + 8 ≤ length (now out) ⌝ }
-    ensures { λ _. ⌜ now (out .exit) ≡ put (now (out .entry)) at (0xF0 ∷ 0xC1 ∷ getD (now (out .entry)) (at + 6) 0 ∷ getD (now (out .entry)) (at + 7) 0 ∷ twoBytes count) ⌝ }
+    ensures { λ _. ⌜ now (out .exit)
+        ≡ put (now (out .entry)) at (0xF0 ∷ 0xC1 ∷ getD (now (out .entry)) (at + 6) 0 ∷ getD (now (out .entry)) (at + 7) 0 ∷ twoBytes count) ⌝ }
 {
     let high = out[at + 6];
     let low = out[at + 7];

@@ -1,4 +1,5 @@
-// A datapoint record, by value: how it changes when its value is handed out or the bus has something for it, and which filters it passes.
+// A datapoint record, by value: how it changes when its value is handed out or the bus has something for it, and
+// which filters it passes.
 ghost use mathlib.Core.Path.{_≡_};
 ghost use mathlib.Core.Bool.{false};
 ghost use mathlib.Core.List.{[], _∷_};

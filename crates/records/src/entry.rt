@@ -37,7 +37,8 @@ pub fn put_description(out: &mut [u8], at: usize, d: Datapoint) -> usize
     at + 5
 }
 
-// The record's entry in a value answer or an indication, the state byte as it is, into the buffer at `at`; answers where it ends.
+// The record's entry in a value answer or an indication, the state byte as it is, into the buffer at `at`; answers
+// where it ends.
 pub fn put_value(out: &mut [u8], at: usize, d: Datapoint) -> usize
     requires { ⌜ (d .typecode ≤ 14) × (at + 4 + sizeOf (d .typecode) ≤ length (now out)) ⌝ }
     ensures { λ r. ⌜ Written (now (out .entry)) at (valueEntry d .bytes) r (now (out .exit)) ⌝ }
@@ -58,7 +59,8 @@ pub fn put_value(out: &mut [u8], at: usize, d: Datapoint) -> usize
     at + 4 + n
 }
 
-// The same where others follow, with all of the value's memory: no branch on its size. The next entry overwrites what is behind the value.
+// The same where others follow, with all of the value's memory: no branch on its size. The next entry overwrites what
+// is behind the value.
 pub fn put_wide_value(out: &mut [u8], at: usize, d: Datapoint) -> usize
     requires { ⌜ (d .typecode ≤ 14) × (at + 18 ≤ length (now out)) ⌝ }
     ensures { λ r. ⌜ WrittenWide (now (out .entry)) at (wideValue d) (valueEntry d .bytes) r (now (out .exit)) ⌝ }

@@ -15,8 +15,9 @@ use ft12::record::Link;
 use link::events::ack_wait_over;
 use link::events::idle_mark;
 
-// One event. Checks what is lent in every call: the refusals' numbers, the lowest first; then what the event does. Answers the refusal's number, with nothing
-// altered, or how many bytes of the output are to be sent. The value is that of a bus value event; other events ignore it.
+// One event. Checks what is lent in every call: the refusals' numbers, the lowest first; then what the event does.
+// Answers the refusal's number, with nothing altered, or how many bytes of the output are to be sent. The value is
+// that of a bus value event; other events ignore it.
 pub fn call(
     event: Event,
     value: &[u8],
@@ -26,8 +27,10 @@ pub fn call(
     link: &mut Link,
     out: &mut [u8],
 ) -> Reply
-    ensures { λ r. ⌜ Leaves (call event (now (value .entry)) (tablesOf (now (datapoints .entry)) (now (items .entry)) (now (parameters .entry))) (now (link .entry)) (now (out .entry))) r
-        (tablesOf (now (datapoints .exit)) (now (items .exit)) (now (parameters .entry))) (now (link .exit)) (now (out .exit)) ⌝ }
+    ensures { λ r. ⌜ Leaves (call event (now (value .entry))
+        (tablesOf (now (datapoints .entry)) (now (items .entry)) (now (parameters .entry))) (now (link .entry)) (now (out .entry))) r
+        (tablesOf (now (datapoints .exit)) (now (items .exit)) (now (parameters .entry))) (now (link .exit))
+        (now (out .exit)) ⌝ }
 {
     let outstanding = link.held != 0;
     let refusal = refusal_of(datapoints, items, parameters, outstanding, link, out.len());

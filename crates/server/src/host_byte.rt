@@ -23,7 +23,8 @@ use services::service::carry_out;
 // The acknowledgement, where one is due; answers how many bytes it has.
 fn acknowledge(heard: Heard, out: &mut [u8]) -> usize
     requires { ⌜ 262 ≤ length (now out) ⌝ }
-    ensures { λ r. ⌜ (now (out .exit) ≡ put (now (out .entry)) 0 (acknowledgementOf heard)) × (r ≡ length (acknowledgementOf heard)) ⌝ }
+    ensures { λ r. ⌜ (now (out .exit) ≡ put (now (out .entry)) 0 (acknowledgementOf heard))
+        × (r ≡ length (acknowledgementOf heard)) ⌝ }
 {
     match heard {
         Heard::Gathered => 0,
@@ -45,7 +46,8 @@ fn acknowledge(heard: Heard, out: &mut [u8]) -> usize
     }
 }
 
-// Where the request's message ends in the receiver: it begins at place 5 and has L - 1 bytes. 0 where there is no request.
+// Where the request's message ends in the receiver: it begins at place 5 and has L - 1 bytes. 0 where there is no
+// request.
 fn message_end(heard: Heard) -> usize
     ensures { λ r. ⌜ r ≡ messageEnd heard ⌝ }
 {
@@ -60,7 +62,8 @@ fn message_end(heard: Heard) -> usize
     }
 }
 
-// A host byte. A request's message is carried out where it stands in the receiver, and its answer is framed in the output right after the acknowledgement.
+// A host byte. A request's message is carried out where it stands in the receiver, and its answer is framed in the
+// output right after the acknowledgement.
 pub fn on_host_byte(
     b: u8,
     datapoints: &mut [Datapoint],
@@ -69,9 +72,12 @@ pub fn on_host_byte(
     link: &mut Link,
     out: &mut [u8],
 ) -> Reply
-    requires { ⌜ T (wellFormed (tablesOf (now datapoints) (now items) (now parameters))) × T (inRange (now link)) × (262 ≤ length (now out)) ⌝ }
-    ensures { λ r. ⌜ Leaves (accepted (now (out .entry)) (onMoved (onHostByte b (lineOf (now (link .entry)))) (tablesOf (now (datapoints .entry)) (now (items .entry)) (now (parameters .entry))))) r
-        (tablesOf (now (datapoints .exit)) (now (items .exit)) (now (parameters .entry))) (now (link .exit)) (now (out .exit)) ⌝ }
+    requires { ⌜ T (wellFormed (tablesOf (now datapoints) (now items) (now parameters))) × T (inRange (now link))
+        × (262 ≤ length (now out)) ⌝ }
+    ensures { λ r. ⌜ Leaves (accepted (now (out .entry)) (onMoved (onHostByte b (lineOf (now (link .entry))))
+        (tablesOf (now (datapoints .entry)) (now (items .entry)) (now (parameters .entry))))) r
+        (tablesOf (now (datapoints .exit)) (now (items .exit)) (now (parameters .entry))) (now (link .exit))
+        (now (out .exit)) ⌝ }
 {
     let heard = host_byte(link, b);
     let sent = acknowledge(heard, out);

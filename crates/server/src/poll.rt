@@ -15,10 +15,13 @@ use ft12::record::Link;
 use link::events::take_message;
 use services::indication::indicate;
 
-// A poll. With nothing outstanding, the indication is built in the output behind the room for its frame's head, and framed there.
+// A poll. With nothing outstanding, the indication is built in the output behind the room for its frame's head, and
+// framed there.
 pub fn on_poll(datapoints: &mut [Datapoint], link: &mut Link, out: &mut [u8]) -> Reply
-    requires { ⌜ (tableOk 1000 datapointId datapointOk (now datapoints) ≡ true) × T (inRange (now link)) × (262 ≤ length (now out)) ⌝ }
-    ensures { λ r. ⌜ Leaves (accepted (now (out .entry)) (onPoll (datapointsOnly (now (datapoints .entry))) (lineOf (now (link .entry))))) r
+    requires { ⌜ (tableOk 1000 datapointId datapointOk (now datapoints) ≡ true) × T (inRange (now link))
+        × (262 ≤ length (now out)) ⌝ }
+    ensures { λ r. ⌜ Leaves (accepted (now (out .entry)) (onPoll
+        (datapointsOnly (now (datapoints .entry))) (lineOf (now (link .entry))))) r
         (datapointsOnly (now (datapoints .exit))) (now (link .exit)) (now (out .exit)) ⌝ }
 {
     if link.held != 0 {

@@ -21,7 +21,8 @@ pub fn refusal_of(
     link: &Link,
     room: usize,
 ) -> u8
-    ensures { λ r. ⌜ r ≡ lentRefusal outstanding (tablesOf (now (datapoints .entry)) (now (items .entry)) (now (parameters .entry))) (now (link .entry)) room ⌝ }
+    ensures { λ r. ⌜ r ≡ lentRefusal outstanding
+        (tablesOf (now (datapoints .entry)) (now (items .entry)) (now (parameters .entry))) (now (link .entry)) room ⌝ }
 {
     if !tables_ok(datapoints, items, parameters, outstanding) {
         return TABLE_NOT_WELL_FORMED;

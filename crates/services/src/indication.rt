@@ -25,9 +25,9 @@ fn waits(d: Datapoint, end: usize, most: usize) -> bool
     most - end < 4 + size_of(d.typecode)
 }
 
-// The entries of the marked datapoints, into the buffer at `at`, until the next one does not fit; each record that is carried is left without its mark and
-// bit 3. One pass: what does not fit ends it, and nothing has to be taken back. A record is stored before its entry is built, so that only what is changed is
-// stored.
+// The entries of the marked datapoints, into the buffer at `at`, until the next one does not fit; each record that is
+// carried is left without its mark and bit 3. One pass: what does not fit ends it, and nothing has to be taken back.
+// A record is stored before its entry is built, so that only what is changed is stored.
 fn tell_marked(table: &mut [Datapoint], out: &mut [u8], at: usize) -> Told
     requires { ⌜ (tableOk 1000 datapointId datapointOk (now table) ≡ true) × (at + 248 ≤ length (now out)) ⌝ }
     ensures { λ r. ⌜ MarkedTold (now (table .entry)) (now (out .entry)) at r (now (out .exit)) (now (table .exit)) ⌝ }
@@ -61,7 +61,8 @@ fn tell_marked(table: &mut [Datapoint], out: &mut [u8], at: usize) -> Told
 pub fn indicate(table: &mut [Datapoint], out: &mut [u8], at: usize) -> usize
     requires { ⌜ (tableOk 1000 datapointId datapointOk (now table) ≡ true) × (at + 254 ≤ length (now out)) ⌝ }
     ensures { λ r. ⌜ Answered (indication (datapointsOnly (now (table .entry))) .after .datapoints)
-        (now (out .entry)) at (indication (datapointsOnly (now (table .entry))) .says) r (now (out .exit)) (now (table .exit)) ⌝ }
+        (now (out .entry)) at (indication (datapointsOnly (now (table .entry))) .says) r
+        (now (out .exit)) (now (table .exit)) ⌝ }
 {
     let told = tell_marked(table, out, at + MESSAGE_HEAD);
     if told.count == 0 {

@@ -51,8 +51,11 @@ pub fn carry_out(
     out: &mut [u8],
     at: usize,
 ) -> usize
-    requires { ⌜ (tableOk 1000 datapointId datapointOk (now datapoints) ≡ true) × (tableOk 64 itemId itemOk (now items) ≡ true) × (length (now parameters) ≤ 255) × (at + 254 ≤ length (now out)) × (length (now m) ≤ 254) ⌝ }
-    ensures { λ r. ⌜ Carried (carriedOut (tablesOf (now (datapoints .entry)) (now (items .entry)) (now (parameters .entry))) (now (m .entry)))
+    requires { ⌜ (tableOk 1000 datapointId datapointOk (now datapoints) ≡ true)
+        × (tableOk 64 itemId itemOk (now items) ≡ true) × (length (now parameters) ≤ 255)
+        × (at + 254 ≤ length (now out)) × (length (now m) ≤ 254) ⌝ }
+    ensures { λ r. ⌜ Carried (carriedOut
+        (tablesOf (now (datapoints .entry)) (now (items .entry)) (now (parameters .entry))) (now (m .entry)))
         (now (out .entry)) at r (now (out .exit)) (now (datapoints .exit)) (now (items .exit)) ⌝ }
 {
     if is_unanswered(m) {

@@ -8,17 +8,19 @@ ghost use lib.Dec.{eqb};
 ghost use Rattle.words.specs.Words.{if_then_else_, ofTwoBytes};
 ghost use Rattle.baos.specs.Datapoint.{datapointId, datapointOk};
 ghost use Rattle.baos.specs.Item.{itemId, itemOk};
-ghost use Rattle.baos.specs.Table.{datapointsOnly, itemsOnly, found, changed, place, rising, tableOk};
+ghost use Rattle.baos.specs.Table.{datapointsOnly, itemsOnly, found, changedAt, place, rising, tableOk};
 ghost use Rattle.baos.specs.Message.{subService, verdictOf};
-ghost use Rattle.baos.specs.Inner.Found.{foundEntries};
+ghost use Rattle.baos.specs.Inner.EntryPlaces.{entryPlaces};
 ghost use Rattle.baos.specs.Inner.Promise.{Answered, EntriesFound};
-ghost use Rattle.baos.specs.Set.{filledFinding, setDatapointValue, setServerItem, fills, span, firstDatapointEntry, firstItemEntry, judgedDatapoint, judgedItem, setDatapoint, setItem, setEntries, firstBad, applied, allShort};
+ghost use Rattle.baos.specs.Set.{filledFinding, setDatapointValue, setServerItem, fills, span, firstDatapointEntry};
+ghost use Rattle.baos.specs.Set.{firstItemEntry, judgedDatapoint, judgedItem, setDatapoint, setItem, setEntries};
+ghost use Rattle.baos.specs.Set.{firstBad, applied, allShort};
 use baos::code::BAD_ID;
 use baos::code::BAD_SERVICE_PARAMETER;
 use baos::code::MESSAGE_INCONSISTENT;
 use baos::code::NO_ERROR;
 use baos::datapoint::Datapoint;
-use baos::inner::Found;
+use baos::inner::EntryPlace;
 use baos::inner::Verdict;
 use baos::item::Item;
 use baos::service::DATAPOINT_ENTRY_HEAD;
@@ -79,7 +81,11 @@ fn entry_end(s: &[u8], at: usize, head: usize) -> usize
 // The ID of an entry with its code.
 fn verdict_at(s: &[u8], at: usize, code: u8) -> Verdict
     requires { ⌜ at + 2 ≤ length (now s) ⌝ }
-    ensures { λ r. ⌜ r ≡ record { id = ofTwoBytes (getD (drop at (now (s .entry))) 0 0) (getD (drop at (now (s .entry))) 1 0); code = code } ⌝ }
+    ensures { λ r. ⌜ r ≡ record {
+      id = ofTwoBytes (getD (drop at (now (s .entry))) 0 0) (getD
+          (drop at (now (s .entry))) 1 0);
+      code = code;
+    } ⌝ }
 {
     let id = entry_id(s, at);
     Verdict { id: id, code: code }
@@ -88,7 +94,8 @@ fn verdict_at(s: &[u8], at: usize, code: u8) -> Verdict
 // The code of an entry, judged by the datapoint that stands where its ID belongs: that may have another.
 fn datapoint_code_at(s: &[u8], at: usize, d: Datapoint) -> u8
     requires { ⌜ at + span 4 (drop at (now s)) ≤ length (now s) ⌝ }
-    ensures { λ r. ⌜ r ≡ judgedDatapoint (found datapointId (firstDatapointEntry (drop at (now (s .entry))) .id) (d ∷ [])) (firstDatapointEntry (drop at (now (s .entry)))) ⌝ }
+    ensures { λ r. ⌜ r ≡ judgedDatapoint (found datapointId (firstDatapointEntry
+        (drop at (now (s .entry))) .id) (d ∷ [])) (firstDatapointEntry (drop at (now (s .entry)))) ⌝ }
 {
     let id = entry_id(s, at);
     if d.id == id {
@@ -100,8 +107,11 @@ fn datapoint_code_at(s: &[u8], at: usize, d: Datapoint) -> u8
 
 // The datapoint that stands where an entry's ID belongs, once the entry is applied.
 fn datapoint_set_at(s: &[u8], at: usize, d: Datapoint) -> Datapoint
-    requires { ⌜ (at + span 4 (drop at (now s)) ≤ length (now s)) × (length (firstDatapointEntry (drop at (now s)) .value) ≤ 14) ⌝ }
-    ensures { λ r. ⌜ r ≡ (if eqb (d .id) (firstDatapointEntry (drop at (now (s .entry))) .id) then setDatapoint (firstDatapointEntry (drop at (now (s .entry)))) d else d) ⌝ }
+    requires { ⌜ (at + span 4 (drop at (now s)) ≤ length (now s))
+        × (length (firstDatapointEntry (drop at (now s)) .value) ≤ 14) ⌝ }
+    ensures { λ r. ⌜ r ≡ (if eqb (d .id) (firstDatapointEntry
+        (drop at (now (s .entry))) .id) then setDatapoint (firstDatapointEntry
+        (drop at (now (s .entry)))) d else d) ⌝ }
 {
     let id = entry_id(s, at);
     if d.id == id {
@@ -114,7 +124,9 @@ fn datapoint_set_at(s: &[u8], at: usize, d: Datapoint) -> Datapoint
 // The same for an entry with one byte of value, as most have: no copy.
 fn datapoint_byte_set_at(s: &[u8], at: usize, d: Datapoint) -> Datapoint
     requires { ⌜ (at + span 4 (drop at (now s)) ≤ length (now s)) × (getD (drop at (now s)) 3 0 ≡ 1) ⌝ }
-    ensures { λ r. ⌜ r ≡ (if eqb (d .id) (firstDatapointEntry (drop at (now (s .entry))) .id) then setDatapoint (firstDatapointEntry (drop at (now (s .entry)))) d else d) ⌝ }
+    ensures { λ r. ⌜ r ≡ (if eqb (d .id) (firstDatapointEntry
+        (drop at (now (s .entry))) .id) then setDatapoint (firstDatapointEntry
+        (drop at (now (s .entry)))) d else d) ⌝ }
 {
     let id = entry_id(s, at);
     if d.id == id {
@@ -126,7 +138,8 @@ fn datapoint_byte_set_at(s: &[u8], at: usize, d: Datapoint) -> Datapoint
 // The code of an entry, judged by the item that stands where its ID belongs.
 fn item_code_at(s: &[u8], at: usize, i: Item) -> u8
     requires { ⌜ at + span 3 (drop at (now s)) ≤ length (now s) ⌝ }
-    ensures { λ r. ⌜ r ≡ judgedItem (found itemId (firstItemEntry (drop at (now (s .entry))) .id) (i ∷ [])) (firstItemEntry (drop at (now (s .entry)))) ⌝ }
+    ensures { λ r. ⌜ r ≡ judgedItem (found itemId (firstItemEntry
+        (drop at (now (s .entry))) .id) (i ∷ [])) (firstItemEntry (drop at (now (s .entry)))) ⌝ }
 {
     let id = entry_id(s, at);
     if i.id == id {
@@ -138,8 +151,10 @@ fn item_code_at(s: &[u8], at: usize, i: Item) -> u8
 
 // The item that stands where an entry's ID belongs, once the entry is applied.
 fn item_set_at(s: &[u8], at: usize, i: Item) -> Item
-    requires { ⌜ (at + span 3 (drop at (now s)) ≤ length (now s)) × (length (firstItemEntry (drop at (now s)) .value) ≤ 16) ⌝ }
-    ensures { λ r. ⌜ r ≡ (if eqb (i .id) (firstItemEntry (drop at (now (s .entry))) .id) then setItem (firstItemEntry (drop at (now (s .entry)))) i else i) ⌝ }
+    requires { ⌜ (at + span 3 (drop at (now s)) ≤ length (now s))
+        × (length (firstItemEntry (drop at (now s)) .value) ≤ 16) ⌝ }
+    ensures { λ r. ⌜ r ≡ (if eqb (i .id) (firstItemEntry (drop at (now (s .entry))) .id) then setItem (firstItemEntry
+        (drop at (now (s .entry)))) i else i) ⌝ }
 {
     let id = entry_id(s, at);
     if i.id == id {
@@ -149,10 +164,11 @@ fn item_set_at(s: &[u8], at: usize, i: Item) -> Item
     i
 }
 
-// The entries of a request found, one after the other: whether n of them fill the message exactly. Each ID is searched here and nowhere else, while the next
-// entry's length is waited for.
-fn find_entries(table: &[Datapoint], m: &[u8], n: u16, entries: &mut [Found]) -> bool
-    requires { ⌜ (length (now table) ≤ 1000) × (rising 0 (map datapointId (now table)) ≡ true) × (6 ≤ length (now m)) × (length (now m) ≤ 254) × (62 ≤ length (now entries)) ⌝ }
+// The entries of a request found, one after the other: whether n of them fill the message exactly. Each ID is
+// searched here and nowhere else, while the next entry's length is waited for.
+fn find_entries(table: &[Datapoint], m: &[u8], n: u16, entries: &mut [EntryPlace]) -> bool
+    requires { ⌜ (length (now table) ≤ 1000) × (rising 0 (map datapointId (now table)) ≡ true) × (6 ≤ length (now m))
+        × (length (now m) ≤ 254) × (62 ≤ length (now entries)) ⌝ }
     ensures { λ r. ⌜ EntriesFound (now (table .entry)) (now (m .entry)) n (now (entries .entry)) r (now (entries .exit)) ⌝ }
 {
     let mut at: usize = MESSAGE_HEAD;
@@ -168,7 +184,7 @@ fn find_entries(table: &[Datapoint], m: &[u8], n: u16, entries: &mut [Found]) ->
         }
         let id = entry_id(m, at);
         let place = datapoint_place(table, id);
-        entries[k] = Found {
+        entries[k] = EntryPlace {
             at: at as u16,
             place: place as u16,
         };
@@ -179,10 +195,13 @@ fn find_entries(table: &[Datapoint], m: &[u8], n: u16, entries: &mut [Found]) ->
 }
 
 // The code of an entry, judged by the table.
-fn judge_datapoint(table: &[Datapoint], m: &[u8], f: Found) -> u8
-    requires { ⌜ (length (now table) ≤ 1000) × (rising 0 (map datapointId (now table)) ≡ true) × (f .at + span 4 (drop (f .at) (now m)) ≤ length (now m))
+fn judge_datapoint(table: &[Datapoint], m: &[u8], f: EntryPlace) -> u8
+    requires { ⌜ (length (now table) ≤ 1000) × (rising 0 (map datapointId (now table)) ≡ true)
+        × (f .at + span 4 (drop (f .at) (now m)) ≤ length (now m))
         × (f .place ≡ place datapointId (firstDatapointEntry (drop (f .at) (now m)) .id) (now table)) ⌝ }
-    ensures { λ r. ⌜ r ≡ judgedDatapoint (found datapointId (firstDatapointEntry (drop (f .at) (now (m .entry))) .id) (now (table .entry))) (firstDatapointEntry (drop (f .at) (now (m .entry)))) ⌝ }
+    ensures { λ r. ⌜ r ≡ judgedDatapoint (found datapointId (firstDatapointEntry
+        (drop (f .at) (now (m .entry))) .id) (now (table .entry))) (firstDatapointEntry
+        (drop (f .at) (now (m .entry)))) ⌝ }
 {
     let place = f.place as usize;
     if place >= table.len() {
@@ -194,11 +213,17 @@ fn judge_datapoint(table: &[Datapoint], m: &[u8], f: Found) -> u8
     code
 }
 
-// An entry applied: the datapoint of its ID is changed, if there is one. A value of one byte goes a way of its own, so that nothing of the record is copied.
-fn apply_datapoint(table: &mut [Datapoint], m: &[u8], f: Found)
-    requires { ⌜ (length (now table) ≤ 1000) × (rising 0 (map datapointId (now table)) ≡ true) × (f .at + span 4 (drop (f .at) (now m)) ≤ length (now m))
-        × (length (firstDatapointEntry (drop (f .at) (now m)) .value) ≤ 14) × (f .place ≡ place datapointId (firstDatapointEntry (drop (f .at) (now m)) .id) (now table)) ⌝ }
-    ensures { λ _. ⌜ now (table .exit) ≡ changed datapointId (firstDatapointEntry (drop (f .at) (now (m .entry))) .id) (setDatapoint (firstDatapointEntry (drop (f .at) (now (m .entry))))) (now (table .entry)) ⌝ }
+// An entry applied: the datapoint of its ID is changed, if there is one. A value of one byte goes a way of its own,
+// so that nothing of the record is copied.
+fn apply_datapoint(table: &mut [Datapoint], m: &[u8], f: EntryPlace)
+    requires { ⌜ (length (now table) ≤ 1000) × (rising 0 (map datapointId (now table)) ≡ true)
+        × (f .at + span 4 (drop (f .at) (now m)) ≤ length (now m))
+        × (length (firstDatapointEntry (drop (f .at) (now m)) .value) ≤ 14)
+        × (f .place ≡ place datapointId (firstDatapointEntry (drop (f .at) (now m)) .id) (now table)) ⌝ }
+    ensures { λ _. ⌜ now (table .exit)
+        ≡ changedAt datapointId (firstDatapointEntry
+        (drop (f .at) (now (m .entry))) .id) (setDatapoint (firstDatapointEntry
+        (drop (f .at) (now (m .entry))))) (now (table .entry)) ⌝ }
 {
     let place = f.place as usize;
     if place >= table.len() {
@@ -218,8 +243,10 @@ fn apply_datapoint(table: &mut [Datapoint], m: &[u8], f: Found)
 
 // The code of an entry, judged by the table of items.
 fn judge_item(table: &[Item], s: &[u8], at: usize) -> u8
-    requires { ⌜ (length (now table) ≤ 64) × (rising 0 (map itemId (now table)) ≡ true) × (at + span 3 (drop at (now s)) ≤ length (now s)) ⌝ }
-    ensures { λ r. ⌜ r ≡ judgedItem (found itemId (firstItemEntry (drop at (now (s .entry))) .id) (now (table .entry))) (firstItemEntry (drop at (now (s .entry)))) ⌝ }
+    requires { ⌜ (length (now table) ≤ 64) × (rising 0 (map itemId (now table)) ≡ true)
+        × (at + span 3 (drop at (now s)) ≤ length (now s)) ⌝ }
+    ensures { λ r. ⌜ r ≡ judgedItem (found itemId (firstItemEntry
+        (drop at (now (s .entry))) .id) (now (table .entry))) (firstItemEntry (drop at (now (s .entry)))) ⌝ }
 {
     let id = entry_id(s, at);
     let place = item_place(table, id);
@@ -233,8 +260,12 @@ fn judge_item(table: &[Item], s: &[u8], at: usize) -> u8
 
 // An entry of an item applied: the item of its ID is changed, if there is one.
 fn apply_item(table: &mut [Item], s: &[u8], at: usize)
-    requires { ⌜ (length (now table) ≤ 64) × (rising 0 (map itemId (now table)) ≡ true) × (at + span 3 (drop at (now s)) ≤ length (now s)) × (length (firstItemEntry (drop at (now s)) .value) ≤ 16) ⌝ }
-    ensures { λ _. ⌜ now (table .exit) ≡ changed itemId (firstItemEntry (drop at (now (s .entry))) .id) (setItem (firstItemEntry (drop at (now (s .entry))))) (now (table .entry)) ⌝ }
+    requires { ⌜ (length (now table) ≤ 64) × (rising 0 (map itemId (now table)) ≡ true)
+        × (at + span 3 (drop at (now s)) ≤ length (now s))
+        × (length (firstItemEntry (drop at (now s)) .value) ≤ 16) ⌝ }
+    ensures { λ _. ⌜ now (table .exit)
+        ≡ changedAt itemId (firstItemEntry
+        (drop at (now (s .entry))) .id) (setItem (firstItemEntry (drop at (now (s .entry))))) (now (table .entry)) ⌝ }
 {
     let id = entry_id(s, at);
     let place = item_place(table, id);
@@ -247,9 +278,10 @@ fn apply_item(table: &mut [Item], s: &[u8], at: usize)
 }
 
 // The entries of a request judged one after the other: the first bad one decides.
-fn judge_datapoints(table: &[Datapoint], m: &[u8], entries: &[Found], n: u16) -> Verdict
-    requires { ⌜ (length (now table) ≤ 1000) × (rising 0 (map datapointId (now table)) ≡ true) × (fills 4 n (drop 6 (now m)) ≡ true)
-        × (take n (now entries) ≡ foundEntries (now table) n 6 (drop 6 (now m))) ⌝ }
+fn judge_datapoints(table: &[Datapoint], m: &[u8], entries: &[EntryPlace], n: u16) -> Verdict
+    requires { ⌜ (length (now table) ≤ 1000) × (rising 0 (map datapointId (now table)) ≡ true)
+        × (fills 4 n (drop 6 (now m)) ≡ true)
+        × (take n (now entries) ≡ entryPlaces (now table) n 6 (drop 6 (now m))) ⌝ }
     ensures { λ r. ⌜ r ≡ verdictOf (firstBad (λ e. judgedDatapoint (found datapointId (e .id) (now (table .entry))) e) (setEntries firstDatapointEntry 4 n (drop 6 (now (m .entry))))) ⌝ }
 {
     let mut k: usize = 0;
@@ -271,10 +303,14 @@ fn judge_datapoints(table: &[Datapoint], m: &[u8], entries: &[Found], n: u16) ->
 }
 
 // The entries applied in order.
-fn apply_datapoints(table: &mut [Datapoint], m: &[u8], entries: &[Found], n: u16)
-    requires { ⌜ (length (now table) ≤ 1000) × (rising 0 (map datapointId (now table)) ≡ true) × (fills 4 n (drop 6 (now m)) ≡ true) × (allShort 14 (setEntries firstDatapointEntry 4 n (drop 6 (now m))) ≡ true)
-        × (take n (now entries) ≡ foundEntries (now table) n 6 (drop 6 (now m))) ⌝ }
-    ensures { λ _. ⌜ now (table .exit) ≡ applied datapointId setDatapoint (setEntries firstDatapointEntry 4 n (drop 6 (now (m .entry)))) (now (table .entry)) ⌝ }
+fn apply_datapoints(table: &mut [Datapoint], m: &[u8], entries: &[EntryPlace], n: u16)
+    requires { ⌜ (length (now table) ≤ 1000) × (rising 0 (map datapointId (now table)) ≡ true)
+        × (fills 4 n (drop 6 (now m)) ≡ true)
+        × (allShort 14 (setEntries firstDatapointEntry 4 n (drop 6 (now m))) ≡ true)
+        × (take n (now entries) ≡ entryPlaces (now table) n 6 (drop 6 (now m))) ⌝ }
+    ensures { λ _. ⌜ now (table .exit)
+        ≡ applied datapointId setDatapoint (setEntries firstDatapointEntry 4 n
+        (drop 6 (now (m .entry)))) (now (table .entry)) ⌝ }
 {
     let mut k: usize = 0;
     let count = n as usize;
@@ -287,7 +323,8 @@ fn apply_datapoints(table: &mut [Datapoint], m: &[u8], entries: &[Found], n: u16
 
 // The entries of items judged one after the other: the first bad one decides.
 fn judge_items(table: &[Item], m: &[u8], n: u16) -> Verdict
-    requires { ⌜ (length (now table) ≤ 64) × (rising 0 (map itemId (now table)) ≡ true) × (fills 3 n (drop 6 (now m)) ≡ true) ⌝ }
+    requires { ⌜ (length (now table) ≤ 64) × (rising 0 (map itemId (now table)) ≡ true)
+        × (fills 3 n (drop 6 (now m)) ≡ true) ⌝ }
     ensures { λ r. ⌜ r ≡ verdictOf (firstBad (λ e. judgedItem (found itemId (e .id) (now (table .entry))) e) (setEntries firstItemEntry 3 n (drop 6 (now (m .entry))))) ⌝ }
 {
     let mut at: usize = MESSAGE_HEAD;
@@ -310,8 +347,11 @@ fn judge_items(table: &[Item], m: &[u8], n: u16) -> Verdict
 
 // The entries of items applied in order.
 fn apply_items(table: &mut [Item], m: &[u8], n: u16)
-    requires { ⌜ (length (now table) ≤ 64) × (rising 0 (map itemId (now table)) ≡ true) × (fills 3 n (drop 6 (now m)) ≡ true) × (allShort 16 (setEntries firstItemEntry 3 n (drop 6 (now m))) ≡ true) ⌝ }
-    ensures { λ _. ⌜ now (table .exit) ≡ applied itemId setItem (setEntries firstItemEntry 3 n (drop 6 (now (m .entry)))) (now (table .entry)) ⌝ }
+    requires { ⌜ (length (now table) ≤ 64) × (rising 0 (map itemId (now table)) ≡ true)
+        × (fills 3 n (drop 6 (now m)) ≡ true)
+        × (allShort 16 (setEntries firstItemEntry 3 n (drop 6 (now m))) ≡ true) ⌝ }
+    ensures { λ _. ⌜ now (table .exit)
+        ≡ applied itemId setItem (setEntries firstItemEntry 3 n (drop 6 (now (m .entry)))) (now (table .entry)) ⌝ }
 {
     let mut at: usize = MESSAGE_HEAD;
     let mut left = n;
@@ -348,15 +388,18 @@ fn set_verdict(m: &[u8], head: usize) -> Verdict
     }
 }
 
-// SetDatapointValue: the answer, into the buffer at `at`; answers where it ends. All entries are judged before any is applied.
+// SetDatapointValue: the answer, into the buffer at `at`; answers where it ends. All entries are judged before any is
+// applied.
 pub fn set_datapoints(table: &mut [Datapoint], m: &[u8], out: &mut [u8], at: usize) -> usize
-    requires { ⌜ (tableOk 1000 datapointId datapointOk (now table) ≡ true) × (6 ≤ length (now m)) × (length (now m) ≤ 254) × (subService (now m) < 0x80) × (at + 254 ≤ length (now out)) ⌝ }
+    requires { ⌜ (tableOk 1000 datapointId datapointOk (now table) ≡ true) × (6 ≤ length (now m))
+        × (length (now m) ≤ 254) × (subService (now m) < 0x80) × (at + 254 ≤ length (now out)) ⌝ }
     ensures { λ r. ⌜ Answered (setDatapointValue (datapointsOnly (now (table .entry))) (now (m .entry)) .after .datapoints)
-        (now (out .entry)) at (setDatapointValue (datapointsOnly (now (table .entry))) (now (m .entry)) .says) r (now (out .exit)) (now (table .exit)) ⌝ }
+        (now (out .entry)) at (setDatapointValue (datapointsOnly (now (table .entry))) (now (m .entry)) .says) r
+        (now (out .exit)) (now (table .exit)) ⌝ }
 {
     let start = start_of(m);
     let n = number_of(m);
-    let mut entries = [Found { at: 0, place: 0 }; 62];
+    let mut entries = [EntryPlace { at: 0, place: 0 }; 62];
     let filled = find_entries(table, m, n, &mut entries);
     if !filled {
         return put_coded(out, at, m, start, MESSAGE_INCONSISTENT);
@@ -374,9 +417,11 @@ pub fn set_datapoints(table: &mut [Datapoint], m: &[u8], out: &mut [u8], at: usi
 
 // SetServerItem: the answer, into the buffer at `at`; answers where it ends.
 pub fn set_items(table: &mut [Item], m: &[u8], out: &mut [u8], at: usize) -> usize
-    requires { ⌜ (tableOk 64 itemId itemOk (now table) ≡ true) × (6 ≤ length (now m)) × (subService (now m) < 0x80) × (at + 254 ≤ length (now out)) ⌝ }
+    requires { ⌜ (tableOk 64 itemId itemOk (now table) ≡ true) × (6 ≤ length (now m)) × (subService (now m) < 0x80)
+        × (at + 254 ≤ length (now out)) ⌝ }
     ensures { λ r. ⌜ Answered (setServerItem (itemsOnly (now (table .entry))) (now (m .entry)) .after .items)
-        (now (out .entry)) at (setServerItem (itemsOnly (now (table .entry))) (now (m .entry)) .says) r (now (out .exit)) (now (table .exit)) ⌝ }
+        (now (out .entry)) at (setServerItem (itemsOnly (now (table .entry))) (now (m .entry)) .says) r
+        (now (out .exit)) (now (table .exit)) ⌝ }
 {
     let v = set_verdict(m, ITEM_ENTRY_HEAD);
     if v.code != NO_ERROR {

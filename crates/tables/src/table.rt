@@ -81,14 +81,16 @@ fn items_well_formed(table: &[Item]) -> bool
     true
 }
 
-// Whether refusal 1 is not given: each table is well formed. Whether a frame is outstanding is told beside them; no record names one.
+// Whether refusal 1 is not given: each table is well formed. Whether a frame is outstanding is told beside them; no
+// record names one.
 pub fn tables_ok(
     datapoints: &[Datapoint],
     items: &[Item],
     parameters: &[u8],
     outstanding: bool,
 ) -> bool
-    ensures { λ r. ⌜ r ≡ tablesOk outstanding (tablesOf (now (datapoints .entry)) (now (items .entry)) (now (parameters .entry))) ⌝ }
+    ensures { λ r. ⌜ r ≡ tablesOk outstanding
+        (tablesOf (now (datapoints .entry)) (now (items .entry)) (now (parameters .entry))) ⌝ }
 {
     if !datapoints_well_formed(datapoints) {
         return false;
@@ -99,7 +101,8 @@ pub fn tables_ok(
     parameters.len() <= MOST_PARAMETERS
 }
 
-// How many datapoints have a lower ID: where the datapoint of this ID stands if there is one. The width falls 1023, 511, .. 1, 0 whatever is found, so that the loop is unrolled and each choice is a conditional move.
+// How many datapoints have a lower ID: where the datapoint of this ID stands if there is one. The width falls 1023,
+// 511, .. 1, 0 whatever is found, so that the loop is unrolled and each choice is a conditional move.
 pub fn datapoint_place(table: &[Datapoint], id: u16) -> usize
     requires { ⌜ (length (now table) ≤ 1000) × (rising 0 (map datapointId (now table)) ≡ true) ⌝ }
     ensures { λ r. ⌜ r ≡ place datapointId id (now (table .entry)) ⌝ }

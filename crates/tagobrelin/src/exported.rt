@@ -3,15 +3,16 @@ ghost use mathlib.Core.Path.{_≡_};
 ghost use Rattle.ft12.specs.Record.{linkOf};
 ghost use Rattle.baos.specs.Table.{tablesOf};
 ghost use Rattle.calls.specs.Exported.{calledBy, Gives, freshLine};
-use crate::numbers::event_of;
+use crate::numbers::event_numbered;
 use crate::numbers::is_event;
-use crate::numbers::number_of;
+use crate::numbers::reply_number;
 use baos::datapoint::Datapoint;
 use baos::item::Item;
 use ft12::record::Link;
 use server::call::call;
 
-// One event, by numbers. Answers how many bytes of the output are to be sent, or a number below 0, with nothing altered.
+// One event, by numbers. Answers how many bytes of the output are to be sent, or a number below 0, with nothing
+// altered.
 #[no_mangle]
 pub extern "C" fn tagobrelin_call(
     event: u8,
@@ -25,15 +26,17 @@ pub extern "C" fn tagobrelin_call(
     link: &mut Link,
     out: &mut [u8],
 ) -> i32
-    ensures { λ r. ⌜ Gives (calledBy event byte id outcome (now (value .entry)) (tablesOf (now (datapoints .entry)) (now (items .entry)) (now (parameters .entry))) (now (link .entry)) (now (out .entry))) r
-        (tablesOf (now (datapoints .exit)) (now (items .exit)) (now (parameters .entry))) (now (link .exit)) (now (out .exit)) ⌝ }
+    ensures { λ r. ⌜ Gives (calledBy event byte id outcome (now (value .entry))
+        (tablesOf (now (datapoints .entry)) (now (items .entry)) (now (parameters .entry))) (now (link .entry)) (now (out .entry))) r
+        (tablesOf (now (datapoints .exit)) (now (items .exit)) (now (parameters .entry))) (now (link .exit))
+        (now (out .exit)) ⌝ }
 {
     if !is_event(event, outcome) {
         return -100;
     }
-    let happened = event_of(event, byte, id, outcome);
+    let happened = event_numbered(event, byte, id, outcome);
     let reply = call(happened, value, datapoints, items, parameters, link, out);
-    number_of(reply)
+    reply_number(reply)
 }
 
 // The link record that a reset leaves, by value.

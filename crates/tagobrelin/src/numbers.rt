@@ -2,7 +2,7 @@
 ghost use mathlib.Core.Path.{_≡_};
 ghost use Prim.Native.Nat.{_<_, _^_};
 ghost use Rattle.calls.specs.Reply.{sentCount};
-ghost use Rattle.calls.specs.Numbers.{isEvent, outcomeOf, eventOf, numberOf};
+ghost use Rattle.calls.specs.Numbers.{isEvent, outcomeNumbered, eventNumbered, replyNumber};
 use baos::bus::Outcome;
 use calls::event::Event;
 use calls::reply::Reply;
@@ -21,8 +21,8 @@ pub fn is_event(event: u8, outcome: u8) -> bool
 }
 
 // Sent, failed or in progress.
-fn outcome_of(outcome: u8) -> Outcome
-    ensures { λ r. ⌜ r ≡ outcomeOf outcome ⌝ }
+fn outcome_numbered(outcome: u8) -> Outcome
+    ensures { λ r. ⌜ r ≡ outcomeNumbered outcome ⌝ }
 {
     match outcome {
         0 => Outcome::Sent,
@@ -32,8 +32,8 @@ fn outcome_of(outcome: u8) -> Outcome
 }
 
 // The event of these numbers.
-pub fn event_of(event: u8, byte: u8, id: u16, outcome: u8) -> Event
-    ensures { λ r. ⌜ r ≡ eventOf event byte id outcome ⌝ }
+pub fn event_numbered(event: u8, byte: u8, id: u16, outcome: u8) -> Event
+    ensures { λ r. ⌜ r ≡ eventNumbered event byte id outcome ⌝ }
 {
     match event {
         1 => Event::HostByte(byte),
@@ -41,14 +41,14 @@ pub fn event_of(event: u8, byte: u8, id: u16, outcome: u8) -> Event
         3 => Event::AckWaitOver,
         4 => Event::Poll,
         5 => Event::BusValue(id),
-        _ => Event::TransmissionOutcome(id, outcome_of(outcome)),
+        _ => Event::TransmissionOutcome(id, outcome_numbered(outcome)),
     }
 }
 
 // How many bytes are to be sent, or minus the refusal's number.
-pub fn number_of(reply: Reply) -> i32
+pub fn reply_number(reply: Reply) -> i32
     requires { ⌜ sentCount reply < 2 ^ 31 ⌝ }
-    ensures { λ r. ⌜ r ≡ numberOf reply ⌝ }
+    ensures { λ r. ⌜ r ≡ replyNumber reply ⌝ }
 {
     match reply {
         Reply::Refused(number) => 0 - (number as i32),

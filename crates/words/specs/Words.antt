@@ -1,5 +1,5 @@
--- Words that all definitions share: a choice, two-byte numbers, padding, tests on lists. The library's own tests on lists do not compute
--- (`all`) or ask for proofs (`filter`), so these have names of their own.
+-- Words that all definitions share: a choice, two-byte numbers, padding, tests on lists. The library's own tests on
+-- lists do not compute (`all`) or ask for proofs (`filter`), so these have names of their own.
 use Prim.Native.Nat.{ℕ, _+_, _-_, _*_, _/_, _%_, _≤_}
 use mathlib.Core.Path.{_≡_}
 use mathlib.Core.Bool.{Bool, true, false, _&&_}

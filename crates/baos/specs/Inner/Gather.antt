@@ -1,5 +1,5 @@
--- How entries are gathered: measured in one pass over the table, built in a second, each ending at the first record behind the range. Inner contracts alone
--- cite these; what an answer has to be is said by Get and Indication.
+-- How entries are gathered: measured in one pass over the table, built in a second, each ending at the first record
+-- behind the range. Inner contracts alone cite these; what an answer has to be is said by Get and Indication.
 use Prim.Native.Nat.{ℕ, _+_, _-_}
 use mathlib.Core.Bool.{Bool, true, false, not, _&&_, _||_}
 use mathlib.Core.List.{List, [], _∷_, _++_, map, flatten}
@@ -14,7 +14,8 @@ use Rattle.baos.specs.Datapoint.{sizeOf, handedOut}
 use Rattle.baos.specs.declared.inner.Verdict.{Verdict}
 use Rattle.baos.specs.Table.{Tables}
 use Rattle.baos.specs.Message.{startOf, numberOf, filterOf, Finding, fine, bad, Served}
-use Rattle.baos.specs.Get.{AnswerEntry, roomForEntries, itemEntry, descriptionEntry, getDatapointDescription, valueEntry, passes, getDatapointValue}
+use Rattle.baos.specs.Get.{AnswerEntry, roomForEntries, itemEntry, descriptionEntry, getDatapointDescription}
+use Rattle.baos.specs.Get.{valueEntry, passes, getDatapointValue}
 use Rattle.baos.specs.Indication.{Choice, reported}
 
 -- ---- which records, and what is said of one and left of it
@@ -31,7 +32,8 @@ isWanted w d = isWithin w (d .id) && passes (w .filter) d
 unfoldable pub entryOf : Wanted → Datapoint → AnswerEntry
 entryOf w d = if w .values then valueEntry d else descriptionEntry d
 
--- A value's entry as it is written where others follow: all of the value's memory, of which the next entry overwrites what is behind the value.
+-- A value's entry as it is written where others follow: all of the value's memory, of which the next entry overwrites
+-- what is behind the value.
 unfoldable pub wideValue : Datapoint → List ℕ
 wideValue d = twoBytes (d .id) ++ d .state ∷ sizeOf (d .typecode) ∷ d .value
 

@@ -1,4 +1,5 @@
--- What the functions of the services promise: the buffer to its end, where the bytes end in it, and the tables. Inner contracts alone cite these.
+-- What the functions of the services promise: the buffer to its end, where the bytes end in it, and the tables. Inner
+-- contracts alone cite these.
 use Prim.Native.Nat.{ℕ, _+_}
 use mathlib.Core.Path.{_≡_}
 use mathlib.Core.Bool.{Bool}
@@ -7,13 +8,13 @@ use lib.ListN.{length, drop}
 use Rattle.words.specs.Words.{put}
 use Rattle.baos.specs.declared.datapoint.Datapoint.{Datapoint}
 use Rattle.baos.specs.declared.item.Item.{Item}
-use Rattle.baos.specs.declared.inner.Found.{Found}
+use Rattle.baos.specs.declared.inner.EntryPlace.{EntryPlace}
 use Rattle.baos.specs.declared.inner.Told.{Told}
 use Rattle.baos.specs.Message.{Served}
 use Rattle.baos.specs.Get.{roomForEntries}
 use Rattle.baos.specs.Set.{fills}
 use Rattle.baos.specs.Indication.{choices, reported, afterReport}
-use Rattle.baos.specs.Inner.Found.{foundEntries}
+use Rattle.baos.specs.Inner.EntryPlaces.{entryPlaces}
 use Rattle.baos.specs.Inner.Gather.{entriesTold}
 
 -- bytes written into the buffer at `at`, which is as it was elsewhere; and where they end
@@ -39,10 +40,11 @@ pub record Carried (s : Served) (out : List ℕ) (at end : ℕ) (out′ : List �
   pub buffer : out′ ≡ put out at (s .says)
   pub ends : end ≡ at + length (s .says)
 
--- the first n entries of the message m found: whether they fill it exactly, and the list, which begins with them and is as it was behind
-pub record EntriesFound (ds : List Datapoint) (m : List ℕ) (n : ℕ) (es : List Found) (filled : Bool) (es′ : List Found) : Type 0 where
+-- the first n entries of the message m found: whether they fill it exactly, and the list, which begins with them and
+-- is as it was behind
+pub record EntriesFound (ds : List Datapoint) (m : List ℕ) (n : ℕ) (es : List EntryPlace) (filled : Bool) (es′ : List EntryPlace) : Type 0 where
   pub answer : filled ≡ fills 4 n (drop 6 m)
-  pub entries : es′ ≡ foundEntries ds n 6 (drop 6 m) ++ drop (length (foundEntries ds n 6 (drop 6 m))) es
+  pub entries : es′ ≡ entryPlaces ds n 6 (drop 6 m) ++ drop (length (entryPlaces ds n 6 (drop 6 m))) es
 
 -- the marked datapoints told as far as they fit: the table, their entries, how many there are and where they end
 pub record MarkedTold (ds : List Datapoint) (out : List ℕ) (at : ℕ) (told : Told) (out′ : List ℕ) (ds′ : List Datapoint) : Type 0 where

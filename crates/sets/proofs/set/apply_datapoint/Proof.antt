@@ -38,14 +38,14 @@ use denote.Triple.Statement.{Contract, Triple}
 use denote.Triple.Table.{entered, cited}
 use denote.Triple.Walked.{needs}
 use Rattle.baos.specs.declared.datapoint.Datapoint.{Datapoint}
-use Rattle.baos.specs.declared.inner.Found.{Found}
+use Rattle.baos.specs.declared.inner.EntryPlace.{EntryPlace}
 use Rattle.baos.specs.Datapoint.{datapointId, zeroDatapoint}
-use Rattle.baos.specs.Table.{changed, place, rising}
+use Rattle.baos.specs.Table.{changedAt, place, rising}
 use Rattle.baos.specs.Set.{SetEntry, span, firstDatapointEntry, setDatapoint}
-use Rattle.baos.proofs.Types.{datapointD, foundD, byteD, placeD}
+use Rattle.baos.proofs.Types.{datapointD, entryPlaceD, byteD, placeD}
 use Rattle.words.specs.Words.{if_then_else_}
 use Rattle.baos.proofs.SetLaws.{span-head}
-use Rattle.baos.proofs.FoundLaws.{found-at-fits, found-place-fits}
+use Rattle.baos.proofs.EntryPlaceLaws.{found-at-fits, found-place-fits}
 use Rattle.baos.proofs.ApplyLaws.{changed-there, unchanged-there}
 use Rattle.tables.proofs.table.datapoint_at as datapoint-at
 use Rattle.tables.proofs.table.datapoint_at.Symbol as datapoint-at-def
@@ -81,7 +81,7 @@ abbrev C-put-datapoint-at : {M : Type 1} (𝓤 : URA M) (H : Heap 𝓤) (A : Ato
 C-put-datapoint-at 𝓤 H A mem run = tripleOf 𝓤 H A put-datapoint-at.signature (put-datapoint-at.spec 𝓤 H A mem run)
 
 abbrev ps : List (Param 2)
-ps = mutSliceP 2 0 tt datapointD ∷ shrSliceP 2 1 tt byteD ∷ dataP 2 foundD ∷ []
+ps = mutSliceP 2 0 tt datapointD ∷ shrSliceP 2 1 tt byteD ∷ dataP 2 entryPlaceD ∷ []
 
 -- where local j stands
 abbrev loc : ℕ → ℕ
@@ -92,10 +92,10 @@ module _ {M : Type 1} (𝓤 : URA M) (H : Heap 𝓤) (A : Atoms 𝓤) (W : Given
     (known-datapoint-byte-set-at : Triple 𝓤 (𝓣 .C #sets·set·datapoint-byte-set-at) (C-datapoint-byte-set-at 𝓤 H A mem run))
     (known-datapoint-set-at : Triple 𝓤 (𝓣 .C #sets·set·datapoint-set-at) (C-datapoint-set-at 𝓤 H A mem run))
     (known-put-datapoint-at : Triple 𝓤 (𝓣 .C #tables·table·put-datapoint-at) (C-put-datapoint-at 𝓤 H A mem run))
-    (κ0 κ1 : Lft) (q0 q1 : Share) (table : RefT (List Datapoint)) (s : RefT (List ℕ)) (found : Found) (table-room : Room (datapointD .row) (length (table .now))) (s-room : Room (byteD .row) (length (s .now))) (found-ok : Good foundD found)
+    (κ0 κ1 : Lft) (q0 q1 : Share) (table : RefT (List Datapoint)) (s : RefT (List ℕ)) (found : EntryPlace) (table-room : Room (datapointD .row) (length (table .now))) (s-room : Room (byteD .row) (length (s .now))) (found-ok : Good entryPlaceD found)
     (ok : (length (table .now) ≤ 1000) × (rising 0 (map datapointId (table .now)) ≡ true) × (found .at + span 4 (drop (found .at) (s .now)) ≤ length (s .now)) × (length (firstDatapointEntry (drop (found .at) (s .now)) .value) ≤ 14)
     × (found .place ≡ place datapointId (firstDatapointEntry (drop (found .at) (s .now)) .id) (table .now))) where
-  abbrev x : RefT (List Datapoint) × (RefT (List ℕ) × (Found × Unit {0}))
+  abbrev x : RefT (List Datapoint) × (RefT (List ℕ) × (EntryPlace × Unit {0}))
   x = (table, (s, (found, tt)))
 
   abbrev ys : List Datapoint
@@ -145,9 +145,9 @@ module _ {M : Type 1} (𝓤 : URA M) (H : Heap 𝓤) (A : Atoms 𝓤) (W : Given
   Done = Ends 2 𝓤 H A W ps unitD (f.clauses 𝓤 H A mem run) (κ0, (κ1, tt)) (q0, (q1, tt)) x tt
 
   abbrev Had : List Datapoint → List (Entry 𝓤)
-  Had zs = ‵ (foundD .row .own found (foundD .val found ∷ [])) ∷ ‵ (MutS datapointD κ0 (table .ptr .0) (table .ptr .1) (table .name) (length ys) zs) ∷ ‵ (flft κ0 q0) ∷ ‵ (ShrS byteD κ1 (s .ptr .0) (s .ptr .1) (s .name) (length bytes) bytes) ∷ ‵ (flft κ1 q1) ∷ []
+  Had zs = ‵ (entryPlaceD .row .own found (entryPlaceD .val found ∷ [])) ∷ ‵ (MutS datapointD κ0 (table .ptr .0) (table .ptr .1) (table .name) (length ys) zs) ∷ ‵ (flft κ0 q0) ∷ ‵ (ShrS byteD κ1 (s .ptr .0) (s .ptr .1) (s .name) (length bytes) bytes) ∷ ‵ (flft κ1 q1) ∷ []
 
-  exits : (zs : List Datapoint) → length zs ≡ length ys → zs ≡ changed datapointId (e .id) (setDatapoint e) ys → ent 𝓤 (⋆ 𝓤 H A (Had zs)) (Done vunit)
+  exits : (zs : List Datapoint) → length zs ≡ length ys → zs ≡ changedAt datapointId (e .id) (setDatapoint e) ys → ent 𝓤 (⋆ 𝓤 H A (Had zs)) (Done vunit)
   exits zs long z =
       qed W (Had zs) ∵ suffices ! _ (ends-in 2 𝓤 H A W ps unitD (f.clauses 𝓤 H A mem run) (κ0, (κ1, tt)) (q0, (q1, tt)) x tt tt (zs, (tt, (tt, tt))) (long, (tt, (tt, tt))) refl (factI 𝓤 _ (emp 𝓤) z)) $
       nothing ! $ nothing ! $ nothing ! $ nothing ! $ keep ! (6 ∷ 8 ∷ 0 ∷ 5 ∷ 1 ∷ 2 ∷ 3 ∷ []) $ group ! 3 $ frame ! $ done !
@@ -155,7 +155,7 @@ module _ {M : Type 1} (𝓤 : URA M) (H : Heap 𝓤) (A : Atoms 𝓤) (W : Given
   walk : Walk 2 𝓤 H A W ps unitD (f.clauses 𝓤 H A mem run) 𝓣 code.function (κ0, (κ1, tt)) (q0, (q1, tt)) x tt
   walk =
       starts 𝓤 H A W 2 ps (κ0, (κ1, tt)) (q0, (q1, tt)) x ∵ enter ! (𝓣 .C) (𝓣 .Λ) code.function _ _ $ allocs-all ! (code.function .locals) (λ l. params1 ! $
-      pass1 ! (init ! 44 refl (tt, (tt, (record { fits = table-room .0 }, tt)))) $ pass1 ! (init ! 42 refl (tt, (tt, (record { fits = s-room .0 }, tt)))) $ pass1 ! (init ! 40 refl (typed 𝓤 H A foundD W found found-ok .0)) $ pass0 ! $
+      pass1 ! (init ! 44 refl (tt, (tt, (record { fits = table-room .0 }, tt)))) $ pass1 ! (init ! 42 refl (tt, (tt, (record { fits = s-room .0 }, tt)))) $ pass1 ! (init ! 40 refl (typed 𝓤 H A entryPlaceD W found found-ok .0)) $ pass0 ! $
       -- behind the locals: the two tokens, the two slices, the entry
       move ! (50 ∷ 48 ∷ 51 ∷ 49 ∷ []) $
       lets ! (loc 4) (un ! (load ! (from ! (fld ! refl (stop !))) (look-in ! (loc 3) (sub ! 1 refl (whole !)))) (record { fits = p-fits })) refl (tt, record { fits = p-fits }) $

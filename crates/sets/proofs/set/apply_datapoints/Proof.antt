@@ -38,15 +38,15 @@ use denote.Triple.Statement.{Contract, Triple}
 use denote.Triple.Table.{entered, cited}
 use denote.Triple.Walked.{needs}
 use Rattle.baos.specs.declared.datapoint.Datapoint.{Datapoint}
-use Rattle.baos.specs.declared.inner.Found.{Found}
+use Rattle.baos.specs.declared.inner.EntryPlace.{EntryPlace}
 use Rattle.baos.specs.Datapoint.{datapointId}
-use Rattle.baos.specs.Table.{changed, place, rising}
+use Rattle.baos.specs.Table.{changedAt, place, rising}
 use Rattle.baos.specs.Set.{SetEntry, span, fills, setEntries, applied, allShort, firstDatapointEntry, setDatapoint}
-use Rattle.baos.specs.Inner.Found.{foundEntries}
-use Rattle.baos.proofs.Types.{datapointD, foundD, byteD, idD}
+use Rattle.baos.specs.Inner.EntryPlaces.{entryPlaces}
+use Rattle.baos.proofs.Types.{datapointD, entryPlaceD, byteD, idD}
 use Rattle.baos.proofs.Pairs.{calls-mutS-shrS}
 use Rattle.baos.proofs.LeftLaws.{fills-next, short-next, applied-next, applied-all, ids-stay, datapoint-keeps}
-use Rattle.baos.proofs.FoundLaws.{found-inside, found-here, found-next, found-same}
+use Rattle.baos.proofs.EntryPlaceLaws.{found-inside, found-here, found-next, found-same}
 use Rattle.sets.proofs.set.apply_datapoint as apply-datapoint
 use Rattle.sets.proofs.set.apply_datapoint.Symbol as apply-datapoint-def
 use Rattle.sets.proofs.set.apply_datapoint.Symbol.{name as #sets·set·apply-datapoint}
@@ -61,7 +61,7 @@ abbrev C-apply-datapoint : {M : Type 1} (𝓤 : URA M) (H : Heap 𝓤) (A : Atom
 C-apply-datapoint 𝓤 H A mem run = tripleOf 𝓤 H A apply-datapoint.signature (apply-datapoint.spec 𝓤 H A mem run)
 
 abbrev ps : List (Param 3)
-ps = mutSliceP 3 0 tt datapointD ∷ shrSliceP 3 1 tt byteD ∷ shrSliceP 3 2 tt foundD ∷ dataP 3 idD ∷ []
+ps = mutSliceP 3 0 tt datapointD ∷ shrSliceP 3 1 tt byteD ∷ shrSliceP 3 2 tt entryPlaceD ∷ dataP 3 idD ∷ []
 
 -- where local j stands
 abbrev loc : ℕ → ℕ
@@ -69,10 +69,10 @@ loc j = 34 - 2 * j
 
 module _ {M : Type 1} (𝓤 : URA M) (H : Heap 𝓤) (A : Atoms 𝓤) (W : Given 𝓤 H A) (mem : Memory → SProp 𝓤) (run : Routine → Fun 𝓤) (𝓣 : Tables 𝓤 H)
     (known-apply-datapoint : Triple 𝓤 (𝓣 .C #sets·set·apply-datapoint) (C-apply-datapoint 𝓤 H A mem run))
-    (κ0 κ1 κ2 : Lft) (q0 q1 q2 : Share) (table : RefT (List Datapoint)) (s : RefT (List ℕ)) (list : RefT (List Found)) (n : ℕ) (table-room : Room (datapointD .row) (length (table .now))) (s-room : Room (byteD .row) (length (s .now))) (list-room : Room (foundD .row) (length (list .now))) (n-ok : Good idD n)
+    (κ0 κ1 κ2 : Lft) (q0 q1 q2 : Share) (table : RefT (List Datapoint)) (s : RefT (List ℕ)) (list : RefT (List EntryPlace)) (n : ℕ) (table-room : Room (datapointD .row) (length (table .now))) (s-room : Room (byteD .row) (length (s .now))) (list-room : Room (entryPlaceD .row) (length (list .now))) (n-ok : Good idD n)
     (ok : (length (table .now) ≤ 1000) × (rising 0 (map datapointId (table .now)) ≡ true) × (fills 4 n (drop 6 (s .now)) ≡ true) × (allShort 14 (setEntries firstDatapointEntry 4 n (drop 6 (s .now))) ≡ true)
-    × (take n (list .now) ≡ foundEntries (table .now) n 6 (drop 6 (s .now)))) where
-  abbrev x : RefT (List Datapoint) × (RefT (List ℕ) × (RefT (List Found) × (ℕ × Unit {0})))
+    × (take n (list .now) ≡ entryPlaces (table .now) n 6 (drop 6 (s .now)))) where
+  abbrev x : RefT (List Datapoint) × (RefT (List ℕ) × (RefT (List EntryPlace) × (ℕ × Unit {0})))
   x = (table, (s, (list, (n, tt))))
 
   abbrev κs : Lft × (Lft × (Lft × Unit {0}))
@@ -87,7 +87,7 @@ module _ {M : Type 1} (𝓤 : URA M) (H : Heap 𝓤) (A : Atoms 𝓤) (W : Given
   abbrev bytes : List ℕ
   bytes = s .now
 
-  abbrev entries : List Found
+  abbrev entries : List EntryPlace
   entries = list .now
 
   abbrev b : ℕ
@@ -107,7 +107,7 @@ module _ {M : Type 1} (𝓤 : URA M) (H : Heap 𝓤) (A : Atoms 𝓤) (W : Given
   Slices zs Γ = ‵ (MutS datapointD κ0 (table .ptr .0) (table .ptr .1) (table .name) (length ys) zs) ∷ ‵ (flft κ0 q0) ∷ ‵ (ShrS byteD κ1 (s .ptr .0) (s .ptr .1) (s .name) (length bytes) bytes) ∷ ‵ (flft κ1 q1) ∷ Γ
 
   abbrev Had : List Datapoint → List (Entry 𝓤)
-  Had zs = ‵ (idD .row .own n (idD .val n ∷ [])) ∷ ‵ (ShrS foundD κ2 b o (list .name) (length entries) entries) ∷ ‵ (flft κ2 q2) ∷ Slices zs []
+  Had zs = ‵ (idD .row .own n (idD .val n ∷ [])) ∷ ‵ (ShrS entryPlaceD κ2 b o (list .name) (length entries) entries) ∷ ‵ (flft κ2 q2) ∷ Slices zs []
 
   exits : (zs : List Datapoint) → length zs ≡ length ys → zs ≡ last → ent 𝓤 (⋆ 𝓤 H A (Had zs)) (Done vunit)
   exits zs long z =
@@ -115,7 +115,7 @@ module _ {M : Type 1} (𝓤 : URA M) (H : Heap 𝓤) (A : Atoms 𝓤) (W : Given
       nothing ! $ nothing ! $ nothing ! $ nothing ! $ nothing ! $ keep ! (9 ∷ 11 ∷ 7 ∷ 0 ∷ 8 ∷ 1 ∷ 2 ∷ 3 ∷ 4 ∷ []) $ group ! 4 $ frame ! $ done !
 
   -- what is asked to apply the entry g to the table zs
-  abbrev Asked : List Datapoint → Found → Type 0
+  abbrev Asked : List Datapoint → EntryPlace → Type 0
   Asked zs g = (length zs ≤ 1000) × (rising 0 (map datapointId zs) ≡ true) × (g .at + span 4 (drop (g .at) bytes) ≤ length bytes) × (length (firstDatapointEntry (drop (g .at) bytes) .value) ≤ 14)
       × (g .place ≡ place datapointId (firstDatapointEntry (drop (g .at) bytes) .id) zs)
 
@@ -126,10 +126,10 @@ module _ {M : Type 1} (𝓤 : URA M) (H : Heap 𝓤) (A : Atoms 𝓤) (W : Given
     -- k entries are applied and n′ are left; where the next one begins; and the table: its IDs still rise, the entries left were found as in it, and they lead to the last one
     abbrev State : Type 0
     State = (k : ℕ) × (at : ℕ) × (n′ : ℕ) × (zs : List Datapoint) × ((k + n′ ≡ n) × (fills 4 n′ (drop at bytes) ≡ true) × (allShort 14 (setEntries firstDatapointEntry 4 n′ (drop at bytes)) ≡ true) × (length ys ≡ length zs) × (rising 0 (map datapointId zs) ≡ true)
-        × (applied datapointId setDatapoint (setEntries firstDatapointEntry 4 n′ (drop at bytes)) zs ≡ last) × (take n′ (drop k entries) ≡ foundEntries zs n′ at (drop at bytes)))
+        × (applied datapointId setDatapoint (setEntries firstDatapointEntry 4 n′ (drop at bytes)) zs ≡ last) × (take n′ (drop k entries) ≡ entryPlaces zs n′ at (drop at bytes)))
 
     abbrev Inv : State → List (Entry 𝓤)
-    Inv st = ‵ (row (foundD .row) sh entries b o) ∷ ‵ (LookS foundD κ2 q2 sh (list .name) entries b o) ∷ Slices (st .3)
+    Inv st = ‵ (row (entryPlaceD .row) sh entries b o) ∷ ‵ (LookS entryPlaceD κ2 q2 sh (list .name) entries b o) ∷ Slices (st .3)
         (stack 𝓤 H En (none ∷ some (sliceVal (table .ptr) (length ys)) ∷ some (sliceVal (s .ptr) (length bytes)) ∷ some (sliceVal (b, o) (length entries)) ∷ some (vint w16 n) ∷ some (vint w64 (st .0)) ∷ some (vint w64 n) ∷ []) (‵ (idD .row .own n (idD .val n ∷ [])) ∷ []))
 
     abbrev ≺ : State → State → Type 0
@@ -146,14 +146,14 @@ module _ {M : Type 1} (𝓤 : URA M) (H : Heap 𝓤) (A : Atoms 𝓤) (W : Given
         lets ! (loc 9) (bin ! (val ! (loc 5) refl) (lit ! tt) (record { fits = offset-fits some-left })) refl (tt, record { fits = offset-fits some-left }) $
         lets ! (loc 10) (bin ! (load ! (from ! (fld ! refl (stop !))) (look-in ! (loc 3) (sub ! 0 refl (whole !)))) (val ! (loc 9) refl) tt) refl (tt, tt) $
         rewrite ! (loc 10) (λ (j : ℕ). ‵ (fat fullShare tyPtr (l .1 .1 .1 .1 .1 .1 .1 .1 .1 .1 .0) 0 (vptr b j))) (sym (place-is 4 o k)) refl $
-        takes-at ! foundD sh entries k none-found b o (inside some-left) (λ here-ok.
-        lets ! (1 + loc 11) (of-opd ! (load ! (from ! (hop ! (look ! (1 + loc 10) refl) (stop !))) (look-raw ! 0 refl))) refl (typed 𝓤 H A foundD W here here-ok .0) $
-        back-at ! foundD sh entries k none-found b o (inside some-left) here-ok $
-        lets ! (loc 7) (of-opd ! (val ! (loc 11) refl)) refl (typed 𝓤 H A foundD W here here-ok .0) $
+        takes-at ! entryPlaceD sh entries k none-found b o (inside some-left) (λ here-ok.
+        lets ! (1 + loc 11) (of-opd ! (load ! (from ! (hop ! (look ! (1 + loc 10) refl) (stop !))) (look-raw ! 0 refl))) refl (typed 𝓤 H A entryPlaceD W here here-ok .0) $
+        back-at ! entryPlaceD sh entries k none-found b o (inside some-left) here-ok $
+        lets ! (loc 7) (of-opd ! (val ! (loc 11) refl)) refl (typed 𝓤 H A entryPlaceD W here here-ok .0) $
         move ! (2 ∷ 3 ∷ 4 ∷ 5 ∷ []) $
         assigns ! (addr ! (from ! (fld ! refl (hop ! (look-in ! (loc 1) (sub ! 0 refl (whole !))) (stop !))))) (from ! (stop !)) (init ! (loc 13) refl (tt, tt)) $
         assigns ! (agg ! (and-then ! (val ! (loc 13) refl) (and-then ! (load ! (from ! (fld ! refl (stop !))) (look-in ! (loc 1) (sub ! 1 refl (whole !)))) (no-more !)))) (from ! (stop !)) (init ! (loc 14) refl (tt, (tt, (record { fits = table-room .0 }, tt)))) $
-        calls-mutS-shrS ! (fmOf 𝓤 H (W .laws) 𝓣) datapointD byteD (foundD ∷ []) unitD (apply-datapoint.clauses 𝓤 H A mem run) known-apply-datapoint (length ys) zs (st .4 .3) bytes (λ _. (here, tt)) (λ _ _. tt) (λ _. (here-ok, tt)) (λ _ _. factI 𝓤 _ (emp 𝓤) (asked some-left)) zs′ tt (λ _ _ _ _. fact-use 𝓤 _ (id⊢ 𝓤 _) (λ z. factI 𝓤 _ _ (z ∙ changes some-left, refl)))
+        calls-mutS-shrS ! (fmOf 𝓤 H (W .laws) 𝓣) datapointD byteD (entryPlaceD ∷ []) unitD (apply-datapoint.clauses 𝓤 H A mem run) known-apply-datapoint (length ys) zs (st .4 .3) bytes (λ _. (here, tt)) (λ _ _. tt) (λ _. (here-ok, tt)) (λ _ _. factI 𝓤 _ (emp 𝓤) (asked some-left)) zs′ tt (λ _ _ _ _. fact-use 𝓤 _ (id⊢ 𝓤 _) (λ z. factI 𝓤 _ _ (z ∙ changes some-left, refl)))
         (λ _ _ _ _ _. (and-then ! (val ! (loc 14) refl) (and-then ! (val ! (loc 2) refl) (and-then ! (val ! (loc 7) refl) (no-more !))))) (λ long _.
         land ! (from ! (stop !)) (init ! (loc 12) refl (tt, tt)) $
         move ! (4 ∷ 5 ∷ []) $
@@ -176,7 +176,7 @@ module _ {M : Type 1} (𝓤 : URA M) (H : Heap 𝓤) (A : Atoms 𝓤) (W : Given
         ) (falls (more some-left)))))
         (λ none-left. exec ! (𝓣 .C) (𝓣 .Λ) En part.t-4 (atRet En Done) $
         lets ! (loc 0) (of-opd ! (unit-lit !)) refl (tt, tt) $
-        shut-slice ! tt foundD sh entries b o $ returns ! (look ! (loc 0) refl) $ behind ! 6 $ frees-all ! (room ∷ room ∷ room ∷ room ∷ room ∷ room ∷ cell ∷ room ∷ cell ∷ cell ∷ cell ∷ cell ∷ cell ∷ cell ∷ cell ∷ []) _ $
+        shut-slice ! tt entryPlaceD sh entries b o $ returns ! (look ! (loc 0) refl) $ behind ! 6 $ frees-all ! (room ∷ room ∷ room ∷ room ∷ room ∷ room ∷ cell ∷ room ∷ cell ∷ cell ∷ cell ∷ cell ∷ cell ∷ cell ∷ cell ∷ []) _ $
         by ! (exits zs (sym (st .4 .3)) (sym (applied-all firstDatapointEntry 4 n′ (drop at bytes) (over none-left) datapointId setDatapoint zs) ∙ st .4 .5)))
       where
         k : ℕ
@@ -191,18 +191,18 @@ module _ {M : Type 1} (𝓤 : URA M) (H : Heap 𝓤) (A : Atoms 𝓤) (W : Given
         zs : List Datapoint
         zs = st .3
 
-        none-found : Found
+        none-found : EntryPlace
         none-found = record { at = 0; place = 0 }
 
         -- the entry as the list has it
-        here : Found
+        here : EntryPlace
         here = getD entries k none-found
 
         e : SetEntry
         e = firstDatapointEntry (drop at bytes)
 
         zs′ : List Datapoint
-        zs′ = changed datapointId (e .id) (setDatapoint e) zs
+        zs′ = changedAt datapointId (e .id) (setDatapoint e) zs
 
         next : ℕ
         next = at + span 4 (drop at bytes)
@@ -228,8 +228,8 @@ module _ {M : Type 1} (𝓤 : URA M) (H : Heap 𝓤) (A : Atoms 𝓤) (W : Given
         asked : T (ltb k n) → Asked zs here
         asked t = subst (Asked zs) (sym (is-here t)) (omega (arith, ok .0, st .4 .3), st .4 .4, fills-next 4 at n′ bytes (more t) (omega arith) (st .4 .1) .0, short-next 4 at n′ bytes (more t) firstDatapointEntry 14 (st .4 .2) .0, refl)
 
-        changes : T (ltb k n) → changed datapointId (firstDatapointEntry (drop (here .at) bytes) .id) (setDatapoint (firstDatapointEntry (drop (here .at) bytes))) zs ≡ zs′
-        changes t = ap (λ (g : Found). changed datapointId (firstDatapointEntry (drop (g .at) bytes) .id) (setDatapoint (firstDatapointEntry (drop (g .at) bytes))) zs) (is-here t)
+        changes : T (ltb k n) → changedAt datapointId (firstDatapointEntry (drop (here .at) bytes) .id) (setDatapoint (firstDatapointEntry (drop (here .at) bytes))) zs ≡ zs′
+        changes t = ap (λ (g : EntryPlace). changedAt datapointId (firstDatapointEntry (drop (g .at) bytes) .id) (setDatapoint (firstDatapointEntry (drop (g .at) bytes))) zs) (is-here t)
 
         stay : map datapointId zs′ ≡ map datapointId zs
         stay = ids-stay datapointId (e .id) (setDatapoint e) (datapoint-keeps e) zs
@@ -255,7 +255,7 @@ module _ {M : Type 1} (𝓤 : URA M) (H : Heap 𝓤) (A : Atoms 𝓤) (W : Given
       pass1 ! (init ! 26 refl (tt, (tt, (record { fits = table-room .0 }, tt)))) $ pass1 ! (init ! 24 refl (tt, (tt, (record { fits = s-room .0 }, tt)))) $ pass1 ! (init ! 22 refl (tt, (tt, (record { fits = list-room .0 }, tt)))) $ pass1 ! (init ! 20 refl (tt, record { fits = n-ok .1 })) $ pass0 ! $
       lets ! 18 (of-opd ! (lit ! tt)) refl (tt, record { fits = lit< tt }) $ lets ! 16 (un ! (val ! 20 refl) (record { fits = n-fits })) refl (tt, record { fits = n-fits }) $
       -- behind the locals: the three tokens, the three slices, the number of entries
-      move ! (35 ∷ 32 ∷ 33 ∷ 30 ∷ 34 ∷ 31 ∷ []) $ looked-slice ! tt foundD entries b o (λ sh _. begins sh l))
+      move ! (35 ∷ 32 ∷ 33 ∷ 30 ∷ 34 ∷ 31 ∷ []) $ looked-slice ! tt entryPlaceD entries b o (λ sh _. begins sh l))
 
 pub apply-datapoints-spec : {M : Type 1} → stated.statement M
 unfolding code.routine tablesOf

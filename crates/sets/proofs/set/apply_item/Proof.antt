@@ -34,7 +34,7 @@ use denote.Triple.Table.{entered, cited}
 use denote.Triple.Walked.{needs}
 use Rattle.baos.specs.declared.item.Item.{Item}
 use Rattle.baos.specs.Item.{itemId, zeroItem}
-use Rattle.baos.specs.Table.{changed, place, rising}
+use Rattle.baos.specs.Table.{changedAt, place, rising}
 use Rattle.baos.specs.Set.{SetEntry, span, firstItemEntry, setItem}
 use Rattle.baos.proofs.Types.{itemD, byteD, idD, placeD}
 use Rattle.words.specs.Words.{if_then_else_}
@@ -122,7 +122,7 @@ module _ {M : Type 1} (𝓤 : URA M) (H : Heap 𝓤) (A : Atoms 𝓤) (W : Given
   abbrev Had : List Item → List (Entry 𝓤)
   Had zs = ‵ (placeD .row .own at (placeD .val at ∷ [])) ∷ ‵ (MutS itemD κ0 (table .ptr .0) (table .ptr .1) (table .name) (length ys) zs) ∷ ‵ (flft κ0 q0) ∷ ‵ (ShrS byteD κ1 (s .ptr .0) (s .ptr .1) (s .name) (length bytes) bytes) ∷ ‵ (flft κ1 q1) ∷ []
 
-  exits : (zs : List Item) → length zs ≡ length ys → zs ≡ changed itemId (e .id) (setItem e) ys → ent 𝓤 (⋆ 𝓤 H A (Had zs)) (Done vunit)
+  exits : (zs : List Item) → length zs ≡ length ys → zs ≡ changedAt itemId (e .id) (setItem e) ys → ent 𝓤 (⋆ 𝓤 H A (Had zs)) (Done vunit)
   exits zs long z =
       qed W (Had zs) ∵ suffices ! _ (ends-in 2 𝓤 H A W ps unitD (f.clauses 𝓤 H A mem run) (κ0, (κ1, tt)) (q0, (q1, tt)) x tt tt (zs, (tt, (tt, tt))) (long, (tt, (tt, tt))) refl (factI 𝓤 _ (emp 𝓤) z)) $
       nothing ! $ nothing ! $ nothing ! $ nothing ! $ keep ! (6 ∷ 8 ∷ 0 ∷ 5 ∷ 1 ∷ 2 ∷ 3 ∷ []) $ group ! 3 $ frame ! $ done !

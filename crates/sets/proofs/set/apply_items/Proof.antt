@@ -37,7 +37,7 @@ use denote.Triple.Table.{entered, cited}
 use denote.Triple.Walked.{needs}
 use Rattle.baos.specs.declared.item.Item.{Item}
 use Rattle.baos.specs.Item.{itemId}
-use Rattle.baos.specs.Table.{changed, rising}
+use Rattle.baos.specs.Table.{changedAt, rising}
 use Rattle.baos.specs.Set.{SetEntry, span, fills, setEntries, applied, allShort, firstItemEntry, setItem}
 use Rattle.baos.proofs.Types.{itemD, byteD, idD, placeD}
 use Rattle.baos.proofs.Pairs.{calls-mutS-shrS}
@@ -169,7 +169,7 @@ module _ {M : Type 1} (𝓤 : URA M) (H : Heap 𝓤) (A : Atoms 𝓤) (W : Given
         e = firstItemEntry (drop at bytes)
 
         zs′ : List Item
-        zs′ = changed itemId (e .id) (setItem e) zs
+        zs′ = changedAt itemId (e .id) (setItem e) zs
 
         next : ℕ
         next = at + span 3 (drop at bytes)

@@ -40,15 +40,15 @@ use denote.Triple.Statement.{Triple}
 use denote.Triple.Table.{entered, cited}
 use denote.Triple.Walked.{needs}
 use Rattle.baos.specs.declared.datapoint.Datapoint.{Datapoint}
-use Rattle.baos.specs.declared.inner.Found.{Found}
+use Rattle.baos.specs.declared.inner.EntryPlace.{EntryPlace}
 use Rattle.baos.specs.Datapoint.{datapointId, zeroDatapoint}
 use Rattle.baos.specs.Table.{place, rising}
 use Rattle.baos.specs.Set.{SetEntry, firstDatapointEntry}
 use Rattle.baos.specs.Inner.Promise.{EntriesFound}
-use Rattle.baos.proofs.Types.{datapointD, byteD, idD, placeD, foundD, found-good, found-offset-fits}
+use Rattle.baos.proofs.Types.{datapointD, byteD, idD, placeD, entryPlaceD, found-good, found-offset-fits}
 use Rattle.baos.proofs.EntriesLaws.{datapoint-entry-id}
 use Rattle.baos.proofs.PlaceLaws.{place-inside}
-use Rattle.baos.proofs.FoundLaws.{zeroFound, foundAt, spanAt, Seeking, seeking-begins, seeking-long, seeking-ends, seeking-short-head, seeking-short-value, seeking-next}
+use Rattle.baos.proofs.EntryPlaceLaws.{zeroFound, foundAt, spanAt, Seeking, seeking-begins, seeking-long, seeking-ends, seeking-short-head, seeking-short-value, seeking-next}
 use Rattle.sets.proofs.set.entry_id as entry-id
 use Rattle.sets.proofs.set.entry_id.Symbol as entry-id-def
 use Rattle.sets.proofs.set.entry_id.Symbol.{name as #sets·set·entry-id}
@@ -64,7 +64,7 @@ use Rattle.sets.proofs.set.find_entries.Code as code
 use Rattle.sets.proofs.set.find_entries.Code.Mir as part
 
 abbrev ps : List (Param 3)
-ps = shrSliceP 3 0 tt datapointD ∷ shrSliceP 3 1 tt byteD ∷ dataP 3 idD ∷ mutSliceP 3 2 tt foundD ∷ []
+ps = shrSliceP 3 0 tt datapointD ∷ shrSliceP 3 1 tt byteD ∷ dataP 3 idD ∷ mutSliceP 3 2 tt entryPlaceD ∷ []
 
 -- where local j stands
 abbrev loc : ℕ → ℕ
@@ -75,10 +75,10 @@ record Known {M : Type 1} (𝓤 : URA M) (H : Heap 𝓤) (A : Atoms 𝓤) (mem :
   pub datapoint-place : Triple 𝓤 (C #tables·table·datapoint-place) (tripleOf 𝓤 H A datapoint-place.signature (datapoint-place.spec 𝓤 H A mem run))
 
 module _ {M : Type 1} (𝓤 : URA M) (H : Heap 𝓤) (A : Atoms 𝓤) (W : Given 𝓤 H A) (mem : Memory → SProp 𝓤) (run : Routine → Fun 𝓤) (𝓣 : Tables 𝓤 H) (known : Known 𝓤 H A mem run (𝓣 .C))
-    (κ0 κ1 κ2 : Lft) (q0 q1 q2 : Share) (table : RefT (List Datapoint)) (m : RefT (List ℕ)) (n : ℕ) (entries : RefT (List Found))
-    (table-room : Room (datapointD .row) (length (table .now))) (m-room : Room (byteD .row) (length (m .now))) (n-ok : Good idD n) (entries-room : Room (foundD .row) (length (entries .now)))
+    (κ0 κ1 κ2 : Lft) (q0 q1 q2 : Share) (table : RefT (List Datapoint)) (m : RefT (List ℕ)) (n : ℕ) (entries : RefT (List EntryPlace))
+    (table-room : Room (datapointD .row) (length (table .now))) (m-room : Room (byteD .row) (length (m .now))) (n-ok : Good idD n) (entries-room : Room (entryPlaceD .row) (length (entries .now)))
     (ok : (length (table .now) ≤ 1000) × (rising 0 (map datapointId (table .now)) ≡ true) × (6 ≤ length (m .now)) × (length (m .now) ≤ 254) × (62 ≤ length (entries .now))) where
-  abbrev x : RefT (List Datapoint) × (RefT (List ℕ) × (ℕ × (RefT (List Found) × Unit {0})))
+  abbrev x : RefT (List Datapoint) × (RefT (List ℕ) × (ℕ × (RefT (List EntryPlace) × Unit {0})))
   x = (table, (m, (n, (entries, tt))))
 
   abbrev ys : List Datapoint
@@ -87,7 +87,7 @@ module _ {M : Type 1} (𝓤 : URA M) (H : Heap 𝓤) (A : Atoms 𝓤) (W : Given
   abbrev msg : List ℕ
   msg = m .now
 
-  abbrev es : List Found
+  abbrev es : List EntryPlace
   es = entries .now
 
   abbrev b : ℕ
@@ -106,10 +106,10 @@ module _ {M : Type 1} (𝓤 : URA M) (H : Heap 𝓤) (A : Atoms 𝓤) (W : Given
   abbrev Lent : List (Entry 𝓤)
   Lent = ‵ (ShrS datapointD κ0 (table .ptr .0) (table .ptr .1) (table .name) (length ys) ys) ∷ ‵ (flft κ0 q0) ∷ ‵ (ShrS byteD κ1 (m .ptr .0) (m .ptr .1) (m .name) (length msg) msg) ∷ ‵ (flft κ1 q1) ∷ []
 
-  abbrev Had : List Found → List (Entry 𝓤)
-  Had zs = Owned ++ (‵ (MutS foundD κ2 b o (entries .name) (length es) zs) ∷ ‵ (flft κ2 q2) ∷ Lent)
+  abbrev Had : List EntryPlace → List (Entry 𝓤)
+  Had zs = Owned ++ (‵ (MutS entryPlaceD κ2 b o (entries .name) (length es) zs) ∷ ‵ (flft κ2 q2) ∷ Lent)
 
-  exits : (r : Bool) (zs : List Found) → length zs ≡ length es → EntriesFound ys msg n es r zs → ent 𝓤 (⋆ 𝓤 H A (Had zs)) (Done (vbool r))
+  exits : (r : Bool) (zs : List EntryPlace) → length zs ≡ length es → EntriesFound ys msg n es r zs → ent 𝓤 (⋆ 𝓤 H A (Had zs)) (Done (vbool r))
   exits r zs long e =
       qed W (Had zs) ∵
       suffices ! _ (ends-in 3 𝓤 H A W ps boolD (f.clauses 𝓤 H A mem run) (κ0, (κ1, (κ2, tt))) (q0, (q1, (q2, tt))) x tt r (tt, (tt, (tt, (zs, tt)))) (tt, (tt, (tt, (long, tt)))) refl (factI 𝓤 _ (emp 𝓤) e)) $
@@ -121,10 +121,10 @@ module _ {M : Type 1} (𝓤 : URA M) (H : Heap 𝓤) (A : Atoms 𝓤) (W : Given
 
     -- k entries are found: where the next one begins, and the list as it is now
     abbrev State : Type 0
-    State = (k : ℕ) × (at : ℕ) × (zs : List Found) × Seeking ys msg n es k at zs
+    State = (k : ℕ) × (at : ℕ) × (zs : List EntryPlace) × Seeking ys msg n es k at zs
 
     abbrev Inv : State → List (Entry 𝓤)
-    Inv s = ‵ (row (foundD .row) fullShare (s .2) b o) ∷ ‵ (OpenS foundD κ2 q2 (entries .name) es b o)
+    Inv s = ‵ (row (entryPlaceD .row) fullShare (s .2) b o) ∷ ‵ (OpenS entryPlaceD κ2 q2 (entries .name) es b o)
         ∷ (Lent ++ stack 𝓤 H En (none ∷ some (sliceVal (table .ptr) (length ys)) ∷ some (sliceVal (m .ptr) (length msg)) ∷ some (vint w16 n) ∷ some (sliceVal (entries .ptr) (length es)) ∷ some (vint w64 (s .1)) ∷ some (vint w64 (s .0)) ∷ some (vint w64 n) ∷ []) Owned)
 
     abbrev ≺ : State → State → Type 0
@@ -143,7 +143,7 @@ module _ {M : Type 1} (𝓤 : URA M) (H : Heap 𝓤) (A : Atoms 𝓤) (W : Given
         sets ! (loc 11) (bin ! (val ! (loc 13) refl) (lit ! tt) tt) refl (tt, tt) $
         leaves-early ! (val ! (loc 11) refl) (λ short.
         lets ! (loc 0) (of-opd ! (false-lit !)) refl (tt, tt) $
-        closed-slice ! tt foundD (length es) es zs b o refl long entries-room $
+        closed-slice ! tt entryPlaceD (length es) es zs b o refl long entries-room $
         returns-within ! Done refl (look ! (loc 0) refl) $ behind ! 6 $ frees-all ! (room ∷ room ∷ room ∷ room ∷ room ∷ room ∷ room ∷ cell ∷ cell ∷ cell ∷ room ∷ room ∷ room ∷ cell ∷ cell ∷ cell ∷ cell ∷ cell ∷ cell ∷ cell ∷ cell ∷ []) _ $
         by ! (exits false zs long (seeking-short-head ys msg n es k at zs seeking (lt more) (ltb→lt (length msg - at) 4 short))))
         (λ head.
@@ -162,7 +162,7 @@ module _ {M : Type 1} (𝓤 : URA M) (H : Heap 𝓤) (A : Atoms 𝓤) (W : Given
         sets ! (loc 11) (bin ! (val ! (loc 13) refl) (val ! (loc 8) refl) tt) refl (tt, tt) $
         leaves-early ! (val ! (loc 11) refl) (λ short.
         lets ! (loc 0) (of-opd ! (false-lit !)) refl (tt, tt) $
-        closed-slice ! tt foundD (length es) es zs b o refl long entries-room $
+        closed-slice ! tt entryPlaceD (length es) es zs b o refl long entries-room $
         returns-within ! Done refl (look ! (loc 0) refl) $ behind ! 6 $ frees-all ! (room ∷ room ∷ room ∷ room ∷ room ∷ cell ∷ cell ∷ cell ∷ cell ∷ cell ∷ room ∷ room ∷ cell ∷ cell ∷ cell ∷ cell ∷ cell ∷ cell ∷ cell ∷ cell ∷ cell ∷ []) _ $
         by ! (exits false zs long (seeking-short-value ys msg n es k at zs seeking (lt more) (nltb→le (length msg - at) 4 head) (ltb→lt (length msg - at) (spanAt at msg) short))))
         (λ fits.
@@ -176,14 +176,14 @@ module _ {M : Type 1} (𝓤 : URA M) (H : Heap 𝓤) (A : Atoms 𝓤) (W : Given
         land ! (from ! (stop !)) (init ! (loc 10) refl (typed 𝓤 H A placeD W p p-ok .0)) $
         lets ! (loc 16) (un ! (val ! (loc 5) refl) (record { fits = at-small })) refl (tt, record { fits = at-small }) $
         lets ! (loc 17) (un ! (val ! (loc 10) refl) (record { fits = p-small })) refl (tt, record { fits = p-small }) $
-        lets ! (loc 18) (agg ! (and-then ! (val ! (loc 16) refl) (and-then ! (val ! (loc 17) refl) (no-more !)))) refl (typed 𝓤 H A foundD W fnd fnd-ok .0) $
+        lets ! (loc 18) (agg ! (and-then ! (val ! (loc 16) refl) (and-then ! (val ! (loc 17) refl) (no-more !)))) refl (typed 𝓤 H A entryPlaceD W fnd fnd-ok .0) $
         sets ! (loc 12) (bin ! (val ! (loc 6) refl) (lit ! tt) (record { fits = offset-fits head })) refl (tt, record { fits = offset-fits head }) $
         lets ! (loc 19) (bin ! (load ! (from ! (fld ! refl (stop !))) (look-in ! (loc 4) (sub ! 0 refl (whole !)))) (val ! (loc 12) refl) tt) refl (tt, tt) $
         rewrite ! (loc 19) (λ (j : ℕ). ‵ (fat fullShare tyPtr (l .1 .1 .1 .1 .1 .1 .1 .1 .1 .1 .1 .1 .1 .1 .1 .1 .1 .1 .1 .0) 0 (vptr b j))) (sym (offset-is 4 o k)) refl $
         move ! (4 ∷ []) $
-        takes-at ! foundD fullShare zs k zeroFound b o (in-zs head) (λ _.
-        assigns ! (of-opd ! (val ! (1 + loc 18) refl)) (from ! (hop ! (look ! (1 + loc 19) refl) (stop !))) (store-raw ! 0 refl (typed 𝓤 H A foundD W fnd fnd-ok .0)) $
-        puts-at ! foundD fullShare zs k fnd b o (in-zs head) fnd-ok $
+        takes-at ! entryPlaceD fullShare zs k zeroFound b o (in-zs head) (λ _.
+        assigns ! (of-opd ! (val ! (1 + loc 18) refl)) (from ! (hop ! (look ! (1 + loc 19) refl) (stop !))) (store-raw ! 0 refl (typed 𝓤 H A entryPlaceD W fnd fnd-ok .0)) $
+        puts-at ! entryPlaceD fullShare zs k fnd b o (in-zs head) fnd-ok $
         move ! (0 ∷ 5 ∷ []) $
         sets ! (loc 5) (bin ! (val ! (loc 5) refl) (val ! (loc 8) refl) (record { fits = next-fits fits })) refl (tt, record { fits = next-fits fits }) $
         assigns-last ! (bin ! (val ! (loc 6) refl) (lit ! tt) (record { fits = more-fits })) (from ! (stop !)) (store ! (loc 6) refl (tt, record { fits = more-fits })) $
@@ -192,7 +192,7 @@ module _ {M : Type 1} (𝓤 : URA M) (H : Heap 𝓤) (A : Atoms 𝓤) (W : Given
         (λ all. exec ! (𝓣 .C) (𝓣 .Λ) En part.t-5 (atRet En Done) $
         lets ! (loc 20) (of-opd ! (load ! (from ! (fld ! refl (stop !))) (look-in ! (loc 2) (sub ! 1 refl (whole !))))) refl (tt, record { fits = m-room .0 }) $
         lets ! (loc 0) (bin ! (val ! (loc 5) refl) (val ! (loc 20) refl) tt) refl (tt, tt) $
-        closed-slice ! tt foundD (length es) es zs b o refl long entries-room $
+        closed-slice ! tt entryPlaceD (length es) es zs b o refl long entries-room $
         returns ! (look ! (loc 0) refl) $ behind ! 6 $ frees-all ! (cell ∷ room ∷ room ∷ room ∷ room ∷ room ∷ room ∷ room ∷ room ∷ cell ∷ room ∷ room ∷ room ∷ cell ∷ cell ∷ cell ∷ cell ∷ cell ∷ cell ∷ cell ∷ cell ∷ []) _ $
         by ! (exits (eqb at (length msg)) zs long (seeking-ends ys msg n es k at zs seeking (nltb→le k n all))))
       where
@@ -202,7 +202,7 @@ module _ {M : Type 1} (𝓤 : URA M) (H : Heap 𝓤) (A : Atoms 𝓤) (W : Given
         at : ℕ
         at = s .1
 
-        zs : List Found
+        zs : List EntryPlace
         zs = s .2
 
         seeking : Seeking ys msg n es k at zs
@@ -214,7 +214,7 @@ module _ {M : Type 1} (𝓤 : URA M) (H : Heap 𝓤) (A : Atoms 𝓤) (W : Given
         p : ℕ
         p = place datapointId (e .id) ys
 
-        fnd : Found
+        fnd : EntryPlace
         fnd = foundAt ys at msg
 
         lt : Holds (ltb k n) → k < n
@@ -254,7 +254,7 @@ module _ {M : Type 1} (𝓤 : URA M) (H : Heap 𝓤) (A : Atoms 𝓤) (W : Given
         p-small : p < 2 ^ 16
         p-small = omega (arith, place-inside datapointId zeroDatapoint (e .id) ys, ok .0)
 
-        fnd-ok : Good foundD fnd
+        fnd-ok : Good entryPlaceD fnd
         fnd-ok = found-good at p at-small p-small
 
         wide : {j : ℕ} → j < 2 ^ 8 → j < 2 ^ 64
@@ -286,7 +286,7 @@ module _ {M : Type 1} (𝓤 : URA M) (H : Heap 𝓤) (A : Atoms 𝓤) (W : Given
       lets ! 30 (of-opd ! (lit ! tt)) refl (tt, record { fits = lit< tt }) $ lets ! 28 (of-opd ! (lit ! tt)) refl (tt, record { fits = lit< tt }) $
       lets ! 26 (un ! (val ! 34 refl) (record { fits = count-fits })) refl (tt, record { fits = count-fits }) $
       -- behind the locals: the three tokens, the two slices that are read, the number, the list
-      move ! (48 ∷ 44 ∷ []) $ opened-slice ! tt foundD (length es) es b o refl (λ _. move ! (0 ∷ 1 ∷ 46 ∷ 44 ∷ 47 ∷ 45 ∷ []) $ begins l))
+      move ! (48 ∷ 44 ∷ []) $ opened-slice ! tt entryPlaceD (length es) es b o refl (λ _. move ! (0 ∷ 1 ∷ 46 ∷ 44 ∷ 47 ∷ 45 ∷ []) $ begins l))
     where
       count-fits : n < 2 ^ 64
       count-fits = omega (arith, n-ok .1)

@@ -34,12 +34,12 @@ use denote.Triple.Statement.{Contract, Triple}
 use denote.Triple.Table.{entered, cited}
 use denote.Triple.Walked.{needs}
 use Rattle.baos.specs.declared.datapoint.Datapoint.{Datapoint}
-use Rattle.baos.specs.declared.inner.Found.{Found}
+use Rattle.baos.specs.declared.inner.EntryPlace.{EntryPlace}
 use Rattle.baos.specs.Datapoint.{datapointId, zeroDatapoint}
 use Rattle.baos.specs.Table.{found, place, rising}
 use Rattle.baos.specs.Set.{SetEntry, span, firstDatapointEntry, judgedDatapoint}
-use Rattle.baos.proofs.Types.{datapointD, foundD, byteD, placeD}
-use Rattle.baos.proofs.FoundLaws.{found-at-fits, found-place-fits}
+use Rattle.baos.proofs.Types.{datapointD, entryPlaceD, byteD, placeD}
+use Rattle.baos.proofs.EntryPlaceLaws.{found-at-fits, found-place-fits}
 use Rattle.baos.proofs.EntriesLaws.{found-here, none-datapoint}
 use Rattle.tables.proofs.table.datapoint_at as datapoint-at
 use Rattle.tables.proofs.table.datapoint_at.Symbol as datapoint-at-def
@@ -61,7 +61,7 @@ abbrev C-datapoint-code-at : {M : Type 1} (𝓤 : URA M) (H : Heap 𝓤) (A : At
 C-datapoint-code-at 𝓤 H A mem run = tripleOf 𝓤 H A datapoint-code-at.signature (datapoint-code-at.spec 𝓤 H A mem run)
 
 abbrev ps : List (Param 2)
-ps = shrSliceP 2 0 tt datapointD ∷ shrSliceP 2 1 tt byteD ∷ dataP 2 foundD ∷ []
+ps = shrSliceP 2 0 tt datapointD ∷ shrSliceP 2 1 tt byteD ∷ dataP 2 entryPlaceD ∷ []
 
 -- where local j stands
 abbrev loc : ℕ → ℕ
@@ -70,10 +70,10 @@ loc j = 22 - 2 * j
 module _ {M : Type 1} (𝓤 : URA M) (H : Heap 𝓤) (A : Atoms 𝓤) (W : Given 𝓤 H A) (mem : Memory → SProp 𝓤) (run : Routine → Fun 𝓤) (𝓣 : Tables 𝓤 H)
     (known-datapoint-at : Triple 𝓤 (𝓣 .C #tables·table·datapoint-at) (C-datapoint-at 𝓤 H A mem run))
     (known-datapoint-code-at : Triple 𝓤 (𝓣 .C #sets·set·datapoint-code-at) (C-datapoint-code-at 𝓤 H A mem run))
-    (κ0 κ1 : Lft) (q0 q1 : Share) (table : RefT (List Datapoint)) (s : RefT (List ℕ)) (entry : Found) (table-room : Room (datapointD .row) (length (table .now))) (s-room : Room (byteD .row) (length (s .now))) (entry-ok : Good foundD entry)
+    (κ0 κ1 : Lft) (q0 q1 : Share) (table : RefT (List Datapoint)) (s : RefT (List ℕ)) (entry : EntryPlace) (table-room : Room (datapointD .row) (length (table .now))) (s-room : Room (byteD .row) (length (s .now))) (entry-ok : Good entryPlaceD entry)
     (ok : (length (table .now) ≤ 1000) × (rising 0 (map datapointId (table .now)) ≡ true) × (entry .at + span 4 (drop (entry .at) (s .now)) ≤ length (s .now))
     × (entry .place ≡ place datapointId (firstDatapointEntry (drop (entry .at) (s .now)) .id) (table .now))) where
-  abbrev x : RefT (List Datapoint) × (RefT (List ℕ) × (Found × Unit {0}))
+  abbrev x : RefT (List Datapoint) × (RefT (List ℕ) × (EntryPlace × Unit {0}))
   x = (table, (s, (entry, tt)))
 
   abbrev ys : List Datapoint
@@ -98,7 +98,7 @@ module _ {M : Type 1} (𝓤 : URA M) (H : Heap 𝓤) (A : Atoms 𝓤) (W : Given
   Done = Ends 2 𝓤 H A W ps byteD (f.clauses 𝓤 H A mem run) (κ0, (κ1, tt)) (q0, (q1, tt)) x tt
 
   abbrev Had : List (Entry 𝓤)
-  Had = ‵ (foundD .row .own entry (foundD .val entry ∷ [])) ∷ ‵ (ShrS datapointD κ0 (table .ptr .0) (table .ptr .1) (table .name) (length ys) ys) ∷ ‵ (flft κ0 q0) ∷ ‵ (ShrS byteD κ1 (s .ptr .0) (s .ptr .1) (s .name) (length bytes) bytes) ∷ ‵ (flft κ1 q1) ∷ []
+  Had = ‵ (entryPlaceD .row .own entry (entryPlaceD .val entry ∷ [])) ∷ ‵ (ShrS datapointD κ0 (table .ptr .0) (table .ptr .1) (table .name) (length ys) ys) ∷ ‵ (flft κ0 q0) ∷ ‵ (ShrS byteD κ1 (s .ptr .0) (s .ptr .1) (s .name) (length bytes) bytes) ∷ ‵ (flft κ1 q1) ∷ []
 
   p-ok : Good placeD p
   p-ok = (refl, omega (arith, found-place-fits entry entry-ok))
@@ -120,7 +120,7 @@ module _ {M : Type 1} (𝓤 : URA M) (H : Heap 𝓤) (A : Atoms 𝓤) (W : Given
   walk : Walk 2 𝓤 H A W ps byteD (f.clauses 𝓤 H A mem run) 𝓣 code.function (κ0, (κ1, tt)) (q0, (q1, tt)) x tt
   walk =
       starts 𝓤 H A W 2 ps (κ0, (κ1, tt)) (q0, (q1, tt)) x ∵ enter ! (𝓣 .C) (𝓣 .Λ) code.function _ _ $ allocs-all ! (code.function .locals) (λ l. params1 ! $
-      pass1 ! (init ! 16 refl (tt, (tt, (record { fits = table-room .0 }, tt)))) $ pass1 ! (init ! 14 refl (tt, (tt, (record { fits = s-room .0 }, tt)))) $ pass1 ! (init ! 12 refl (typed 𝓤 H A foundD W entry entry-ok .0)) $ pass0 ! $
+      pass1 ! (init ! 16 refl (tt, (tt, (record { fits = table-room .0 }, tt)))) $ pass1 ! (init ! 14 refl (tt, (tt, (record { fits = s-room .0 }, tt)))) $ pass1 ! (init ! 12 refl (typed 𝓤 H A entryPlaceD W entry entry-ok .0)) $ pass0 ! $
       -- behind the locals: the two tokens, the two slices, the entry
       move ! (22 ∷ 20 ∷ 23 ∷ 21 ∷ []) $
       lets ! (loc 4) (un ! (load ! (from ! (fld ! refl (stop !))) (look-in ! (loc 3) (sub ! 1 refl (whole !)))) (record { fits = p-ok .1 })) refl (tt, record { fits = p-ok .1 }) $

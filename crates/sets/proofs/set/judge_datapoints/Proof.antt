@@ -41,16 +41,16 @@ use denote.Triple.Table.{entered, cited}
 use denote.Triple.Walked.{needs}
 use Rattle.baos.specs.declared.datapoint.Datapoint.{Datapoint}
 use Rattle.baos.specs.declared.inner.Verdict.{Verdict}
-use Rattle.baos.specs.declared.inner.Found.{Found}
+use Rattle.baos.specs.declared.inner.EntryPlace.{EntryPlace}
 use Rattle.baos.specs.Datapoint.{datapointId}
 use Rattle.baos.specs.Table.{found, place, rising}
 use Rattle.baos.specs.Set.{SetEntry, span, fills, setEntries, firstBad, firstDatapointEntry, judgedDatapoint}
-use Rattle.baos.specs.Inner.Found.{foundEntries}
-use Rattle.baos.proofs.Types.{datapointD, foundD, byteD, idD, placeD, verdictD, found-offset-fits}
+use Rattle.baos.specs.Inner.EntryPlaces.{entryPlaces}
+use Rattle.baos.proofs.Types.{datapointD, entryPlaceD, byteD, idD, placeD, verdictD, found-offset-fits}
 use Rattle.baos.proofs.SetLaws.{span-head}
 use Rattle.baos.proofs.Pairs.{calls-shrS-shrS}
 use Rattle.baos.proofs.EntriesLaws.{datapoint-entry-id}
-use Rattle.baos.proofs.FoundLaws.{found-inside, found-here, found-next, found-at-fits}
+use Rattle.baos.proofs.EntryPlaceLaws.{found-inside, found-here, found-next, found-at-fits}
 use Rattle.baos.proofs.LeftLaws.{fills-next, judged-bad, judged-fine, judged-all}
 use Rattle.baos.specs.Message.{Finding, verdictOf}
 use Rattle.baos.proofs.Types.{zero-verdict}
@@ -75,7 +75,7 @@ abbrev C-verdict-at : {M : Type 1} (𝓤 : URA M) (H : Heap 𝓤) (A : Atoms �
 C-verdict-at 𝓤 H A mem run = tripleOf 𝓤 H A verdict-at.signature (verdict-at.spec 𝓤 H A mem run)
 
 abbrev ps : List (Param 3)
-ps = shrSliceP 3 0 tt datapointD ∷ shrSliceP 3 1 tt byteD ∷ shrSliceP 3 2 tt foundD ∷ dataP 3 idD ∷ []
+ps = shrSliceP 3 0 tt datapointD ∷ shrSliceP 3 1 tt byteD ∷ shrSliceP 3 2 tt entryPlaceD ∷ dataP 3 idD ∷ []
 
 -- where local j stands
 abbrev loc : ℕ → ℕ
@@ -84,10 +84,10 @@ loc j = 34 - 2 * j
 module _ {M : Type 1} (𝓤 : URA M) (H : Heap 𝓤) (A : Atoms 𝓤) (W : Given 𝓤 H A) (mem : Memory → SProp 𝓤) (run : Routine → Fun 𝓤) (𝓣 : Tables 𝓤 H)
     (known-judge-datapoint : Triple 𝓤 (𝓣 .C #sets·set·judge-datapoint) (C-judge-datapoint 𝓤 H A mem run))
     (known-verdict-at : Triple 𝓤 (𝓣 .C #sets·set·verdict-at) (C-verdict-at 𝓤 H A mem run))
-    (κ0 κ1 κ2 : Lft) (q0 q1 q2 : Share) (table : RefT (List Datapoint)) (s : RefT (List ℕ)) (entries : RefT (List Found)) (n : ℕ) (table-room : Room (datapointD .row) (length (table .now))) (s-room : Room (byteD .row) (length (s .now)))
-    (entries-room : Room (foundD .row) (length (entries .now))) (n-ok : Good idD n)
-    (ok : (length (table .now) ≤ 1000) × (rising 0 (map datapointId (table .now)) ≡ true) × (fills 4 n (drop 6 (s .now)) ≡ true) × (take n (entries .now) ≡ foundEntries (table .now) n 6 (drop 6 (s .now)))) where
-  abbrev x : RefT (List Datapoint) × (RefT (List ℕ) × (RefT (List Found) × (ℕ × Unit {0})))
+    (κ0 κ1 κ2 : Lft) (q0 q1 q2 : Share) (table : RefT (List Datapoint)) (s : RefT (List ℕ)) (entries : RefT (List EntryPlace)) (n : ℕ) (table-room : Room (datapointD .row) (length (table .now))) (s-room : Room (byteD .row) (length (s .now)))
+    (entries-room : Room (entryPlaceD .row) (length (entries .now))) (n-ok : Good idD n)
+    (ok : (length (table .now) ≤ 1000) × (rising 0 (map datapointId (table .now)) ≡ true) × (fills 4 n (drop 6 (s .now)) ≡ true) × (take n (entries .now) ≡ entryPlaces (table .now) n 6 (drop 6 (s .now)))) where
+  abbrev x : RefT (List Datapoint) × (RefT (List ℕ) × (RefT (List EntryPlace) × (ℕ × Unit {0})))
   x = (table, (s, (entries, (n, tt))))
 
   abbrev ys : List Datapoint
@@ -96,7 +96,7 @@ module _ {M : Type 1} (𝓤 : URA M) (H : Heap 𝓤) (A : Atoms 𝓤) (W : Given
   abbrev bytes : List ℕ
   bytes = s .now
 
-  abbrev fs : List Found
+  abbrev fs : List EntryPlace
   fs = entries .now
 
   abbrev b : ℕ
@@ -121,7 +121,7 @@ module _ {M : Type 1} (𝓤 : URA M) (H : Heap 𝓤) (A : Atoms 𝓤) (W : Given
   Slices Γ = ‵ (ShrS datapointD κ0 (table .ptr .0) (table .ptr .1) (table .name) (length ys) ys) ∷ ‵ (flft κ0 q0) ∷ ‵ (ShrS byteD κ1 (s .ptr .0) (s .ptr .1) (s .name) (length bytes) bytes) ∷ ‵ (flft κ1 q1) ∷ Γ
 
   abbrev Had : List (Entry 𝓤)
-  Had = ‵ (idD .row .own n (idD .val n ∷ [])) ∷ ‵ (ShrS foundD κ2 b o (entries .name) (length fs) fs) ∷ ‵ (flft κ2 q2) ∷ Slices []
+  Had = ‵ (idD .row .own n (idD .val n ∷ [])) ∷ ‵ (ShrS entryPlaceD κ2 b o (entries .name) (length fs) fs) ∷ ‵ (flft κ2 q2) ∷ Slices []
 
   exits : (v : Verdict) → Good verdictD v → v ≡ verdictOf finding → ent 𝓤 (⋆ 𝓤 H A Had) (Done (verdictD .val v))
   exits v g z =
@@ -134,12 +134,12 @@ module _ {M : Type 1} (𝓤 : URA M) (H : Heap 𝓤) (A : Atoms 𝓤) (W : Given
 
     -- where the next entry begins, how many are left, how many are judged, and that those left decide and are found
     abbrev State : Type 0
-    State = (at : ℕ) × (n′ : ℕ) × (k : ℕ) × ((k + n′ ≡ n) × (fills 4 n′ (drop at bytes) ≡ true) × (firstBad judge (setEntries firstDatapointEntry 4 n′ (drop at bytes)) ≡ finding) × (take n′ (drop k fs) ≡ foundEntries ys n′ at (drop at bytes)))
+    State = (at : ℕ) × (n′ : ℕ) × (k : ℕ) × ((k + n′ ≡ n) × (fills 4 n′ (drop at bytes) ≡ true) × (firstBad judge (setEntries firstDatapointEntry 4 n′ (drop at bytes)) ≡ finding) × (take n′ (drop k fs) ≡ entryPlaces ys n′ at (drop at bytes)))
 
     abbrev Inv : State → List (Entry 𝓤)
     Inv st =
         Slices
-        (‵ (row (foundD .row) sh fs b o) ∷ ‵ (LookS foundD κ2 q2 sh (entries .name) fs b o)
+        (‵ (row (entryPlaceD .row) sh fs b o) ∷ ‵ (LookS entryPlaceD κ2 q2 sh (entries .name) fs b o)
         ∷ stack 𝓤 H En (none ∷ some (sliceVal (table .ptr) (length ys)) ∷ some (sliceVal (s .ptr) (length bytes)) ∷ some (sliceVal (b, o) (length fs)) ∷ some (vint w16 n) ∷ some (vint w64 (st .2)) ∷ some (vint w64 n) ∷ []) (‵ (idD .row .own n (idD .val n ∷ [])) ∷ []))
 
     abbrev ≺ : State → State → Type 0
@@ -157,14 +157,14 @@ module _ {M : Type 1} (𝓤 : URA M) (H : Heap 𝓤) (A : Atoms 𝓤) (W : Given
         lets ! (loc 13) (bin ! (load ! (from ! (fld ! refl (stop !))) (look-in ! (loc 3) (sub ! 0 refl (whole !)))) (val ! (loc 12) refl) tt) refl (tt, tt) $
         rewrite ! (loc 13) (λ (j : ℕ). ‵ (fat fullShare (spotOf 𝓤 H En 13 .0) (spotOf 𝓤 H En 13 .1) 0 (vptr b j))) (sym (offset-is 4 o k)) refl $
         move ! (4 ∷ 5 ∷ []) $
-        takes-at ! foundD sh fs k blank b o (inside some-left) (λ read-ok.
-        lets ! (1 + loc 14) (of-opd ! (load ! (from ! (hop ! (look ! (1 + loc 13) refl) (stop !))) (look-raw ! 0 refl))) refl (typed 𝓤 H A foundD W (getD fs k blank) read-ok .0) $
-        back-at ! foundD sh fs k blank b o (inside some-left) read-ok $
-        lets ! (loc 7) (of-opd ! (val ! (loc 14) refl)) refl (typed 𝓤 H A foundD W (getD fs k blank) read-ok .0) $
+        takes-at ! entryPlaceD sh fs k blank b o (inside some-left) (λ read-ok.
+        lets ! (1 + loc 14) (of-opd ! (load ! (from ! (hop ! (look ! (1 + loc 13) refl) (stop !))) (look-raw ! 0 refl))) refl (typed 𝓤 H A entryPlaceD W (getD fs k blank) read-ok .0) $
+        back-at ! entryPlaceD sh fs k blank b o (inside some-left) read-ok $
+        lets ! (loc 7) (of-opd ! (val ! (loc 14) refl)) refl (typed 𝓤 H A entryPlaceD W (getD fs k blank) read-ok .0) $
         -- what was read is the entry that begins at byte `at`
-        rewrite ! (loc 7) (λ (f : Found). ‵ (fat fullShare (spotOf 𝓤 H En 7 .0) (spotOf 𝓤 H En 7 .1) 0 (foundD .val f))) (is-entry some-left) refl $
+        rewrite ! (loc 7) (λ (f : EntryPlace). ‵ (fat fullShare (spotOf 𝓤 H En 7 .0) (spotOf 𝓤 H En 7 .1) 0 (entryPlaceD .val f))) (is-entry some-left) refl $
         move ! (2 ∷ 3 ∷ 4 ∷ 5 ∷ []) $
-        calls-shrS-shrS ! (fmOf 𝓤 H (W .laws) 𝓣) datapointD byteD (foundD ∷ []) byteD (judge-datapoint.clauses 𝓤 H A mem run) known-judge-datapoint ys bytes (entry, tt) tt (entry-ok some-left read-ok, tt) (factI 𝓤 _ (emp 𝓤) (ok .0, ok .1, within some-left, refl)) (judge e) (λ _ _. id⊢ 𝓤 _)
+        calls-shrS-shrS ! (fmOf 𝓤 H (W .laws) 𝓣) datapointD byteD (entryPlaceD ∷ []) byteD (judge-datapoint.clauses 𝓤 H A mem run) known-judge-datapoint ys bytes (entry, tt) tt (entry-ok some-left read-ok, tt) (factI 𝓤 _ (emp 𝓤) (ok .0, ok .1, within some-left, refl)) (judge e) (λ _ _. id⊢ 𝓤 _)
         (λ _ _ _ _. (and-then ! (val ! (loc 1) refl) (and-then ! (val ! (loc 2) refl) (and-then ! (val ! (loc 7) refl) (no-more !))))) (λ code-ok.
         land ! (from ! (stop !)) (init ! (loc 8) refl (typed 𝓤 H A byteD W (judge e) code-ok .0)) $
         sets ! (loc 11) (bin ! (val ! (loc 8) refl) (lit ! tt) tt) refl (tt, tt) $
@@ -176,7 +176,7 @@ module _ {M : Type 1} (𝓤 : URA M) (H : Heap 𝓤) (A : Atoms 𝓤) (W : Given
         land ! (from ! (stop !)) (init ! (loc 10) refl (typed 𝓤 H A verdictD W (verdict (e .id) (judge e)) v-ok .0)) $
         lets ! (loc 0) (of-opd ! (val ! (loc 10) refl)) refl (typed 𝓤 H A verdictD W (verdict (e .id) (judge e)) v-ok .0) $
         -- [the message; its token; the table; its token; the entries' row; what shuts it]
-        move ! (4 ∷ 5 ∷ 2 ∷ 3 ∷ []) $ shut-slice ! tt foundD sh fs b o $
+        move ! (4 ∷ 5 ∷ 2 ∷ 3 ∷ []) $ shut-slice ! tt entryPlaceD sh fs b o $
         returns-within ! Done refl (look ! (loc 0) refl) $ behind ! 6 $ frees-all ! (cell ∷ cell ∷ cell ∷ cell ∷ cell ∷ cell ∷ cell ∷ cell ∷ cell ∷ cell ∷ cell ∷ cell ∷ cell ∷ cell ∷ cell ∷ []) _ $
         by ! (exits (verdict (e .id) (judge e)) v-ok (judged-bad 4 at n′ bytes (more some-left) firstDatapointEntry judge finding (st .3 .2) wrong))))
         (λ right.
@@ -185,7 +185,7 @@ module _ {M : Type 1} (𝓤 : URA M) (H : Heap 𝓤) (A : Atoms 𝓤) (W : Given
         again ! ≺ Inv st (next, n′ - 1, k + 1, (omega (arith, st .3 .0, more some-left), fills-next 4 at n′ bytes (more some-left) (omega arith) (st .3 .1) .1, judged-fine 4 at n′ bytes (more some-left) firstDatapointEntry judge finding (st .3 .2) right, found-next ys at n′ k bytes fs (more some-left) (st .3 .1) (st .3 .3))) (falls (more some-left))))))
         (λ none-left. exec ! (𝓣 .C) (𝓣 .Λ) En part.t-4 (atRet En Done) $
         lets ! (loc 0) (agg ! (and-then ! (lit ! tt) (and-then ! (lit ! tt) (no-more !)))) refl (typed 𝓤 H A verdictD W (verdict 0 0) zero-verdict .0) $
-        move ! (4 ∷ 5 ∷ []) $ shut-slice ! tt foundD sh fs b o $
+        move ! (4 ∷ 5 ∷ []) $ shut-slice ! tt entryPlaceD sh fs b o $
         returns ! (look ! (loc 0) refl) $ behind ! 6 $ frees-all ! (room ∷ room ∷ room ∷ cell ∷ room ∷ room ∷ room ∷ room ∷ cell ∷ cell ∷ cell ∷ cell ∷ cell ∷ cell ∷ cell ∷ []) _ $
         by ! (exits (verdict 0 0) zero-verdict (judged-all firstDatapointEntry 4 n′ (drop at bytes) (omega (arith, nltb→le k n none-left, st .3 .0)) judge finding (st .3 .2))))
       where
@@ -198,13 +198,13 @@ module _ {M : Type 1} (𝓤 : URA M) (H : Heap 𝓤) (A : Atoms 𝓤) (W : Given
         k : ℕ
         k = st .2
 
-        blank : Found
+        blank : EntryPlace
         blank = record { at = 0; place = 0 }
 
         e : SetEntry
         e = firstDatapointEntry (drop at bytes)
 
-        entry : Found
+        entry : EntryPlace
         entry = record { at = at; place = place datapointId (e .id) ys }
 
         next : ℕ
@@ -219,10 +219,10 @@ module _ {M : Type 1} (𝓤 : URA M) (H : Heap 𝓤) (A : Atoms 𝓤) (W : Given
         is-entry : T (ltb k n) → getD fs k blank ≡ entry
         is-entry t = found-here ys at n′ k bytes fs (more t) (st .3 .1) (st .3 .3) blank
 
-        entry-ok : T (ltb k n) → Good foundD (getD fs k blank) → Good foundD entry
-        entry-ok t g = subst (Good foundD) (is-entry t) g
+        entry-ok : T (ltb k n) → Good entryPlaceD (getD fs k blank) → Good entryPlaceD entry
+        entry-ok t g = subst (Good entryPlaceD) (is-entry t) g
 
-        at-fits : T (ltb k n) → Good foundD (getD fs k blank) → at < 2 ^ 64
+        at-fits : T (ltb k n) → Good entryPlaceD (getD fs k blank) → at < 2 ^ 64
         at-fits t g = omega (arith, found-at-fits entry (entry-ok t g))
 
         offset-fits : T (ltb k n) → k * 4 < 2 ^ 64
@@ -249,7 +249,7 @@ module _ {M : Type 1} (𝓤 : URA M) (H : Heap 𝓤) (A : Atoms 𝓤) (W : Given
       pass1 ! (init ! 26 refl (tt, (tt, (record { fits = table-room .0 }, tt)))) $ pass1 ! (init ! 24 refl (tt, (tt, (record { fits = s-room .0 }, tt)))) $ pass1 ! (init ! 22 refl (tt, (tt, (record { fits = entries-room .0 }, tt)))) $ pass1 ! (init ! 20 refl (tt, record { fits = n-ok .1 })) $ pass0 ! $
       lets ! 18 (of-opd ! (lit ! tt)) refl (tt, record { fits = lit< tt }) $ lets ! 16 (un ! (val ! 20 refl) (record { fits = count-fits })) refl (tt, record { fits = count-fits }) $
       -- behind the locals: the three tokens, the three slices, the number of entries
-      move ! (35 ∷ 32 ∷ []) $ looked-slice ! tt foundD fs b o (λ sh _. move ! (34 ∷ 32 ∷ 35 ∷ 33 ∷ []) $ begins sh l))
+      move ! (35 ∷ 32 ∷ []) $ looked-slice ! tt entryPlaceD fs b o (λ sh _. move ! (34 ∷ 32 ∷ 35 ∷ 33 ∷ []) $ begins sh l))
     where
       count-fits : n < 2 ^ 64
       count-fits = omega (arith, n-ok .1)

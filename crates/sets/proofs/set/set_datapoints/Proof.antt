@@ -39,21 +39,21 @@ use denote.Triple.Walked.{needs}
 use Rattle.words.specs.Words.{put}
 use Rattle.baos.specs.declared.datapoint.Datapoint.{Datapoint}
 use Rattle.baos.specs.declared.inner.Verdict.{Verdict}
-use Rattle.baos.specs.declared.inner.Found.{Found}
+use Rattle.baos.specs.declared.inner.EntryPlace.{EntryPlace}
 use Rattle.baos.specs.Table.{tableOk, found, rising}
 use Rattle.baos.specs.Datapoint.{datapointId, datapointOk}
 use Rattle.baos.specs.Message.{subService, startOf, numberOf, coded, verdictOf}
 use Rattle.baos.specs.Set.{SetEntry, fills, setEntries, firstBad, applied, firstDatapointEntry, judgedDatapoint, setDatapoint}
-use Rattle.baos.specs.Inner.Found.{foundEntries}
-use Rattle.baos.proofs.Types.{datapointD, foundD, verdictD, byteD, idD, placeD}
+use Rattle.baos.specs.Inner.EntryPlaces.{entryPlaces}
+use Rattle.baos.proofs.Types.{datapointD, entryPlaceD, verdictD, byteD, idD, placeD}
 use Rattle.walks.proofs.Repeated.{repeated-typed, repeated, array-room}
 use Rattle.baos.proofs.LeftLaws.{ok-table}
 use Rattle.baos.proofs.WrittenLaws.{coded-ends}
 use Rattle.baos.proofs.FieldsFit.{id-fits, code-fits}
-use Rattle.baos.proofs.FoundLaws.{filled-take}
+use Rattle.baos.proofs.EntryPlaceLaws.{filled-take}
 use Rattle.baos.proofs.SetJoins.{datapoints-unfilled, datapoints-filled, datapoints-none, datapoints-bad, datapoints-fit, datapoints-set}
-use Rattle.baos.proofs.inner.Found as Entry
-use Rattle.baos.proofs.inner.Found.Laws as Entry′
+use Rattle.baos.proofs.inner.EntryPlace as Entry
+use Rattle.baos.proofs.inner.EntryPlace.Laws as Entry′
 use Rattle.messages.proofs.message.start_of as start-of
 use Rattle.messages.proofs.message.start_of.Symbol as start-of-def
 use Rattle.messages.proofs.message.start_of.Symbol.{name as #messages·message·start-of}
@@ -87,19 +87,19 @@ abbrev ps : List (Param 3)
 ps = mutSliceP 3 0 tt datapointD ∷ shrSliceP 3 1 tt byteD ∷ mutSliceP 3 2 tt byteD ∷ dataP 3 placeD ∷ []
 
 -- what the array is made of
-abbrev nowhere : Found
+abbrev nowhere : EntryPlace
 nowhere = record { at = 0; place = 0 }
 
-nowhere-good : Good foundD nowhere
+nowhere-good : Good entryPlaceD nowhere
 nowhere-good = LL.owes Entry.the-type Entry′.the-laws nowhere ((refl, lit< tt), ((refl, lit< tt), tt))
 
-abbrev blank : List Found
+abbrev blank : List EntryPlace
 blank = replicate 62 nowhere
 
 blank-long : 62 ≤ length blank
 blank-long = omega arith
 
-entries-room : Room (foundD .row) 62
+entries-room : Room (entryPlaceD .row) 62
 entries-room = (omega arith, omega arith)
 
 abbrev C-start-of : {M : Type 1} (𝓤 : URA M) (H : Heap 𝓤) (A : Atoms 𝓤) (mem : Memory → SProp 𝓤) (run : Routine → Fun 𝓤) → Contract 𝓤
@@ -142,10 +142,10 @@ module _ {M : Type 1} (𝓤 : URA M) (H : Heap 𝓤) (A : Atoms 𝓤) (W : Given
   filled = fills 4 n (drop 6 msg)
 
   -- the array, once the entries are found
-  abbrev founds : List Found
-  founds = foundEntries ys n 6 (drop 6 msg)
+  abbrev founds : List EntryPlace
+  founds = entryPlaces ys n 6 (drop 6 msg)
 
-  abbrev entries : List Found
+  abbrev entries : List EntryPlace
   entries = founds ++ drop (length founds) blank
 
   abbrev sets : List SetEntry
@@ -186,10 +186,10 @@ module _ {M : Type 1} (𝓤 : URA M) (H : Heap 𝓤) (A : Atoms 𝓤) (W : Given
       (λ _ _. (and-then ! (load ! (from ! (stop !)) (look ! 66 refl)) (no-more !))) (λ n-ok.
       land ! (from ! (stop !)) (init ! 58 refl (typed 𝓤 H A idD W n n-ok .0)) $
       -- the array
-      assigns ! (agg ! (and-then ! (lit ! tt) (and-then ! (lit ! tt) (no-more !)))) (from ! (stop !)) (init ! 50 refl (typed 𝓤 H A foundD W nowhere nowhere-good .0)) $
-      assigns ! (rep ! 62 (load ! (from ! (stop !)) (look ! 50 refl))) (from ! (stop !)) (init ! 56 refl (repeated-typed 𝓤 H A W foundD 62 nowhere nowhere-good .0)) $
+      assigns ! (agg ! (and-then ! (lit ! tt) (and-then ! (lit ! tt) (no-more !)))) (from ! (stop !)) (init ! 50 refl (typed 𝓤 H A entryPlaceD W nowhere nowhere-good .0)) $
+      assigns ! (rep ! 62 (load ! (from ! (stop !)) (look ! 50 refl))) (from ! (stop !)) (init ! 56 refl (repeated-typed 𝓤 H A W entryPlaceD 62 nowhere nowhere-good .0)) $
       move ! (56 ∷ []) $
-      repeated ! foundD 62 nowhere (l .1 .1 .1 .1 .1 .1 .1 .0) nowhere-good $
+      repeated ! entryPlaceD 62 nowhere (l .1 .1 .1 .1 .1 .1 .1 .0) nowhere-good $
       -- the entries are found, into the array
       assigns ! (addr ! (from ! (fld ! refl (hop ! (look-in ! 68 (sub ! 0 refl (whole !))) (stop !))))) (from ! (stop !)) (init ! 49 refl (tt, tt)) $
       assigns ! (agg ! (and-then ! (load ! (from ! (stop !)) (look ! 49 refl)) (and-then ! (load ! (from ! (fld ! refl (stop !))) (look-in ! 68 (sub ! 1 refl (whole !)))) (no-more !)))) (from ! (stop !)) (init ! 47 refl (tt, (tt, (record { fits = table-room .0 }, tt)))) $
@@ -200,7 +200,7 @@ module _ {M : Type 1} (𝓤 : URA M) (H : Heap 𝓤) (A : Atoms 𝓤) (W : Given
       move ! (4 ∷ []) $
       use1 W (‵ (ShrS byteD κ1 (m .ptr .0) (m .ptr .1) (m .name) (length msg) msg) ⊛ ‵ (ShrS byteD κ1 (m .ptr .0) (m .ptr .1) (m .name) (length msg) msg)) (shr-slice-copy 𝓤 H A W erased κ1 (byteD .row) .twice m (sliceVal (m .ptr) (length msg) ∷ [])) $ split ! $
       move ! (5 ∷ []) $
-      lends-array ! tt foundD tt 62 blank (l .1 .1 .1 .1 .1 .1 .1 .0) 0 entries-room (λ ν2 δ2 long.
+      lends-array ! tt entryPlaceD tt 62 blank (l .1 .1 .1 .1 .1 .1 .1 .0) 0 entries-room (λ ν2 δ2 long.
       use0 W (‵ (idD .row .own n (idD .val n ∷ []))) (idD .made 𝓤 H A W n (idD .val n ∷ []) n-ok) $
       move ! (6 ∷ 9 ∷ 1 ∷ 7 ∷ 4 ∷ 0 ∷ 2 ∷ []) $
       calls-any ! (fmOf 𝓤 H (W .laws) 𝓣) find-entries.ended (find-entries.clauses 𝓤 H A mem run) known-find-entries (((ν0 ∷ [], (κ1, (ν2 ∷ [], tt))), (fullShare, (q1, (fullShare, tt))), tt, (record { ptr = table .ptr; name = δ0; now = ys }, (m, (n, (record { ptr = ((l .1 .1 .1 .1 .1 .1 .1 .0), 0); name = δ2; now = blank }, tt)))), (sliceVal (table .ptr) (length ys) ∷ [], (sliceVal (m .ptr) (length msg) ∷ [], (idD .val n ∷ [], (sliceVal ((l .1 .1 .1 .1 .1 .1 .1 .0), 0) 62 ∷ [], tt))))), tt) (factI 𝓤 _ (emp 𝓤) (sought .0, sought .1, ok .1, ok .2, blank-long)) boolD filled (λ ws. ws .1 .1 .1 .0 ≡ entries)
@@ -215,7 +215,7 @@ module _ {M : Type 1} (𝓤 : URA M) (H : Heap 𝓤) (A : Atoms 𝓤) (W : Given
       move ! (0 ∷ 6 ∷ []) $
       shr-back ! tt datapointD (length ys) ys refl $
       move ! (3 ∷ 4 ∷ 5 ∷ []) $
-      array-back ! tt foundD 62 blank (l .1 .1 .1 .1 .1 .1 .1 .0) 0 long (ws .1 .1 .1 .0) entries z (
+      array-back ! tt entryPlaceD 62 blank (l .1 .1 .1 .1 .1 .1 .1 .0) 0 long (ws .1 .1 .1 .0) entries z (
       land ! (from ! (stop !)) (init ! 55 refl (typed 𝓤 H A boolD W filled isfind-entries .0)) $
       assigns ! (un ! (load ! (from ! (stop !)) (look ! 55 refl)) tt) (from ! (stop !)) (init ! 41 refl (tt, tt)) $
       leaves-early ! (load ! (from ! (stop !)) (look ! 41 refl)) (λ unfilled.
@@ -234,7 +234,7 @@ module _ {M : Type 1} (𝓤 : URA M) (H : Heap 𝓤) (A : Atoms 𝓤) (W : Given
       backsS ! tt byteD (length (out .now)) (out .now) refl rm (ws .0) (put (out .now) at (coded msg start 10)) z (λ long-out.
       land ! (from ! (stop !)) (init ! 73 refl (typed 𝓤 H A placeD W (at + 7) isput-coded .0)) $
       move ! (7 ∷ []) $
-      array-room ! foundD 62 entries (l .1 .1 .1 .1 .1 .1 .1 .0) $
+      array-room ! entryPlaceD 62 entries (l .1 .1 .1 .1 .1 .1 .1 .0) $
       move ! (4 ∷ []) $
       toss ! $
       move ! (4 ∷ []) $
@@ -265,7 +265,7 @@ module _ {M : Type 1} (𝓤 : URA M) (H : Heap 𝓤) (A : Atoms 𝓤) (W : Given
       backsS ! tt byteD (length (out .now)) (out .now) refl rm (ws .0) (put (out .now) at (coded msg start 6)) z (λ long-out.
       land ! (from ! (stop !)) (init ! 73 refl (typed 𝓤 H A placeD W (at + 7) isput-coded .0)) $
       move ! (7 ∷ []) $
-      array-room ! foundD 62 entries (l .1 .1 .1 .1 .1 .1 .1 .0) $
+      array-room ! entryPlaceD 62 entries (l .1 .1 .1 .1 .1 .1 .1 .0) $
       move ! (4 ∷ []) $
       toss ! $
       move ! (4 ∷ []) $
@@ -289,7 +289,7 @@ module _ {M : Type 1} (𝓤 : URA M) (H : Heap 𝓤) (A : Atoms 𝓤) (W : Given
       move ! (5 ∷ []) $
       use1 W (‵ (ShrS byteD κ1 (m .ptr .0) (m .ptr .1) (m .name) (length msg) msg) ⊛ ‵ (ShrS byteD κ1 (m .ptr .0) (m .ptr .1) (m .name) (length msg) msg)) (shr-slice-copy 𝓤 H A W erased κ1 (byteD .row) .twice m (sliceVal (m .ptr) (length msg) ∷ [])) $ split ! $
       move ! (5 ∷ []) $
-      shares-array ! tt foundD tt fullShare 62 entries (l .1 .1 .1 .1 .1 .1 .1 .0) 0 entries-room (λ ν2 δ2 long.
+      shares-array ! tt entryPlaceD tt fullShare 62 entries (l .1 .1 .1 .1 .1 .1 .1 .0) 0 entries-room (λ ν2 δ2 long.
       use0 W (‵ (idD .row .own n (idD .val n ∷ []))) (idD .made 𝓤 H A W n (idD .val n ∷ []) n-ok) $
       move ! (6 ∷ 9 ∷ 1 ∷ 7 ∷ 4 ∷ 2 ∷ 0 ∷ []) $
       calls-any ! (fmOf 𝓤 H (W .laws) 𝓣) judge-datapoints.ended (judge-datapoints.clauses 𝓤 H A mem run) known-judge-datapoints (((ν0 ∷ [], (κ1, (ν2 ∷ [], tt))), (fullShare, (q1, (fullShare, tt))), tt, (record { ptr = table .ptr; name = δ0; now = ys }, (m, (record { ptr = ((l .1 .1 .1 .1 .1 .1 .1 .0), 0); name = δ2; now = entries }, (n, tt)))), (sliceVal (table .ptr) (length ys) ∷ [], (sliceVal (m .ptr) (length msg) ∷ [], (sliceVal ((l .1 .1 .1 .1 .1 .1 .1 .0), 0) 62 ∷ [], (idD .val n ∷ [], tt))))), tt) (factI 𝓤 _ (emp 𝓤) (sought .0, sought .1, all-filled filled-all, first-found filled-all)) verdictD u (λ ws. Unit {0})
@@ -306,7 +306,7 @@ module _ {M : Type 1} (𝓤 : URA M) (H : Heap 𝓤) (A : Atoms 𝓤) (W : Given
       move ! (0 ∷ 5 ∷ []) $
       shr-back ! tt datapointD (length ys) ys refl $
       move ! (3 ∷ 4 ∷ []) $
-      array-unshared ! tt foundD fullShare 62 entries (l .1 .1 .1 .1 .1 .1 .1 .0) 0 long $
+      array-unshared ! tt entryPlaceD fullShare 62 entries (l .1 .1 .1 .1 .1 .1 .1 .0) 0 long $
       land ! (from ! (stop !)) (init ! 53 refl (typed 𝓤 H A verdictD W u isjudge-datapoints .0)) $
       assigns ! (bin ! (load ! (from ! (fld ! refl (stop !))) (look-in ! 53 (sub ! 1 refl (whole !)))) (lit ! tt) tt) (from ! (stop !)) (store ! 41 refl (tt, tt)) $
       leaves-early ! (load ! (from ! (stop !)) (look ! 41 refl)) (λ bad.
@@ -325,7 +325,7 @@ module _ {M : Type 1} (𝓤 : URA M) (H : Heap 𝓤) (A : Atoms 𝓤) (W : Given
       backsS ! tt byteD (length (out .now)) (out .now) refl rm (ws .0) (put (out .now) at (coded msg (u .id) (u .code))) z (λ long-out.
       land ! (from ! (stop !)) (init ! 73 refl (typed 𝓤 H A placeD W (at + 7) isput-coded .0)) $
       move ! (7 ∷ []) $
-      array-room ! foundD 62 entries (l .1 .1 .1 .1 .1 .1 .1 .0) $
+      array-room ! entryPlaceD 62 entries (l .1 .1 .1 .1 .1 .1 .1 .0) $
       move ! (4 ∷ []) $
       toss ! $
       move ! (4 ∷ []) $
@@ -349,7 +349,7 @@ module _ {M : Type 1} (𝓤 : URA M) (H : Heap 𝓤) (A : Atoms 𝓤) (W : Given
       move ! (5 ∷ []) $
       use1 W (‵ (ShrS byteD κ1 (m .ptr .0) (m .ptr .1) (m .name) (length msg) msg) ⊛ ‵ (ShrS byteD κ1 (m .ptr .0) (m .ptr .1) (m .name) (length msg) msg)) (shr-slice-copy 𝓤 H A W erased κ1 (byteD .row) .twice m (sliceVal (m .ptr) (length msg) ∷ [])) $ split ! $
       move ! (5 ∷ []) $
-      shares-array ! tt foundD tt fullShare 62 entries (l .1 .1 .1 .1 .1 .1 .1 .0) 0 entries-room (λ ν2 δ2 long.
+      shares-array ! tt entryPlaceD tt fullShare 62 entries (l .1 .1 .1 .1 .1 .1 .1 .0) 0 entries-room (λ ν2 δ2 long.
       use0 W (‵ (idD .row .own n (idD .val n ∷ []))) (idD .made 𝓤 H A W n (idD .val n ∷ []) n-ok) $
       move ! (6 ∷ 9 ∷ 1 ∷ 7 ∷ 4 ∷ 2 ∷ 0 ∷ []) $
       calls-any ! (fmOf 𝓤 H (W .laws) 𝓣) apply-datapoints.ended (apply-datapoints.clauses 𝓤 H A mem run) known-apply-datapoints (((ν0 ∷ [], (κ1, (ν2 ∷ [], tt))), (fullShare, (q1, (fullShare, tt))), tt, (record { ptr = table .ptr; name = δ0; now = ys }, (m, (record { ptr = ((l .1 .1 .1 .1 .1 .1 .1 .0), 0); name = δ2; now = entries }, (n, tt)))), (sliceVal (table .ptr) (length ys) ∷ [], (sliceVal (m .ptr) (length msg) ∷ [], (sliceVal ((l .1 .1 .1 .1 .1 .1 .1 .0), 0) 62 ∷ [], (idD .val n ∷ [], tt))))), tt) (factI 𝓤 _ (emp 𝓤) (sought .0, sought .1, all-filled filled-all, datapoints-fit msg ys (ok .0) (out .now) at filled-all some fine, first-found filled-all)) unitD tt (λ ws. ws .0 ≡ ys′)
@@ -364,7 +364,7 @@ module _ {M : Type 1} (𝓤 : URA M) (H : Heap 𝓤) (A : Atoms 𝓤) (W : Given
       move ! (0 ∷ 3 ∷ 6 ∷ []) $
       backsS ! tt datapointD (length ys) ys refl rm0 (ws .0) ys′ z (λ long-table.
       move ! (3 ∷ 4 ∷ []) $
-      array-unshared ! tt foundD fullShare 62 entries (l .1 .1 .1 .1 .1 .1 .1 .0) 0 long $
+      array-unshared ! tt entryPlaceD fullShare 62 entries (l .1 .1 .1 .1 .1 .1 .1 .0) 0 long $
       land ! (from ! (stop !)) (init ! 19 refl (tt, tt)) $
       assigns ! (addr ! (from ! (fld ! refl (hop ! (look-in ! 64 (sub ! 0 refl (whole !))) (stop !))))) (from ! (stop !)) (init ! 9 refl (tt, tt)) $
       assigns ! (agg ! (and-then ! (load ! (from ! (stop !)) (look ! 9 refl)) (and-then ! (load ! (from ! (fld ! refl (stop !))) (look-in ! 64 (sub ! 1 refl (whole !)))) (no-more !)))) (from ! (stop !)) (init ! 7 refl (tt, (tt, (record { fits = out-room .0 }, tt)))) $
@@ -381,7 +381,7 @@ module _ {M : Type 1} (𝓤 : URA M) (H : Heap 𝓤) (A : Atoms 𝓤) (W : Given
       backsS ! tt byteD (length (out .now)) (out .now) refl rm (ws .0) (put (out .now) at (coded msg start 0)) z (λ long-out.
       land ! (from ! (stop !)) (init ! 73 refl (typed 𝓤 H A placeD W (at + 7) isput-coded .0)) $
       move ! (7 ∷ []) $
-      array-room ! foundD 62 entries (l .1 .1 .1 .1 .1 .1 .1 .0) $
+      array-room ! entryPlaceD 62 entries (l .1 .1 .1 .1 .1 .1 .1 .0) $
       move ! (4 ∷ []) $
       toss ! $
       move ! (4 ∷ []) $

@@ -54,25 +54,25 @@ use Rattle.calls.specs.declared.event.Event.{Event}
 use Rattle.calls.specs.Call.{Called, call as called}
 use Rattle.calls.proofs.CallLaws.{reply-told}
 use Rattle.calls.proofs.Types.{eventD, replyD}
-use Rattle.calls.specs.Numbers.{isEvent, eventOf, numberOf, noEvent}
+use Rattle.calls.specs.Numbers.{isEvent, eventNumbered, replyNumber, noEvent}
 use Rattle.tagobrelin.proofs.Numbered.{numberD}
 use Rattle.calls.proofs.ExportedLaws.{no-event, an-event, count-fits}
 use Rattle.tagobrelin.proofs.numbers.is_event as is-event
 use Rattle.tagobrelin.proofs.numbers.is_event.Symbol as is-event-def
 use Rattle.tagobrelin.proofs.numbers.is_event.Symbol.{name as #tagobrelin·numbers·is-event}
 use Rattle.tagobrelin.proofs.numbers.is_event.Met as is-event-thm
-use Rattle.tagobrelin.proofs.numbers.event_of as event-of
-use Rattle.tagobrelin.proofs.numbers.event_of.Symbol as event-of-def
-use Rattle.tagobrelin.proofs.numbers.event_of.Symbol.{name as #tagobrelin·numbers·event-of}
-use Rattle.tagobrelin.proofs.numbers.event_of.Met as event-of-thm
+use Rattle.tagobrelin.proofs.numbers.event_numbered as event-numbered
+use Rattle.tagobrelin.proofs.numbers.event_numbered.Symbol as event-numbered-def
+use Rattle.tagobrelin.proofs.numbers.event_numbered.Symbol.{name as #tagobrelin·numbers·event-numbered}
+use Rattle.tagobrelin.proofs.numbers.event_numbered.Met as event-numbered-thm
 use Rattle.server.proofs.call.call as call
 use Rattle.server.proofs.call.call.Symbol as call-def
 use Rattle.server.proofs.call.call.Symbol.{name as #server·call·call}
 use Rattle.server.proofs.call.call.Met as call-thm
-use Rattle.tagobrelin.proofs.numbers.number_of as number-of
-use Rattle.tagobrelin.proofs.numbers.number_of.Symbol as number-of-def
-use Rattle.tagobrelin.proofs.numbers.number_of.Symbol.{name as #tagobrelin·numbers·number-of}
-use Rattle.tagobrelin.proofs.numbers.number_of.Met as number-of-thm
+use Rattle.tagobrelin.proofs.numbers.reply_number as reply-number
+use Rattle.tagobrelin.proofs.numbers.reply_number.Symbol as reply-number-def
+use Rattle.tagobrelin.proofs.numbers.reply_number.Symbol.{name as #tagobrelin·numbers·reply-number}
+use Rattle.tagobrelin.proofs.numbers.reply_number.Met as reply-number-thm
 use Rattle.tagobrelin.proofs.exported.tagobrelin_call.Key.{name as #tagobrelin·exported·tagobrelin-call}
 use Rattle.tagobrelin.proofs.exported.tagobrelin_call as f
 use Rattle.tagobrelin.proofs.exported.tagobrelin_call.Statement as stated
@@ -84,17 +84,17 @@ ps = dataP 6 byteD ∷ dataP 6 byteD ∷ dataP 6 idD ∷ dataP 6 byteD ∷ shrSl
 abbrev C-is-event : {M : Type 1} (𝓤 : URA M) (H : Heap 𝓤) (A : Atoms 𝓤) (mem : Memory → SProp 𝓤) (run : Routine → Fun 𝓤) → Contract 𝓤
 C-is-event 𝓤 H A mem run = tripleOf 𝓤 H A is-event.signature (is-event.spec 𝓤 H A mem run)
 
-abbrev C-event-of : {M : Type 1} (𝓤 : URA M) (H : Heap 𝓤) (A : Atoms 𝓤) (mem : Memory → SProp 𝓤) (run : Routine → Fun 𝓤) → Contract 𝓤
-C-event-of 𝓤 H A mem run = tripleOf 𝓤 H A event-of.signature (event-of.spec 𝓤 H A mem run)
+abbrev C-event-numbered : {M : Type 1} (𝓤 : URA M) (H : Heap 𝓤) (A : Atoms 𝓤) (mem : Memory → SProp 𝓤) (run : Routine → Fun 𝓤) → Contract 𝓤
+C-event-numbered 𝓤 H A mem run = tripleOf 𝓤 H A event-numbered.signature (event-numbered.spec 𝓤 H A mem run)
 
 abbrev C-call : {M : Type 1} (𝓤 : URA M) (H : Heap 𝓤) (A : Atoms 𝓤) (mem : Memory → SProp 𝓤) (run : Routine → Fun 𝓤) → Contract 𝓤
 C-call 𝓤 H A mem run = tripleOf 𝓤 H A call.signature (call.spec 𝓤 H A mem run)
 
-abbrev C-number-of : {M : Type 1} (𝓤 : URA M) (H : Heap 𝓤) (A : Atoms 𝓤) (mem : Memory → SProp 𝓤) (run : Routine → Fun 𝓤) → Contract 𝓤
-C-number-of 𝓤 H A mem run = tripleOf 𝓤 H A number-of.signature (number-of.spec 𝓤 H A mem run)
+abbrev C-reply-number : {M : Type 1} (𝓤 : URA M) (H : Heap 𝓤) (A : Atoms 𝓤) (mem : Memory → SProp 𝓤) (run : Routine → Fun 𝓤) → Contract 𝓤
+C-reply-number 𝓤 H A mem run = tripleOf 𝓤 H A reply-number.signature (reply-number.spec 𝓤 H A mem run)
 
 module _ {M : Type 1} (𝓤 : URA M) (H : Heap 𝓤) (A : Atoms 𝓤) (W : Given 𝓤 H A) (mem : Memory → SProp 𝓤) (run : Routine → Fun 𝓤) (𝓣 : Tables 𝓤 H)
-    (known-is-event : Triple 𝓤 (𝓣 .C #tagobrelin·numbers·is-event) (C-is-event 𝓤 H A mem run)) (known-event-of : Triple 𝓤 (𝓣 .C #tagobrelin·numbers·event-of) (C-event-of 𝓤 H A mem run)) (known-call : Triple 𝓤 (𝓣 .C #server·call·call) (C-call 𝓤 H A mem run)) (known-number-of : Triple 𝓤 (𝓣 .C #tagobrelin·numbers·number-of) (C-number-of 𝓤 H A mem run))
+    (known-is-event : Triple 𝓤 (𝓣 .C #tagobrelin·numbers·is-event) (C-is-event 𝓤 H A mem run)) (known-event-numbered : Triple 𝓤 (𝓣 .C #tagobrelin·numbers·event-numbered) (C-event-numbered 𝓤 H A mem run)) (known-call : Triple 𝓤 (𝓣 .C #server·call·call) (C-call 𝓤 H A mem run)) (known-reply-number : Triple 𝓤 (𝓣 .C #tagobrelin·numbers·reply-number) (C-reply-number 𝓤 H A mem run))
     (κ0 κ1 κ2 κ3 κ4 κ5 : Lft) (q0 q1 q2 q3 q4 q5 : Share) (event : ℕ) (byte : ℕ) (id : ℕ) (outcome : ℕ) (value : RefT (List ℕ)) (datapoints : RefT (List Datapoint)) (items : RefT (List Item)) (parameters : RefT (List ℕ)) (link : RefT Link) (out : RefT (List ℕ)) (event-ok : Good byteD event) (byte-ok : Good byteD byte) (id-ok : Good idD id) (outcome-ok : Good byteD outcome) (value-room : Room (byteD .row) (length (value .now))) (datapoints-room : Room (datapointD .row) (length (datapoints .now))) (items-room : Room (itemD .row) (length (items .now))) (parameters-room : Room (byteD .row) (length (parameters .now))) (out-room : Room (byteD .row) (length (out .now))) where
   abbrev x : ℕ × (ℕ × (ℕ × (ℕ × (RefT (List ℕ) × (RefT (List Datapoint) × (RefT (List Item) × (RefT (List ℕ) × (RefT Link × (RefT (List ℕ) × Unit {0})))))))))
   x = (event, (byte, (id, (outcome, (value, (datapoints, (items, (parameters, (link, (out, tt))))))))))
@@ -106,7 +106,7 @@ module _ {M : Type 1} (𝓤 : URA M) (H : Heap 𝓤) (A : Atoms 𝓤) (W : Given
   lent = tables-of (datapoints .now) (items .now) (parameters .now)
 
   abbrev happened : Event
-  happened = eventOf event byte id outcome
+  happened = eventNumbered event byte id outcome
 
   abbrev after : Called
   after = called happened (value .now) lent h (out .now)
@@ -142,7 +142,7 @@ module _ {M : Type 1} (𝓤 : URA M) (H : Heap 𝓤) (A : Atoms 𝓤) (W : Given
       suffices ! _ (ends-in 6 𝓤 H A W ps numberD (f.clauses 𝓤 H A mem run) (κ0, (κ1, (κ2, (κ3, (κ4, (κ5, tt)))))) (q0, (q1, (q2, (q3, (q4, (q5, tt)))))) x tt noEvent (tt, (tt, (tt, (tt, (tt, (datapoints .now, (items .now, (tt, (h, (out .now, tt)))))))))) (tt, (tt, (tt, (tt, (tt, (refl, (refl, (tt, (tt, (refl, tt)))))))))) none-ok (factI 𝓤 _ (emp 𝓤) (no-event event byte id outcome (value .now) lent h (out .now) (no-T (isEvent event outcome) none)))) $
       nothing ! $ nothing ! $ nothing ! $ nothing ! $ nothing ! $ nothing ! $ nothing ! $ nothing ! $ keep ! (13 ∷ 15 ∷ 17 ∷ 19 ∷ 21 ∷ 23 ∷ 0 ∷ 1 ∷ 2 ∷ 3 ∷ 4 ∷ 5 ∷ 14 ∷ 16 ∷ 6 ∷ 20 ∷ 22 ∷ 7 ∷ []) $ group ! 7 $ frame ! $ done !
       ) (λ some.
-      calls-plain ! (fmOf 𝓤 H (W .laws) 𝓣) (byteD ∷ byteD ∷ idD ∷ byteD ∷ []) eventD (event-of.clauses 𝓤 H A mem run) known-event-of (event, (byte, (id, (outcome, tt)))) tt (event-ok, (byte-ok, (id-ok, (outcome-ok, tt)))) (id⊢ 𝓤 _) happened (λ _ _. id⊢ 𝓤 _)
+      calls-plain ! (fmOf 𝓤 H (W .laws) 𝓣) (byteD ∷ byteD ∷ idD ∷ byteD ∷ []) eventD (event-numbered.clauses 𝓤 H A mem run) known-event-numbered (event, (byte, (id, (outcome, tt)))) tt (event-ok, (byte-ok, (id-ok, (outcome-ok, tt)))) (id⊢ 𝓤 _) happened (λ _ _. id⊢ 𝓤 _)
       (λ _. (and-then ! (load ! (from ! (stop !)) (look ! 53 refl)) (and-then ! (load ! (from ! (stop !)) (look ! 51 refl)) (and-then ! (load ! (from ! (stop !)) (look ! 49 refl)) (and-then ! (load ! (from ! (stop !)) (look ! 47 refl)) (no-more !)))))) (λ happened-ok.
       land ! (from ! (stop !)) (init ! 32 refl (typed 𝓤 H A eventD W happened happened-ok .0)) $
       assigns ! (addr ! (from ! (fld ! refl (hop ! (look-in ! 42 (sub ! 0 refl (whole !))) (stop !))))) (from ! (stop !)) (init ! 24 refl (tt, tt)) $
@@ -174,11 +174,11 @@ module _ {M : Type 1} (𝓤 : URA M) (H : Heap 𝓤) (A : Atoms 𝓤) (W : Given
       move ! (8 ∷ 12 ∷ 13 ∷ []) $
       backsS ! tt byteD (length (out .now)) (out .now) refl rm5 (ws .1 .1 .1 .1 .1 .1 .0) (after .output) (z .3) (λ long5.
       land ! (from ! (stop !)) (init ! 31 refl (typed 𝓤 H A replyD W (after .reply) iscall .0)) $
-      calls-plain ! (fmOf 𝓤 H (W .laws) 𝓣) (replyD ∷ []) numberD (number-of.clauses 𝓤 H A mem run) known-number-of (after .reply, tt) tt (iscall, tt) (factI 𝓤 _ (emp 𝓤) (count-fits event byte id outcome (value .now) lent h (out .now))) (numberOf (after .reply)) (λ _ _. id⊢ 𝓤 _)
+      calls-plain ! (fmOf 𝓤 H (W .laws) 𝓣) (replyD ∷ []) numberD (reply-number.clauses 𝓤 H A mem run) known-reply-number (after .reply, tt) tt (iscall, tt) (factI 𝓤 _ (emp 𝓤) (count-fits event byte id outcome (value .now) lent h (out .now))) (replyNumber (after .reply)) (λ _ _. id⊢ 𝓤 _)
       (λ _. (and-then ! (load ! (from ! (stop !)) (look ! 32 refl)) (no-more !))) (λ number-ok.
-      land ! (from ! (stop !)) (init ! 55 refl (typed 𝓤 H A numberD W (numberOf (after .reply)) number-ok .0)) $
+      land ! (from ! (stop !)) (init ! 55 refl (typed 𝓤 H A numberD W (replyNumber (after .reply)) number-ok .0)) $
       returns ! (look ! 55 refl) $ behind ! 13 $ frees-all ! (cell ∷ cell ∷ cell ∷ cell ∷ cell ∷ cell ∷ cell ∷ cell ∷ cell ∷ cell ∷ cell ∷ cell ∷ cell ∷ cell ∷ cell ∷ cell ∷ cell ∷ cell ∷ cell ∷ cell ∷ cell ∷ cell ∷ []) _ $
-      suffices ! _ (ends-in 6 𝓤 H A W ps numberD (f.clauses 𝓤 H A mem run) (κ0, (κ1, (κ2, (κ3, (κ4, (κ5, tt)))))) (q0, (q1, (q2, (q3, (q4, (q5, tt)))))) x tt (numberOf (after .reply)) (tt, (tt, (tt, (tt, (tt, (after .tables .datapoints, (after .tables .items, (tt, (after .link, (after .output, tt)))))))))) (tt, (tt, (tt, (tt, (tt, (sym long1, (sym long2, (tt, (tt, (sym long5, tt)))))))))) number-ok (factI 𝓤 _ (emp 𝓤) (an-event event byte id outcome (value .now) lent h (out .now) (yes-T (isEvent event outcome) some) (z .4)))) $
+      suffices ! _ (ends-in 6 𝓤 H A W ps numberD (f.clauses 𝓤 H A mem run) (κ0, (κ1, (κ2, (κ3, (κ4, (κ5, tt)))))) (q0, (q1, (q2, (q3, (q4, (q5, tt)))))) x tt (replyNumber (after .reply)) (tt, (tt, (tt, (tt, (tt, (after .tables .datapoints, (after .tables .items, (tt, (after .link, (after .output, tt)))))))))) (tt, (tt, (tt, (tt, (tt, (sym long1, (sym long2, (tt, (tt, (sym long5, tt)))))))))) number-ok (factI 𝓤 _ (emp 𝓤) (an-event event byte id outcome (value .now) lent h (out .now) (yes-T (isEvent event outcome) some) (z .4)))) $
       nothing ! $ nothing ! $ nothing ! $ nothing ! $ nothing ! $ nothing ! $ nothing ! $ nothing ! $ keep ! (20 ∷ 19 ∷ 17 ∷ 21 ∷ 15 ∷ 13 ∷ 0 ∷ 1 ∷ 2 ∷ 3 ∷ 4 ∷ 5 ∷ 18 ∷ 16 ∷ 6 ∷ 14 ∷ 12 ∷ 7 ∷ []) $ group ! 7 $ frame ! $ done !)))))))))))))
 
 pub tagobrelin-call-spec : {M : Type 1} → stated.statement M
@@ -190,7 +190,7 @@ tagobrelin-call-spec 𝓤 H 𝓜 𝓖 𝓡 =
     (tables 𝓤 H 𝓜 𝓡 code.env .C) (tables 𝓤 H 𝓜 𝓡 code.env .Λ) #tagobrelin·exported·tagobrelin-call code.function (code.unfolded 𝓤 H 𝓜 𝓡)
     (meets-by 6 𝓤 H (𝓖 .A) W ps numberD (f.clauses 𝓤 H (𝓖 .A) (𝓜 .mem) (𝓡 .run)) 𝓣 code.function (λ κs qs a _ are. via 𝓤 _ (fst∗ 𝓤 _ (emp 𝓤)) (walk 𝓤 H (𝓖 .A) W (𝓜 .mem) (𝓡 .run) 𝓣
     (cited 𝓤 H (C-is-event 𝓤 H (𝓖 .A) (𝓜 .mem) (𝓡 .run)) 𝓜 𝓡 code.env #tagobrelin·numbers·is-event is-event-def.routine code.calls-tagobrelin·numbers·is-event (is-event-thm.met 𝓤 H 𝓜 𝓖 𝓡))
-    (cited 𝓤 H (C-event-of 𝓤 H (𝓖 .A) (𝓜 .mem) (𝓡 .run)) 𝓜 𝓡 code.env #tagobrelin·numbers·event-of event-of-def.routine code.calls-tagobrelin·numbers·event-of (event-of-thm.met 𝓤 H 𝓜 𝓖 𝓡))
+    (cited 𝓤 H (C-event-numbered 𝓤 H (𝓖 .A) (𝓜 .mem) (𝓡 .run)) 𝓜 𝓡 code.env #tagobrelin·numbers·event-numbered event-numbered-def.routine code.calls-tagobrelin·numbers·event-numbered (event-numbered-thm.met 𝓤 H 𝓜 𝓖 𝓡))
     (cited 𝓤 H (C-call 𝓤 H (𝓖 .A) (𝓜 .mem) (𝓡 .run)) 𝓜 𝓡 code.env #server·call·call call-def.routine code.calls-server·call·call (call-thm.met 𝓤 H 𝓜 𝓖 𝓡))
-    (cited 𝓤 H (C-number-of 𝓤 H (𝓖 .A) (𝓜 .mem) (𝓡 .run)) 𝓜 𝓡 code.env #tagobrelin·numbers·number-of number-of-def.routine code.calls-tagobrelin·numbers·number-of (number-of-thm.met 𝓤 H 𝓜 𝓖 𝓡))
+    (cited 𝓤 H (C-reply-number 𝓤 H (𝓖 .A) (𝓜 .mem) (𝓡 .run)) 𝓜 𝓡 code.env #tagobrelin·numbers·reply-number reply-number-def.routine code.calls-tagobrelin·numbers·reply-number (reply-number-thm.met 𝓤 H 𝓜 𝓖 𝓡))
     (κs .0) (κs .1 .0) (κs .1 .1 .0) (κs .1 .1 .1 .0) (κs .1 .1 .1 .1 .0) (κs .1 .1 .1 .1 .1 .0) (qs .0) (qs .1 .0) (qs .1 .1 .0) (qs .1 .1 .1 .0) (qs .1 .1 .1 .1 .0) (qs .1 .1 .1 .1 .1 .0) (a .0) (a .1 .0) (a .1 .1 .0) (a .1 .1 .1 .0) (a .1 .1 .1 .1 .0) (a .1 .1 .1 .1 .1 .0) (a .1 .1 .1 .1 .1 .1 .0) (a .1 .1 .1 .1 .1 .1 .1 .0) (a .1 .1 .1 .1 .1 .1 .1 .1 .0) (a .1 .1 .1 .1 .1 .1 .1 .1 .1 .0) (are .0) (are .1 .0) (are .1 .1 .0) (are .1 .1 .1 .0) (are .1 .1 .1 .1 .0 .0 .1) (are .1 .1 .1 .1 .1 .0 .0 .1) (are .1 .1 .1 .1 .1 .1 .0 .0 .1) (are .1 .1 .1 .1 .1 .1 .1 .0 .0 .1) (are .1 .1 .1 .1 .1 .1 .1 .1 .1 .0 .0 .1))))
