@@ -32,8 +32,8 @@ pub fn call(
         (tablesOf (now (datapoints .exit)) (now (items .exit)) (now (parameters .entry))) (now (link .exit))
         (now (out .exit)) ⌝ }
 {
-    let outstanding = link.held != 0;
-    let refusal = refusal_of(datapoints, items, parameters, outstanding, link, out.len());
+    let held = link.held;
+    let refusal = refusal_of(datapoints, items, parameters, held, link, out.len());
     if refusal != 0 {
         return Reply::Refused(refusal);
     }

@@ -1,5 +1,7 @@
 // The refusals that do not look at the event.
 ghost use mathlib.Core.Path.{_≡_};
+ghost use mathlib.Core.Bool.{not};
+ghost use lib.Dec.{eqb};
 ghost use Rattle.baos.specs.Table.{tablesOf};
 ghost use Rattle.calls.specs.Promise.{lentRefusal};
 use baos::datapoint::Datapoint;
@@ -12,19 +14,19 @@ use ft12::record::Link;
 use link::range::in_range;
 use tables::table::tables_ok;
 
-// The number of the lowest that is given, 0 where none is. `outstanding` says whether the link record holds a frame.
+// The number of the lowest that is given, 0 where none is. `held` is how many bytes the link record has outstanding.
 pub fn refusal_of(
     datapoints: &[Datapoint],
     items: &[Item],
     parameters: &[u8],
-    outstanding: bool,
+    held: u16,
     link: &Link,
     room: usize,
 ) -> u8
-    ensures { λ r. ⌜ r ≡ lentRefusal outstanding
+    ensures { λ r. ⌜ r ≡ lentRefusal (not (eqb held 0))
         (tablesOf (now (datapoints .entry)) (now (items .entry)) (now (parameters .entry))) (now (link .entry)) room ⌝ }
 {
-    if !tables_ok(datapoints, items, parameters, outstanding) {
+    if !tables_ok(datapoints, items, parameters, held) {
         return TABLE_NOT_WELL_FORMED;
     }
     if !in_range(link) {

@@ -1,9 +1,10 @@
 // The tables: runs of records with rising IDs, lent by their owner.
 ghost use mathlib.Core.Path.{_≡_};
-ghost use mathlib.Core.Bool.{true};
+ghost use mathlib.Core.Bool.{true, not};
 ghost use mathlib.Core.List.{map};
 ghost use Prim.Native.Nat.{_<_, _≤_};
 ghost use lib.ListN.{length, getD, set};
+ghost use lib.Dec.{eqb};
 ghost use Rattle.baos.specs.Datapoint.{datapointId, datapointOk, zeroDatapoint};
 ghost use Rattle.baos.specs.Item.{itemId, itemOk, zeroItem};
 ghost use Rattle.baos.specs.Table.{tablesOf, tableOk, tablesOk, place, rising};
@@ -81,15 +82,10 @@ fn items_well_formed(table: &[Item]) -> bool
     true
 }
 
-// Whether refusal 1 is not given: each table is well formed. Whether a frame is outstanding is told beside them; no
-// record names one.
-pub fn tables_ok(
-    datapoints: &[Datapoint],
-    items: &[Item],
-    parameters: &[u8],
-    outstanding: bool,
-) -> bool
-    ensures { λ r. ⌜ r ≡ tablesOk outstanding
+// Whether refusal 1 is not given: each table is well formed. How many bytes are outstanding, 0 where nothing is, is
+// told beside them; no record names a frame.
+pub fn tables_ok(datapoints: &[Datapoint], items: &[Item], parameters: &[u8], held: u16) -> bool
+    ensures { λ r. ⌜ r ≡ tablesOk (not (eqb held 0))
         (tablesOf (now (datapoints .entry)) (now (items .entry)) (now (parameters .entry))) ⌝ }
 {
     if !datapoints_well_formed(datapoints) {
