@@ -1,5 +1,2 @@
-pub mod Trial
-pub mod Line
-pub mod Lent
 pub mod Script
 pub mod Tally

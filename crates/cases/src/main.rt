@@ -4,11 +4,8 @@
 ghost use mathlib.Core.Path.{_≡_};
 ghost use Rattle.cases.specs.Tally.{tallied};
 
-mod lent;
-mod line;
 mod play;
 mod scripts;
-mod trial;
 
 use crate::play::play;
 use std::num::wrapping_add_u8;

@@ -1,0 +1,3 @@
+pub mod Trial
+pub mod Line
+pub mod Lent
