@@ -10,7 +10,7 @@ use lib.ListN.{length, getD, take, drop, replicate, length-append, length-drop, 
 use lib.Seq.{take-all, take-append-seam, drop-append-seam, getD-drop, length-take-le}
 use lib.Dec.{T, eqb, leb, ltb, eqb→eq, eqb-refl, leb→le, le→leb, ltb→lt}
 use borrow.Author.Tests.{eq-eqb}
-use Rattle.words.specs.Words.{isEmpty, every, keep, pad, same, sameBy, areZero, isPadded, Padded, areBytes}
+use Rattle.words.specs.Words.{if_then_else_, isYesOrNo, isYes, yesOrNo, isEmpty, every, keep, pad, same, sameBy, areZero, isPadded, Padded, areBytes}
 
 -- ---- tests
 pub left : (a b : Bool) → T (a && b) → T a
@@ -53,6 +53,22 @@ T-false false f = refl
 pub same-test : (a b : Bool) → (T a → T b) → (T b → T a) → a ≡ b
 same-test true b f g = sym (T-true b (f tt))
 same-test false b f g = sym (T-false b g)
+
+-- ---- a byte that is 0 or 1: written and read, read and written
+pub read-written : (said : Bool) → isYes (yesOrNo said) ≡ said
+read-written true = refl
+read-written false = refl
+
+pub written-is : (said : Bool) → T (isYesOrNo (yesOrNo said))
+written-is true = tt
+written-is false = tt
+
+pub written-read : (b : ℕ) → T (isYesOrNo b) → yesOrNo (isYes b) ≡ b
+written-read b t = go (isYes b) refl
+  where
+    go : (u : Bool) → isYes b ≡ u → yesOrNo u ≡ b
+    go true e = omega (arith, eqb→eq b 1 (true-T e))
+    go false e = let n : (b ≡ 1 → ⊥) = λ q. absurd (simp e at (true-T (eq-eqb b 1 q))) in omega (arith, ltb→lt b 2 t, n)
 
 pub beq→eq : (a b : Bool) → T (Bool·beq a b) → a ≡ b
 beq→eq true true t = refl

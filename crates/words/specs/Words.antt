@@ -19,6 +19,17 @@ twoBytes n = n / 256 ∷ n % 256 ∷ []
 abbrev pub ofTwoBytes : ℕ → ℕ → ℕ
 ofTwoBytes high low = high * 256 + low
 
+-- A two-valued thing in lent memory is a byte, 0 or 1: whether it is one of the two, whether it says yes, and how it is
+-- written.
+abbrev pub isYesOrNo : ℕ → Bool
+isYesOrNo b = ltb b 2
+
+abbrev pub isYes : ℕ → Bool
+isYes b = eqb b 1
+
+abbrev pub yesOrNo : Bool → ℕ
+yesOrNo said = if said then 1 else 0
+
 -- the bytes s in an array of n places, with 0 behind them
 abbrev pub pad : ℕ → List ℕ → List ℕ
 pad n s = s ++ replicate (n - length s) 0
