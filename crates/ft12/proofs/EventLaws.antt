@@ -9,7 +9,7 @@ use lib.Seq.{length-take-le}
 use lib.Dec.{T, eqb}
 use borrow.Author.Tests.{lt-ltb, le-ltb, ne-eqb}
 use Rattle.ft12.specs.declared.record.Link.{Link}
-use Rattle.words.specs.Words.{isEmpty, pad, put}
+use Rattle.words.specs.Words.{isYes, yesOrNo, isEmpty, pad, put}
 use Rattle.ft12.specs.Frame.{fixedFrame, dataFrame}
 use Rattle.ft12.specs.Record.{Line, linkWith, lineOf, linkOf, serverControl, memoryOk, inRange}
 use Rattle.ft12.specs.Rules.{Moved, nothing, dropped, still, atStart, cleared, holding, onIdleMark, onAckWaitOver, onMessage}
@@ -20,11 +20,11 @@ use Rattle.ft12.proofs.FrameLaws.{frame-length}
 use Rattle.ft12.proofs.RecordLaws.{linkOf-lineOf}
 use Rattle.ft12.proofs.RulesLaws.{message-waits}
 use Rattle.ft12.proofs.RangeLaws.{empty-take}
-use Rattle.ft12.proofs.PlaceLaws.{emptied, receiver-padded, outstanding-padded, held-fits, outstanding-places, gathered-stays, received-stays, held-stays, count-stays}
+use Rattle.ft12.proofs.PlaceLaws.{emptied, receiver-padded, outstanding-padded, held-fits, outstanding-places, gathered-stays, received-stays, dropping-stays, expected-stays, send-stays, held-stays, count-stays}
 
 -- a record whose parts are those of a line is that line's
-parts-are : (l : Line) (receiver : List ℕ) (received : ℕ) (dropping expected send : Bool) (outstanding : List ℕ) (held resends : ℕ)
-    → receiver ≡ pad 260 (l .gathered) → received ≡ length (l .gathered) → dropping ≡ l .dropping → expected ≡ l .expected → send ≡ l .send
+parts-are : (l : Line) (receiver : List ℕ) (received dropping expected send : ℕ) (outstanding : List ℕ) (held resends : ℕ)
+    → receiver ≡ pad 260 (l .gathered) → received ≡ length (l .gathered) → dropping ≡ yesOrNo (l .dropping) → expected ≡ yesOrNo (l .expected) → send ≡ yesOrNo (l .send)
     → outstanding ≡ pad 261 (l .outstanding) → held ≡ length (l .outstanding) → resends ≡ l .resends
     → linkWith receiver received dropping expected send outstanding held resends ≡ linkOf l
 unfolding linkOf
@@ -45,11 +45,11 @@ put-none l at =
 
 -- ---- an idle mark
 pub place-idle : (k : Link) (receiver : List ℕ) (received : ℕ) → T (inRange k) → receiver ≡ replicate (k .received) 0 ++ drop (k .received) (k .receiver) → received ≡ 0
-    → linkWith receiver received false (k .expected) (k .send) (k .outstanding) (k .held) (k .resends) ≡ linkOf (onIdleMark (lineOf k) .line)
+    → linkWith receiver received 0 (k .expected) (k .send) (k .outstanding) (k .held) (k .resends) ≡ linkOf (onIdleMark (lineOf k) .line)
 place-idle k receiver received t r n =
     parts-are (onIdleMark (lineOf k) .line) _ _ _ _ _ _ _ _
     (unfold onIdleMark atStart in (r ∙ emptied 260 (k .received) (k .receiver) (receiver-padded k t))) (unfold onIdleMark atStart in n) (unfold onIdleMark atStart in refl)
-    (unfold onIdleMark atStart lineOf in refl) (unfold onIdleMark atStart lineOf in refl) (unfold onIdleMark atStart in held-stays k t) (unfold onIdleMark atStart in count-stays k t) (unfold onIdleMark atStart lineOf in refl)
+    (unfold onIdleMark atStart lineOf in expected-stays k t) (unfold onIdleMark atStart lineOf in send-stays k t) (unfold onIdleMark atStart in held-stays k t) (unfold onIdleMark atStart in count-stays k t) (unfold onIdleMark atStart lineOf in refl)
 
 -- ---- ack wait over
 held-empty : (k : Link) → T (inRange k) → isEmpty (lineOf k .outstanding) ≡ eqb (k .held) 0
@@ -85,15 +85,20 @@ unfolding holding linkOf lineOf
 placed-frame k f outstanding held n t o h =
     let r = gathered-stays k t in
     let m = received-stays k t in
-    λ i. record { receiver = r i; received = m i; dropping = k .dropping; expected = k .expected; send = k .send; outstanding = o i; held = h i; resends = n }
+    let d = dropping-stays k t in
+    let x = expected-stays k t in
+    let s = send-stays k t in
+    λ i. record { receiver = r i; received = m i; dropping = d i; expected = x i; send = s i; outstanding = o i; held = h i; resends = n }
 
 placed-cleared : (k : Link) (send : Bool) (outstanding : List ℕ) (held : ℕ) → T (inRange k) → outstanding ≡ pad 261 [] → held ≡ 0
-    → linkWith (k .receiver) (k .received) (k .dropping) (k .expected) send outstanding held 0 ≡ linkOf (cleared send (lineOf k))
+    → linkWith (k .receiver) (k .received) (k .dropping) (k .expected) (yesOrNo send) outstanding held 0 ≡ linkOf (cleared send (lineOf k))
 unfolding cleared linkOf lineOf
 placed-cleared k send outstanding held t o h =
     let r = gathered-stays k t in
     let m = received-stays k t in
-    λ i. record { receiver = r i; received = m i; dropping = k .dropping; expected = k .expected; send = send; outstanding = o i; held = h i; resends = 0 }
+    let d = dropping-stays k t in
+    let x = expected-stays k t in
+    λ i. record { receiver = r i; received = m i; dropping = d i; expected = x i; send = yesOrNo send; outstanding = o i; held = h i; resends = 0 }
 
 fixed-length : (c : ℕ) → 4 ≡ length (fixedFrame c)
 unfolding fixedFrame
@@ -122,7 +127,7 @@ module _ (k : Link) (out : List ℕ) (t : T (inRange k)) where
 
   pub waited-over : (out′ outstanding : List ℕ) (held : ℕ) → (k .held ≡ 0 → ⊥) → 3 ≤ k .resends → out′ ≡ put out 0 (fixedFrame 0xC0)
       → outstanding ≡ replicate (k .held) 0 ++ drop (k .held) (k .outstanding) → held ≡ 0
-      → AckWaited k out 4 out′ (linkWith (k .receiver) (k .received) (k .dropping) (k .expected) true outstanding held 0)
+      → AckWaited k out 4 out′ (linkWith (k .receiver) (k .received) (k .dropping) (k .expected) 1 outstanding held 0)
   waited-over out′ outstanding held e h o f n =
       let w = sym (wait-over k t e h) in
       record {
@@ -168,7 +173,7 @@ module _ (k : Link) (out : List ℕ) (at n : ℕ) (t : T (inRange k)) (h : at �
   m = take n (drop (at + 5) out)
 
   abbrev c : ℕ
-  c = serverControl (k .send)
+  c = serverControl (isYes (k .send))
 
   pub taken-none : n ≡ 0 → MessageTaken m k out at 0 out k
   taken-none e = taken-still m k out at t (unfold onMessage in rw e)

@@ -6,17 +6,18 @@ use mathlib.Core.List.{List, [], _∷_, _++_}
 use native.Mathlib.Omega.{arith}
 use lib.ListN.{length, take, drop, set, replicate, length-append, length-drop, replicate-append-replicate}
 use lib.Seq.{set-at, append-snoc}
-use lib.Dec.{T, eqb, leb, eqb→eq, leb→le}
+use lib.Dec.{T, eqb, leb, ltb, eqb→eq, leb→le, ltb→lt}
 use Rattle.ft12.specs.declared.record.Link.{Link}
 use Rattle.ft12.specs.declared.receiver.Judgement.{Judgement}
 use Rattle.ft12.specs.declared.rules.Heard.{Heard}
 use Rattle.ft12.specs.declared.rules.Heard.the-variants.{Gathered, Dropped, Ignored, Acknowledged, Reset, Repeat, Request}
 use Rattle.ft12.specs.declared.rules.Bits.{Bits}
-use Rattle.words.specs.Words.{isEmpty, pad, areZero, isPadded}
+use Rattle.words.specs.Words.{isYes, yesOrNo, isEmpty, pad, areZero, isPadded}
 use Rattle.ft12.specs.Receiver.{judged, isBeginning}
 use Rattle.ft12.specs.Record.{Line, linkWith, lineOf, linkOf, receiverOk, outstandingOk, lineOk, memoryOk, inRange}
 use Rattle.ft12.specs.Rules.{atStart, startDropping, gathering, cleared, expecting, caseOf, heardAt, onHeard, onHostByte, bitsOf, BitsAfter, unread, afterHostByte}
-use Rattle.words.proofs.WordLaws.{left, right, parts3, T-true, pad-take, padded-length, zeros-are, empty-eq}
+use Rattle.words.proofs.WordLaws.{left, right, parts3, T-true, written-read, pad-take, padded-length, zeros-are, empty-eq}
+use Rattle.ft12.proofs.RecordLaws.{memory-parts, two-valued-parts}
 use Rattle.ft12.proofs.RangeLaws.{empty-take}
 
 -- ---- padded arrays in place
@@ -49,17 +50,28 @@ stored places n b a t h =
     ∙ sym (ap {B = List ℕ} (λ (x : ℕ). (take n a ++ b ∷ []) ++ replicate x 0) i ∙ append-snoc (take n a) b (replicate (places - length (take n a) - 1) 0))
 
 -- ---- the parts of a record that is in range
+memory-of : (k : Link) → T (inRange k) → T (memoryOk k)
+unfolding inRange
+memory-of k t = left (memoryOk k) (lineOk (lineOf k)) t
+
 pub receiver-padded : (k : Link) → T (inRange k) → T (isPadded 260 (k .received) (k .receiver))
-unfolding inRange memoryOk
-receiver-padded k t =
-    left (isPadded 260 (k .received) (k .receiver)) (isPadded 261 (k .held) (k .outstanding))
-    (left (isPadded 260 (k .received) (k .receiver) && isPadded 261 (k .held) (k .outstanding)) (lineOk (lineOf k)) t)
+receiver-padded k t = memory-parts k (memory-of k t) .0
 
 pub outstanding-padded : (k : Link) → T (inRange k) → T (isPadded 261 (k .held) (k .outstanding))
-unfolding inRange memoryOk
-outstanding-padded k t =
-    right (isPadded 260 (k .received) (k .receiver)) (isPadded 261 (k .held) (k .outstanding))
-    (left (isPadded 260 (k .received) (k .receiver) && isPadded 261 (k .held) (k .outstanding)) (lineOk (lineOf k)) t)
+outstanding-padded k t = memory-parts k (memory-of k t) .1
+
+-- what is two-valued, read and written, is what it was
+pub dropping-stays : (k : Link) → T (inRange k) → k .dropping ≡ yesOrNo (isYes (k .dropping))
+dropping-stays k t = sym (written-read (k .dropping) (two-valued-parts k (memory-parts k (memory-of k t) .2) .0))
+
+pub expected-stays : (k : Link) → T (inRange k) → k .expected ≡ yesOrNo (isYes (k .expected))
+expected-stays k t = sym (written-read (k .expected) (two-valued-parts k (memory-parts k (memory-of k t) .2) .1))
+
+pub send-stays : (k : Link) → T (inRange k) → k .send ≡ yesOrNo (isYes (k .send))
+send-stays k t = sym (written-read (k .send) (two-valued-parts k (memory-parts k (memory-of k t) .2) .2))
+
+pub not-dropping : (k : Link) → T (inRange k) → (k .dropping ≡ 1 → ⊥) → k .dropping ≡ 0
+not-dropping k t n = omega (arith, n, ltb→lt (k .dropping) 2 (two-valued-parts k (memory-parts k (memory-of k t) .2) .0))
 
 padded-within : (places n : ℕ) (a : List ℕ) → T (isPadded places n a) → (n ≤ places) × (length a ≡ places)
 unfolding isPadded
@@ -82,18 +94,18 @@ line-parts : (l : Line) → T (lineOk l) → T (receiverOk (l .dropping) (l .gat
 unfolding lineOk
 line-parts l t = left (receiverOk (l .dropping) (l .gathered)) (outstandingOk (l .send) (l .resends) (l .outstanding)) t
 
-pub gathered-begins : (k : Link) → T (inRange k) → k .dropping ≡ false → T (isBeginning (take (k .received) (k .receiver)))
+pub gathered-begins : (k : Link) → T (inRange k) → k .dropping ≡ 0 → T (isBeginning (take (k .received) (k .receiver)))
 unfolding inRange lineOf receiverOk
 gathered-begins k t e = simp e at (line-parts (lineOf k) (right (memoryOk k) (lineOk (lineOf k)) t))
 
 -- ---- a host byte
 -- what the code finds is what the byte is to the link
-pub heard-found : (k : Link) (b : ℕ) (j : Judgement) → T (inRange k) → k .dropping ≡ false → j ≡ judged (take (k .received) (k .receiver)) b
-    → caseOf j (k .expected) (eqb (k .held) 0) ≡ heardAt b (lineOf k)
+pub heard-found : (k : Link) (b : ℕ) (j : Judgement) → T (inRange k) → k .dropping ≡ 0 → j ≡ judged (take (k .received) (k .receiver)) b
+    → caseOf j (isYes (k .expected)) (eqb (k .held) 0) ≡ heardAt b (lineOf k)
 unfolding heardAt lineOf
 heard-found k b j t e d = simp (e, d, empty-take (k .held) (k .outstanding) (omega (arith, held-fits k t, outstanding-places k t)))
 
-pub heard-dropping : (k : Link) (b : ℕ) → k .dropping ≡ true → Dropped ≡ heardAt b (lineOf k)
+pub heard-dropping : (k : Link) (b : ℕ) → k .dropping ≡ 1 → Dropped ≡ heardAt b (lineOf k)
 unfolding heardAt lineOf
 heard-dropping k b e = simp e
 
@@ -113,9 +125,9 @@ unfoldable pub left-by : Heard → ℕ → Link → Line
 left-by h b k = unread h (lineOf k .gathered) (onHeard h b (lineOf k) .line)
 
 -- a record whose parts are those of that line is what the rules leave
-pub in-place : (h : Heard) (b : ℕ) (k : Link) (bits : Bits) (receiver : List ℕ) (received : ℕ) (dropping : Bool) (outstanding : List ℕ) (held : ℕ)
+pub in-place : (h : Heard) (b : ℕ) (k : Link) (bits : Bits) (receiver : List ℕ) (received dropping : ℕ) (outstanding : List ℕ) (held : ℕ)
     → h ≡ heardAt b (lineOf k) → bitsOf (onHeard h b (lineOf k) .line) ≡ bits
-    → receiver ≡ pad 260 (left-by h b k .gathered) → received ≡ length (left-by h b k .gathered) → dropping ≡ left-by h b k .dropping
+    → receiver ≡ pad 260 (left-by h b k .gathered) → received ≡ length (left-by h b k .gathered) → dropping ≡ yesOrNo (left-by h b k .dropping)
     → outstanding ≡ pad 261 (left-by h b k .outstanding) → held ≡ length (left-by h b k .outstanding)
     → linkWith receiver received dropping (bits .expected) (bits .send) outstanding held (bits .resends) ≡ afterHostByte b k
 unfolding afterHostByte onHostByte left-by bitsOf linkOf
@@ -153,7 +165,7 @@ module _ (k : Link) (range : T (inRange k)) where
 
 -- ---- one law for each case
 module _ (b : ℕ) (k : Link) (bits : Bits) (range : T (inRange k)) where
-  pub place-gathered : Gathered ≡ heardAt b (lineOf k) → bitsOf (onHeard Gathered b (lineOf k) .line) ≡ bits → k .dropping ≡ false → k .received < 260
+  pub place-gathered : Gathered ≡ heardAt b (lineOf k) → bitsOf (onHeard Gathered b (lineOf k) .line) ≡ bits → k .dropping ≡ 0 → k .received < 260
       → linkWith (set (k .receiver) (k .received) b) (k .received + 1) (k .dropping) (bits .expected) (bits .send) (k .outstanding) (k .held) (bits .resends) ≡ afterHostByte b k
   place-gathered e d x h =
       in-place Gathered b k bits _ _ _ _ _ e d
@@ -169,20 +181,20 @@ module _ (b : ℕ) (k : Link) (bits : Bits) (range : T (inRange k)) where
     blanked = r ∙ emptied 260 (k .received) (k .receiver) (receiver-padded k range)
 
     pub place-dropped : Dropped ≡ heardAt b (lineOf k) → bitsOf (onHeard Dropped b (lineOf k) .line) ≡ bits
-        → linkWith receiver received true (bits .expected) (bits .send) (k .outstanding) (k .held) (bits .resends) ≡ afterHostByte b k
+        → linkWith receiver received 1 (bits .expected) (bits .send) (k .outstanding) (k .held) (bits .resends) ≡ afterHostByte b k
     place-dropped e d =
         in-place Dropped b k bits _ _ _ _ _ e d
         (unfold left-by unread onHeard startDropping in blanked) (unfold left-by unread onHeard startDropping in n) (unfold left-by unread onHeard startDropping in refl)
         (unfold left-by unread onHeard startDropping in held-stays k range) (unfold left-by unread onHeard startDropping in count-stays k range)
 
-    pub place-ignored : Ignored ≡ heardAt b (lineOf k) → bitsOf (onHeard Ignored b (lineOf k) .line) ≡ bits → k .dropping ≡ false
+    pub place-ignored : Ignored ≡ heardAt b (lineOf k) → bitsOf (onHeard Ignored b (lineOf k) .line) ≡ bits → k .dropping ≡ 0
         → linkWith receiver received (k .dropping) (bits .expected) (bits .send) (k .outstanding) (k .held) (bits .resends) ≡ afterHostByte b k
     place-ignored e d x =
         in-place Ignored b k bits _ _ _ _ _ e d
         (unfold left-by unread onHeard atStart in blanked) (unfold left-by unread onHeard atStart in n) (unfold left-by unread onHeard atStart in x)
         (unfold left-by unread onHeard atStart in held-stays k range) (unfold left-by unread onHeard atStart in count-stays k range)
 
-    pub place-repeat : Repeat ≡ heardAt b (lineOf k) → bitsOf (onHeard Repeat b (lineOf k) .line) ≡ bits → k .dropping ≡ false
+    pub place-repeat : Repeat ≡ heardAt b (lineOf k) → bitsOf (onHeard Repeat b (lineOf k) .line) ≡ bits → k .dropping ≡ 0
         → linkWith receiver received (k .dropping) (bits .expected) (bits .send) (k .outstanding) (k .held) (bits .resends) ≡ afterHostByte b k
     place-repeat e d x =
         in-place Repeat b k bits _ _ _ _ _ e d
@@ -194,21 +206,21 @@ module _ (b : ℕ) (k : Link) (bits : Bits) (range : T (inRange k)) where
       cleared-away : outstanding ≡ pad 261 []
       cleared-away = o ∙ emptied 261 (k .held) (k .outstanding) (outstanding-padded k range)
 
-      pub place-acknowledged : Acknowledged ≡ heardAt b (lineOf k) → bitsOf (onHeard Acknowledged b (lineOf k) .line) ≡ bits → k .dropping ≡ false
+      pub place-acknowledged : Acknowledged ≡ heardAt b (lineOf k) → bitsOf (onHeard Acknowledged b (lineOf k) .line) ≡ bits → k .dropping ≡ 0
           → linkWith receiver received (k .dropping) (bits .expected) (bits .send) outstanding held (bits .resends) ≡ afterHostByte b k
       place-acknowledged e d x =
           in-place Acknowledged b k bits _ _ _ _ _ e d
           (unfold left-by unread onHeard cleared atStart in blanked) (unfold left-by unread onHeard cleared atStart in n) (unfold left-by unread onHeard cleared atStart in x)
           (unfold left-by unread onHeard cleared atStart in cleared-away) (unfold left-by unread onHeard cleared atStart in m)
 
-      pub place-reset : Reset ≡ heardAt b (lineOf k) → bitsOf (onHeard Reset b (lineOf k) .line) ≡ bits → k .dropping ≡ false
+      pub place-reset : Reset ≡ heardAt b (lineOf k) → bitsOf (onHeard Reset b (lineOf k) .line) ≡ bits → k .dropping ≡ 0
           → linkWith receiver received (k .dropping) (bits .expected) (bits .send) outstanding held (bits .resends) ≡ afterHostByte b k
       place-reset e d x =
           in-place Reset b k bits _ _ _ _ _ e d
           (unfold left-by unread onHeard expecting cleared atStart in blanked) (unfold left-by unread onHeard expecting cleared atStart in n) (unfold left-by unread onHeard expecting cleared atStart in x)
           (unfold left-by unread onHeard expecting cleared atStart in cleared-away) (unfold left-by unread onHeard expecting cleared atStart in m)
 
-  pub place-request : (size : ℕ) → Request size ≡ heardAt b (lineOf k) → bitsOf (onHeard (Request size) b (lineOf k) .line) ≡ bits → k .dropping ≡ false
+  pub place-request : (size : ℕ) → Request size ≡ heardAt b (lineOf k) → bitsOf (onHeard (Request size) b (lineOf k) .line) ≡ bits → k .dropping ≡ 0
       → linkWith (k .receiver) (k .received) (k .dropping) (bits .expected) (bits .send) (k .outstanding) (k .held) (bits .resends) ≡ afterHostByte b k
   place-request size e d x =
       in-place (Request size) b k bits _ _ _ _ _ e d
@@ -217,16 +229,22 @@ module _ (b : ℕ) (k : Link) (bits : Bits) (range : T (inRange k)) where
       (unfold left-by unread onHeard gathering expecting atStart in held-stays k range) (unfold left-by unread onHeard gathering expecting atStart in count-stays k range)
 
 -- while it drops, nothing moves
-dropping-empty : (k : Link) → T (inRange k) → k .dropping ≡ true → lineOf k .gathered ≡ []
+dropping-empty : (k : Link) → T (inRange k) → k .dropping ≡ 1 → lineOf k .gathered ≡ []
 unfolding inRange lineOf receiverOk
 dropping-empty k t e =
     empty-eq (take (k .received) (k .receiver)) (T-true (isEmpty (take (k .received) (k .receiver))) (simp e at (line-parts (lineOf k) (right (memoryOk k) (lineOk (lineOf k)) t))))
 
-pub place-drops : (b : ℕ) (k : Link) → T (inRange k) → k .dropping ≡ true → k ≡ afterHostByte b k
+pub bits-stay : (k : Link) → T (inRange k) → bitsOf (lineOf k) ≡ record { expected = k .expected; send = k .send; resends = k .resends }
 unfolding bitsOf lineOf
+bits-stay k t =
+    let x = expected-stays k t in
+    let s = send-stays k t in
+    λ i. record { expected = sym x i; send = sym s i; resends = k .resends }
+
+pub place-drops : (b : ℕ) (k : Link) → T (inRange k) → k .dropping ≡ 1 → k ≡ afterHostByte b k
 place-drops b k t e =
-    in-place Dropped b k (bitsOf (lineOf k)) (k .receiver) (k .received) (k .dropping) (k .outstanding) (k .held) (heard-dropping k b e)
-    (unfold onHeard startDropping bitsOf in refl)
+    in-place Dropped b k (record { expected = k .expected; send = k .send; resends = k .resends }) (k .receiver) (k .received) (k .dropping) (k .outstanding) (k .held) (heard-dropping k b e)
+    (unfold onHeard startDropping bitsOf in (unfold bitsOf in bits-stay k t))
     (unfold left-by unread onHeard startDropping in (gathered-stays k t ∙ ap (pad 260) (dropping-empty k t e)))
     (unfold left-by unread onHeard startDropping in (received-stays k t ∙ ap length (dropping-empty k t e)))
     (unfold left-by unread onHeard startDropping in e)
@@ -234,10 +252,10 @@ place-drops b k t e =
     (unfold left-by unread onHeard startDropping in count-stays k t)
 
 -- what the code knows of a case: its byte was judged j, and found to be h; the bits after it
-pub found-as : (k : Link) (b : ℕ) (j : Judgement) (x h : Heard) → T (inRange k) → k .dropping ≡ false → j ≡ judged (take (k .received) (k .receiver)) b
-    → x ≡ caseOf j (k .expected) (eqb (k .held) 0) → x ≡ h → h ≡ heardAt b (lineOf k)
+pub found-as : (k : Link) (b : ℕ) (j : Judgement) (x h : Heard) → T (inRange k) → k .dropping ≡ 0 → j ≡ judged (take (k .received) (k .receiver)) b
+    → x ≡ caseOf j (isYes (k .expected)) (eqb (k .held) 0) → x ≡ h → h ≡ heardAt b (lineOf k)
 found-as k b j x h t d e f g = sym g ∙ f ∙ heard-found k b j t d e
 
-pub bits-found : (k : Link) (b : ℕ) (x h : Heard) (bits : Bits) → BitsAfter x (record { expected = k .expected; send = k .send; resends = k .resends }) bits → x ≡ h
+pub bits-found : (k : Link) (b : ℕ) (x h : Heard) (bits : Bits) → T (inRange k) → BitsAfter x (record { expected = k .expected; send = k .send; resends = k .resends }) bits → x ≡ h
     → bitsOf (onHeard h b (lineOf k) .line) ≡ bits
-bits-found k b x h bits f g = rw g at (f (lineOf k) b (unfold bitsOf lineOf in refl))
+bits-found k b x h bits t f g = rw g at (f (lineOf k) b (bits-stay k t))

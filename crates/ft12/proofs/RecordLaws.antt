@@ -6,12 +6,12 @@ use mathlib.Core.Bool.{Bool, true, false, _&&_, and-false}
 use mathlib.Core.List.{List, [], _∷_}
 use native.Mathlib.Omega.{arith}
 use lib.ListN.{length, take}
-use lib.Dec.{T, leb, eqb, leb→le, le→leb, eqb→eq}
+use lib.Dec.{T, leb, ltb, eqb, leb→le, le→leb, ltb→lt, lt→ltb, eqb→eq}
 use Rattle.ft12.specs.declared.record.Link.{Link}
-use Rattle.words.specs.Words.{isEmpty, pad, isPadded, areBytes}
+use Rattle.words.specs.Words.{isYesOrNo, isYes, yesOrNo, isEmpty, pad, isPadded, areBytes}
 use Rattle.ft12.specs.Frame.{Whole, isWhole, dataFrame}
-use Rattle.ft12.specs.Record.{Line, lineOf, linkOf, serverControl, receiverOk, outstandingOk, lineOk, memoryOk, inRange, ReceiverInRange, beginning, drops, OutstandingInRange, holds-nothing, holds-frame, InRange}
-use Rattle.words.proofs.WordLaws.{left, right, both, T-true, take-pad, pad-take, pad-padded, padded-length, padded-decided, bytes-take, empty-eq}
+use Rattle.ft12.specs.Record.{Line, lineOf, linkOf, serverControl, receiverOk, outstandingOk, lineOk, twoValued, memoryOk, inRange, ReceiverInRange, beginning, drops, OutstandingInRange, holds-nothing, holds-frame, InRange}
+use Rattle.words.proofs.WordLaws.{left, right, both, parts3, join3, T-true, read-written, written-is, written-read, take-pad, pad-take, pad-padded, padded-length, padded-decided, bytes-take, empty-eq}
 use Rattle.ft12.proofs.ReceiverLaws.{beginning-short}
 use Rattle.ft12.proofs.FrameLaws.{tested-begins, begins-tested, tested-whole, whole-tested}
 
@@ -19,19 +19,39 @@ use Rattle.ft12.proofs.FrameLaws.{tested-begins, begins-tested, tested-
 pub lineOf-linkOf : (l : Line) → lineOf (linkOf l) ≡ l
 unfolding lineOf linkOf
 lineOf-linkOf l =
-    λ i. record { gathered = take-pad 260 (l .gathered) i; dropping = l .dropping; expected = l .expected; send = l .send; outstanding = take-pad 261 (l .outstanding) i; resends = l .resends }
+    λ i. record {
+      gathered = take-pad 260 (l .gathered) i;
+      dropping = read-written (l .dropping) i;
+      expected = read-written (l .expected) i;
+      send = read-written (l .send) i;
+      outstanding = take-pad 261 (l .outstanding) i;
+      resends = l .resends;
+    }
+
+-- the three parts of the memory's test, and those of its last
+pub memory-parts : (k : Link) → T (memoryOk k) → T (isPadded 260 (k .received) (k .receiver)) × T (isPadded 261 (k .held) (k .outstanding)) × T (twoValued (k .dropping) (k .expected) (k .send))
+unfolding memoryOk
+memory-parts k t = parts3 (isPadded 260 (k .received) (k .receiver)) (isPadded 261 (k .held) (k .outstanding)) (twoValued (k .dropping) (k .expected) (k .send)) t
+
+pub two-valued-parts : (k : Link) → T (twoValued (k .dropping) (k .expected) (k .send)) → T (isYesOrNo (k .dropping)) × T (isYesOrNo (k .expected)) × T (isYesOrNo (k .send))
+unfolding twoValued
+two-valued-parts k t = parts3 (isYesOrNo (k .dropping)) (isYesOrNo (k .expected)) (isYesOrNo (k .send)) t
 
 -- a record whose unused bytes are 0 holds nothing beside what it holds
 pub linkOf-lineOf : (k : Link) → T (memoryOk k) → linkOf (lineOf k) ≡ k
-unfolding lineOf linkOf memoryOk
+unfolding lineOf linkOf
 linkOf-lineOf k t =
-    let r = left (isPadded 260 (k .received) (k .receiver)) (isPadded 261 (k .held) (k .outstanding)) t in
-    let o = right (isPadded 260 (k .received) (k .receiver)) (isPadded 261 (k .held) (k .outstanding)) t in
+    let r = memory-parts k t .0 in
+    let o = memory-parts k t .1 in
+    let b = two-valued-parts k (memory-parts k t .2) in
+    let d = written-read (k .dropping) (b .0) in
+    let x = written-read (k .expected) (b .1) in
+    let s = written-read (k .send) (b .2) in
     let p = pad-take 260 (k .received) (k .receiver) r in
     let q = pad-take 261 (k .held) (k .outstanding) o in
     let u = padded-length 260 (k .received) (k .receiver) r in
     let v = padded-length 261 (k .held) (k .outstanding) o in
-    λ i. record { receiver = p i; received = u i; dropping = k .dropping; expected = k .expected; send = k .send; outstanding = q i; held = v i; resends = k .resends }
+    λ i. record { receiver = p i; received = u i; dropping = d i; expected = x i; send = s i; outstanding = q i; held = v i; resends = k .resends }
 
 -- ---- a line that is in order fits its record
 gathered-short : (dropping : Bool) (g : List ℕ) → T (receiverOk dropping g) → length g ≤ 260
@@ -59,10 +79,12 @@ line-in-range l t =
 
     memory : T (memoryOk (linkOf l))
     memory =
-        unfold memoryOk linkOf in
-        both (isPadded 260 (length (l .gathered)) (pad 260 (l .gathered))) (isPadded 261 (length (l .outstanding)) (pad 261 (l .outstanding)))
+        unfold memoryOk twoValued linkOf in
+        join3 (isPadded 260 (length (l .gathered)) (pad 260 (l .gathered))) (isPadded 261 (length (l .outstanding)) (pad 261 (l .outstanding)))
+        (isYesOrNo (yesOrNo (l .dropping)) && isYesOrNo (yesOrNo (l .expected)) && isYesOrNo (yesOrNo (l .send)))
         (pad-padded 260 (length (l .gathered)) (l .gathered) refl (gathered-short (l .dropping) (l .gathered) (unfold lineOk in left r o t)))
         (pad-padded 261 (length (l .outstanding)) (l .outstanding) refl (outstanding-short (l .send) (l .resends) (l .outstanding) (unfold lineOk in right r o t)))
+        (join3 (isYesOrNo (yesOrNo (l .dropping))) (isYesOrNo (yesOrNo (l .expected))) (isYesOrNo (yesOrNo (l .send))) (written-is (l .dropping)) (written-is (l .expected)) (written-is (l .send)))
 
 -- ---- the range test decides the paper's words
 pub receiver-decided : (l : Line) → T (areBytes (l .gathered)) → T (receiverOk (l .dropping) (l .gathered)) ↔ ReceiverInRange l
@@ -114,6 +136,9 @@ in-range-decided k bytes = (to, from)
     b : Bool
     b = isPadded 261 (k .held) (k .outstanding)
 
+    v : Bool
+    v = twoValued (k .dropping) (k .expected) (k .send)
+
     r : Bool
     r = receiverOk (l .dropping) (l .gathered)
 
@@ -125,30 +150,41 @@ in-range-decided k bytes = (to, from)
 
     to : T (inRange k) → InRange k
     to t =
-        let m = left (a && b) (r && o) t in
-        let n = right (a && b) (r && o) t in
+        let m = memory-parts k (left (a && b && v) (r && o) t) in
+        let w = two-valued-parts k (m .2) in
+        let n = right (a && b && v) (r && o) t in
         record {
-          receiverPadded = padded-decided 260 (k .received) (k .receiver) .0 (left a b m);
-          outstandingPadded = padded-decided 261 (k .held) (k .outstanding) .0 (right a b m);
+          receiverPadded = padded-decided 260 (k .received) (k .receiver) .0 (m .0);
+          outstandingPadded = padded-decided 261 (k .held) (k .outstanding) .0 (m .1);
+          droppingTwoValued = omega (arith, ltb→lt (k .dropping) 2 (w .0));
+          expectedTwoValued = omega (arith, ltb→lt (k .expected) 2 (w .1));
+          sendTwoValued = omega (arith, ltb→lt (k .send) 2 (w .2));
           receiverInRange = receiver-decided l gathered-bytes .0 (left r o n);
           outstandingInRange = outstanding-decided l .0 (right r o n);
         }
 
     from : InRange k → T (inRange k)
     from i =
-        both (a && b) (r && o)
-        (both a b (padded-decided 260 (k .received) (k .receiver) .1 (i .receiverPadded)) (padded-decided 261 (k .held) (k .outstanding) .1 (i .outstandingPadded)))
+        let bits : T (twoValued (k .dropping) (k .expected) (k .send)) =
+        unfold twoValued in
+        join3 (isYesOrNo (k .dropping)) (isYesOrNo (k .expected)) (isYesOrNo (k .send)) (lt→ltb (k .dropping) 2 (omega (arith, i .droppingTwoValued)))
+        (lt→ltb (k .expected) 2 (omega (arith, i .expectedTwoValued))) (lt→ltb (k .send) 2 (omega (arith, i .sendTwoValued))) in
+        both (a && b && v) (r && o)
+        (join3 a b v (padded-decided 260 (k .received) (k .receiver) .1 (i .receiverPadded)) (padded-decided 261 (k .held) (k .outstanding) .1 (i .outstandingPadded)) bits)
         (both r o (receiver-decided l gathered-bytes .1 (i .receiverInRange)) (outstanding-decided l .1 (i .outstandingInRange)))
 
--- ---- the test as the code makes it: the receiver first, then the outstanding frame
-regroup : (a b c d : Bool) → (a && c && (b && d)) ≡ (a && b && (c && d))
-regroup true true c d = refl
-regroup true false c d = and-false c
-regroup false b c d = refl
+-- ---- the test as the code makes it: what is two-valued first, then the receiver, then the outstanding frame
+regroup : (v a b c d : Bool) → (v && (a && c && (b && d))) ≡ (a && b && v && (c && d))
+regroup true true true c d = refl
+regroup true true false c d = and-false c
+regroup true false b c d = refl
+regroup false true true c d = refl
+regroup false true false c d = refl
+regroup false false b c d = refl
 
 pub range-parts : (k : Link)
-    → (isPadded 260 (k .received) (k .receiver) && receiverOk (k .dropping) (take (k .received) (k .receiver)) && (isPadded 261 (k .held) (k .outstanding) && outstandingOk (k .send) (k .resends) (take (k .held) (k .outstanding)))) ≡ inRange k
+    → (twoValued (k .dropping) (k .expected) (k .send) && (isPadded 260 (k .received) (k .receiver) && receiverOk (isYes (k .dropping)) (take (k .received) (k .receiver)) && (isPadded 261 (k .held) (k .outstanding) && outstandingOk (isYes (k .send)) (k .resends) (take (k .held) (k .outstanding))))) ≡ inRange k
 unfolding inRange memoryOk lineOk lineOf
 range-parts k =
-    regroup (isPadded 260 (k .received) (k .receiver)) (isPadded 261 (k .held) (k .outstanding)) (receiverOk (k .dropping) (take (k .received) (k .receiver)))
-    (outstandingOk (k .send) (k .resends) (take (k .held) (k .outstanding)))
+    regroup (twoValued (k .dropping) (k .expected) (k .send)) (isPadded 260 (k .received) (k .receiver)) (isPadded 261 (k .held) (k .outstanding)) (receiverOk (isYes (k .dropping)) (take (k .received) (k .receiver)))
+    (outstandingOk (isYes (k .send)) (k .resends) (take (k .held) (k .outstanding)))

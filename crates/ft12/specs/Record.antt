@@ -6,7 +6,7 @@ use mathlib.Core.List.{List, []}
 use lib.ListN.{length, take}
 use lib.Dec.{leb, eqb}
 use Rattle.ft12.specs.declared.record.Link.{Link}
-use Rattle.words.specs.Words.{if_then_else_, isEmpty, pad, isPadded, Padded}
+use Rattle.words.specs.Words.{if_then_else_, isYesOrNo, isYes, yesOrNo, isEmpty, pad, isPadded, Padded}
 use Rattle.ft12.specs.Frame.{Begins, Whole, isWhole}
 use Rattle.ft12.specs.Receiver.{isBeginning}
 
@@ -21,7 +21,7 @@ pub record Line : Type 0 where
   pub resends : ℕ
 
 -- the record of these parts
-abbrev pub linkWith : List ℕ → ℕ → Bool → Bool → Bool → List ℕ → ℕ → ℕ → Link
+abbrev pub linkWith : List ℕ → ℕ → ℕ → ℕ → ℕ → List ℕ → ℕ → ℕ → Link
 linkWith receiver received dropping expected send outstanding held resends =
     record {
       receiver = receiver;
@@ -39,9 +39,9 @@ unfoldable pub lineOf : Link → Line
 lineOf k =
     record {
       gathered = take (k .received) (k .receiver);
-      dropping = k .dropping;
-      expected = k .expected;
-      send = k .send;
+      dropping = isYes (k .dropping);
+      expected = isYes (k .expected);
+      send = isYes (k .send);
       outstanding = take (k .held) (k .outstanding);
       resends = k .resends;
     }
@@ -52,9 +52,9 @@ linkOf l =
     record {
       receiver = pad 260 (l .gathered);
       received = length (l .gathered);
-      dropping = l .dropping;
-      expected = l .expected;
-      send = l .send;
+      dropping = yesOrNo (l .dropping);
+      expected = yesOrNo (l .expected);
+      send = yesOrNo (l .send);
       outstanding = pad 261 (l .outstanding);
       held = length (l .outstanding);
       resends = l .resends;
@@ -86,9 +86,13 @@ outstandingOk send resends outstanding =
 unfoldable pub lineOk : Line → Bool
 lineOk l = receiverOk (l .dropping) (l .gathered) && outstandingOk (l .send) (l .resends) (l .outstanding)
 
+-- what is two-valued is 0 or 1
+unfoldable pub twoValued : ℕ → ℕ → ℕ → Bool
+twoValued dropping expected send = isYesOrNo dropping && isYesOrNo expected && isYesOrNo send
+
 -- the lengths are within the memory, "and [..] its unused bytes are 0"
 unfoldable pub memoryOk : Link → Bool
-memoryOk k = isPadded 260 (k .received) (k .receiver) && isPadded 261 (k .held) (k .outstanding)
+memoryOk k = isPadded 260 (k .received) (k .receiver) && isPadded 261 (k .held) (k .outstanding) && twoValued (k .dropping) (k .expected) (k .send)
 
 unfoldable pub inRange : Link → Bool
 inRange k = memoryOk k && lineOk (lineOf k)
@@ -105,5 +109,8 @@ pub data OutstandingInRange (l : Line) : Type 0 where
 pub record InRange (k : Link) : Type 0 where
   pub receiverPadded : Padded 260 (k .received) (k .receiver)
   pub outstandingPadded : Padded 261 (k .held) (k .outstanding)
+  pub droppingTwoValued : k .dropping ≤ 1
+  pub expectedTwoValued : k .expected ≤ 1
+  pub sendTwoValued : k .send ≤ 1
   pub receiverInRange : ReceiverInRange (lineOf k)
   pub outstandingInRange : OutstandingInRange (lineOf k)

@@ -12,7 +12,7 @@ use Rattle.ft12.specs.declared.receiver.Judgement.the-variants.{More, Da
 use Rattle.ft12.specs.declared.rules.Heard.{Heard}
 use Rattle.ft12.specs.declared.rules.Heard.the-variants.{Gathered, Dropped, Ignored, Acknowledged, Reset}
 use Rattle.ft12.specs.declared.rules.Heard.the-variants.{Repeat, Request}
-use Rattle.words.specs.Words.{if_then_else_, isEmpty}
+use Rattle.words.specs.Words.{if_then_else_, yesOrNo, isEmpty}
 use Rattle.ft12.specs.Frame.{acknowledgement, fixedFrame, dataFrame, longestMessage, messageOf}
 use Rattle.ft12.specs.Receiver.{judged}
 use Rattle.ft12.specs.Record.{Line, lineOf, linkOf, hostControl, serverControl}
@@ -111,9 +111,9 @@ onHostByte b l = onHeard (heardAt b l) b l
 
 -- ---- what stands in the record for a moment
 
--- the two bits and the count
+-- the two bits and the count, as the record holds them
 unfoldable pub bitsOf : Line → Bits
-bitsOf l = record { expected = l .expected; send = l .send; resends = l .resends }
+bitsOf l = record { expected = yesOrNo (l .expected); send = yesOrNo (l .send); resends = l .resends }
 
 -- on every line with the bits `before`, this case leaves the bits `after`
 abbrev pub BitsAfter : Heard → Bits → Bits → Type 0

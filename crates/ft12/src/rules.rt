@@ -18,9 +18,9 @@ pub enum Heard {
     Request(u8),
 }
 
-// The two count bits and the count of resends.
+// The two count bits and the count of resends, as the record holds them.
 pub struct Bits {
-    pub expected: bool,
-    pub send: bool,
+    pub expected: u8,
+    pub send: u8,
     pub resends: u8,
 }
