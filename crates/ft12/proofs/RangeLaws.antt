@@ -5,12 +5,13 @@ use mathlib.Core.Bool.{Bool, true, false, _&&_, and-false, and-true}
 use mathlib.Core.List.{List, [], _∷_}
 use native.Mathlib.Omega.{arith}
 use lib.ListN.{length, take, drop}
-use lib.Dec.{eqb}
-use borrow.Author.Tests.{le-leb, lt-leb, eq-eqb, ne-eqb}
+use lib.Dec.{eqb, leb, ltb, leb→le, le→leb, ltb→lt, lt→ltb}
+use borrow.Author.Tests.{le-leb, lt-leb, le-ltb, lt-ltb, eq-eqb, ne-eqb}
 use Rattle.words.specs.Words.{isEmpty, areZero, isPadded}
 use Rattle.ft12.specs.Frame.{isWhole}
 use Rattle.ft12.specs.Receiver.{isBeginning}
-use Rattle.ft12.specs.Record.{serverControl, receiverOk, outstandingOk}
+use Rattle.ft12.specs.Record.{serverControl, twoValued, receiverOk, outstandingOk}
+use Rattle.words.proofs.WordLaws.{same-test}
 
 module _ (places n : ℕ) (a : List ℕ) (full : length a ≡ places) where
   -- a length beyond the memory; an unused byte that is not 0; else what is behind them decides
@@ -52,3 +53,20 @@ holds-whole n a send resends h z k = simp (sym (empty-take n a h), ne-eqb n 0 z,
 pub holds-long : (n : ℕ) (a : List ℕ) (send : Bool) (resends : ℕ) → n ≤ length a → (n ≡ 0 → ⊥) → 3 < resends → false ≡ outstandingOk send resends (take n a)
 unfolding outstandingOk
 holds-long n a send resends h z k = simp (sym (empty-take n a h), ne-eqb n 0 z, lt-leb resends 3 k, and-false)
+
+-- ---- what is two-valued
+one-or-none : (n : ℕ) → leb n 1 ≡ ltb n 2
+one-or-none n = same-test (leb n 1) (ltb n 2) (λ t. lt→ltb n 2 (omega (arith, leb→le n 1 t))) (λ t. le→leb n 1 (omega (arith, ltb→lt n 2 t)))
+
+module _ (dropping expected send : ℕ) where
+  pub first-other : 1 < dropping → false ≡ twoValued dropping expected send
+  unfolding twoValued
+  first-other h = simp (le-ltb dropping 2 (omega arith))
+
+  pub second-other : 1 < expected → false ≡ twoValued dropping expected send
+  unfolding twoValued
+  second-other h = simp (le-ltb expected 2 (omega arith), and-false)
+
+  pub third-decides : dropping ≤ 1 → expected ≤ 1 → leb send 1 ≡ twoValued dropping expected send
+  unfolding twoValued
+  third-decides h k = simp (lt-ltb dropping 2 (omega arith), lt-ltb expected 2 (omega arith)) (one-or-none send)

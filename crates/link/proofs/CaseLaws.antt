@@ -1,10 +1,12 @@
 -- What a whole frame is to the link: one law for each answer of the code.
 use Prim.Native.Nat.{ℕ}
-use mathlib.Core.Path.{_≡_, refl}
+use mathlib.Core.Path.{_≡_, refl, sym, _∙_, ap}
 use mathlib.Core.Bool.{Bool, true, false, not}
 use borrow.Author.Tests.{eq-eqb, ne-eqb}
 use Rattle.ft12.specs.declared.rules.Heard.the-variants.{Gathered, Dropped, Ignored, Acknowledged, Reset, Repeat, Request}
 use Rattle.ft12.specs.declared.rules.Bits.{Bits}
+use Rattle.words.specs.Words.{isYes, yesOrNo}
+use Rattle.words.proofs.WordLaws.{read-written}
 use Rattle.ft12.specs.Record.{hostControl}
 use Rattle.ft12.specs.Rules.{atStart, startDropping, gathering, cleared, expecting, caseOfFixed, caseOfData, onHeard, bitsOf, BitsAfter}
 
@@ -34,6 +36,9 @@ module _ (c n : ℕ) (expected free : Bool) where
   data-other e f = simp (ne-eqb c (hostControl expected) e, ne-eqb c (hostControl (not expected)) f)
 
 -- ---- the bits and the count after each case
+flipped-read : (odd : Bool) (bit : ℕ) → yesOrNo odd ≡ bit → yesOrNo (not odd) ≡ yesOrNo (not (isYes bit))
+flipped-read odd bit e = ap (λ (b : Bool). yesOrNo (not b)) (sym (read-written odd) ∙ ap isYes e)
+
 module _ (bits : Bits) where
   pub bits-gathered : BitsAfter Gathered bits bits
   unfolding onHeard bitsOf gathering
@@ -47,11 +52,13 @@ module _ (bits : Bits) where
   unfolding onHeard bitsOf atStart
   bits-ignored l b e = e
 
-  pub bits-acknowledged : BitsAfter Acknowledged bits (record { expected = bits .expected; send = not (bits .send); resends = 0 })
+  pub bits-acknowledged : BitsAfter Acknowledged bits (record { expected = bits .expected; send = yesOrNo (not (isYes (bits .send))); resends = 0 })
   unfolding onHeard bitsOf cleared atStart
-  bits-acknowledged l b e = λ i. record { expected = e i .expected; send = not (e i .send); resends = 0 }
+  bits-acknowledged l b e =
+      let s = flipped-read (l .send) (bits .send) (λ i. e i .send) in
+      λ i. record { expected = e i .expected; send = s i; resends = 0 }
 
-  pub bits-reset : BitsAfter Reset bits (record { expected = true; send = true; resends = 0 })
+  pub bits-reset : BitsAfter Reset bits (record { expected = 1; send = 1; resends = 0 })
   unfolding onHeard bitsOf expecting cleared atStart
   bits-reset l b e = refl
 
@@ -59,6 +66,8 @@ module _ (bits : Bits) where
   unfolding onHeard bitsOf atStart
   bits-repeat l b e = e
 
-  pub bits-request : (n : ℕ) → BitsAfter (Request n) bits (record { expected = not (bits .expected); send = bits .send; resends = bits .resends })
+  pub bits-request : (n : ℕ) → BitsAfter (Request n) bits (record { expected = yesOrNo (not (isYes (bits .expected))); send = bits .send; resends = bits .resends })
   unfolding onHeard bitsOf expecting atStart
-  bits-request n l b e = λ i. record { expected = not (e i .expected); send = e i .send; resends = e i .resends }
+  bits-request n l b e =
+      let x = flipped-read (l .expected) (bits .expected) (λ i. e i .expected) in
+      λ i. record { expected = x i; send = e i .send; resends = e i .resends }

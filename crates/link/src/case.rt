@@ -1,5 +1,7 @@
 // What a judged byte is to the link, by value: control bytes, cases, the bits after them.
 ghost use mathlib.Core.Path.{_≡_};
+ghost use mathlib.Core.Bool.{not};
+ghost use Rattle.words.specs.Words.{isYes, yesOrNo};
 ghost use Rattle.ft12.specs.Record.{serverControl, hostControl};
 ghost use Rattle.ft12.specs.Rules.{BitsAfter, caseOfAcknowledgement, caseOfFixed, caseOfData, caseOf};
 use ft12::frame::HOST_EVEN;
@@ -77,6 +79,16 @@ pub fn case_of(j: Judgement, expected: bool, free: bool) -> Heard
     }
 }
 
+// The other count bit.
+fn flipped(bit: u8) -> u8
+    ensures { λ r. ⌜ r ≡ yesOrNo (not (isYes bit)) ⌝ }
+{
+    if bit == 1 {
+        return 0;
+    }
+    1
+}
+
 // The bits and the count after it, whatever else the line holds.
 pub fn bits_after(h: Heard, bits: Bits) -> Bits
     ensures { λ r. ⌜ BitsAfter h bits r ⌝ }
@@ -87,17 +99,17 @@ pub fn bits_after(h: Heard, bits: Bits) -> Bits
         Heard::Ignored => bits,
         Heard::Acknowledged => Bits {
             expected: bits.expected,
-            send: !bits.send,
+            send: flipped(bits.send),
             resends: 0,
         },
         Heard::Reset => Bits {
-            expected: true,
-            send: true,
+            expected: 1,
+            send: 1,
             resends: 0,
         },
         Heard::Repeat => bits,
         Heard::Request(_) => Bits {
-            expected: !bits.expected,
+            expected: flipped(bits.expected),
             send: bits.send,
             resends: bits.resends,
         },

@@ -51,9 +51,9 @@ fn clear_outstanding(outstanding: &mut [u8; 261], held: &mut u16)
 pub fn host_byte_at(
     receiver: &mut [u8; 260],
     received: &mut u16,
-    dropping: &mut bool,
-    expected: &mut bool,
-    send: &mut bool,
+    dropping: &mut u8,
+    expected: &mut u8,
+    send: &mut u8,
     outstanding: &mut [u8; 261],
     held: &mut u16,
     resends: &mut u8,
@@ -64,12 +64,12 @@ pub fn host_byte_at(
         (linkWith (now (receiver .entry)) (now (received .entry)) (now (dropping .entry)) (now (expected .entry)) (now (send .entry)) (now (outstanding .entry)) (now (held .entry)) (now (resends .entry))) b r
         (linkWith (now (receiver .exit)) (now (received .exit)) (now (dropping .exit)) (now (expected .exit)) (now (send .exit)) (now (outstanding .exit)) (now (held .exit)) (now (resends .exit))) ⌝ }
 {
-    if *dropping {
+    if *dropping == 1 {
         return Heard::Dropped;
     }
     let n = *received as usize;
     let j = judge_at(receiver, n, b);
-    let heard = case_of(j, *expected, *held == 0);
+    let heard = case_of(j, *expected == 1, *held == 0);
     let bits = bits_after(
         heard,
         Bits {
@@ -89,7 +89,7 @@ pub fn host_byte_at(
         }
         Heard::Dropped => {
             empty_receiver(receiver, received);
-            *dropping = true;
+            *dropping = 1;
             heard
         }
         Heard::Ignored => {
@@ -118,9 +118,9 @@ pub fn host_byte_at(
 pub fn idle_mark_at(
     receiver: &mut [u8; 260],
     received: &mut u16,
-    dropping: &mut bool,
-    expected: &mut bool,
-    send: &mut bool,
+    dropping: &mut u8,
+    expected: &mut u8,
+    send: &mut u8,
     outstanding: &mut [u8; 261],
     held: &mut u16,
     resends: &mut u8,
@@ -131,7 +131,7 @@ pub fn idle_mark_at(
         (linkWith (now (receiver .entry)) (now (received .entry)) (now (dropping .entry)) (now (expected .entry)) (now (send .entry)) (now (outstanding .entry)) (now (held .entry)) (now (resends .entry)))) .line) ⌝ }
 {
     empty_receiver(receiver, received);
-    *dropping = false;
+    *dropping = 0;
 }
 
 // The first n bytes of s into the buffer.
@@ -146,9 +146,9 @@ fn put_first(out: &mut [u8], s: &[u8], n: usize)
 pub fn ack_wait_over_at(
     receiver: &mut [u8; 260],
     received: &mut u16,
-    dropping: &mut bool,
-    expected: &mut bool,
-    send: &mut bool,
+    dropping: &mut u8,
+    expected: &mut u8,
+    send: &mut u8,
     outstanding: &mut [u8; 261],
     held: &mut u16,
     resends: &mut u8,
@@ -170,7 +170,7 @@ pub fn ack_wait_over_at(
     }
     put_fixed_frame(out, 0, SERVER_RESET);
     clear_outstanding(outstanding, held);
-    *send = true;
+    *send = 1;
     *resends = 0;
     4
 }
@@ -190,9 +190,9 @@ fn keep_frame(outstanding: &mut [u8; 261], out: &[u8], at: usize, size: usize)
 pub fn message_at(
     receiver: &mut [u8; 260],
     received: &mut u16,
-    dropping: &mut bool,
-    expected: &mut bool,
-    send: &mut bool,
+    dropping: &mut u8,
+    expected: &mut u8,
+    send: &mut u8,
     outstanding: &mut [u8; 261],
     held: &mut u16,
     resends: &mut u8,
@@ -212,7 +212,7 @@ pub fn message_at(
         return 0;
     }
     if *held == 0 {
-        let control = server_control(*send);
+        let control = server_control(*send == 1);
         frame_in_place(out, at, n, control);
         let size = n + AROUND_MESSAGE;
         keep_frame(outstanding, out, at, size);

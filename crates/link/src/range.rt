@@ -2,14 +2,27 @@
 ghost use mathlib.Core.Path.{_≡_};
 ghost use mathlib.Core.Bool.{_&&_};
 ghost use lib.ListN.{length, take};
-ghost use Rattle.words.specs.Words.{isPadded};
-ghost use Rattle.ft12.specs.Record.{receiverOk, outstandingOk, inRange};
+ghost use Rattle.words.specs.Words.{isYes, isPadded};
+ghost use Rattle.ft12.specs.Record.{twoValued, receiverOk, outstandingOk, inRange};
 use crate::case::server_control;
 use frames::frame::is_whole;
 use frames::receiver::is_beginning;
 use ft12::frame::MOST_RESENDS;
 use ft12::record::Link;
 use words::bytes::are_zero;
+
+// Whether each of the three is 0 or 1.
+fn is_two_valued(dropping: u8, expected: u8, send: u8) -> bool
+    ensures { λ r. ⌜ r ≡ twoValued dropping expected send ⌝ }
+{
+    if dropping > 1 {
+        return false;
+    }
+    if expected > 1 {
+        return false;
+    }
+    send <= 1
+}
 
 // Whether the receiver's n bytes are a beginning, or none while it drops, and the others 0.
 fn is_receiver_ok(receiver: &[u8], n: usize, dropping: bool) -> bool
@@ -54,19 +67,23 @@ fn is_outstanding_ok(outstanding: &[u8], n: usize, send: bool, resends: u8) -> b
 fn are_parts_in_range(
     receiver: &[u8; 260],
     received: u16,
-    dropping: bool,
-    send: bool,
+    dropping: u8,
+    expected: u8,
+    send: u8,
     outstanding: &[u8; 261],
     held: u16,
     resends: u8,
 ) -> bool
-    ensures { λ r. ⌜ r ≡ (isPadded 260 received (now (receiver .entry)) && receiverOk dropping (take received (now (receiver .entry)))
-        && (isPadded 261 held (now (outstanding .entry)) && outstandingOk send resends (take held (now (outstanding .entry))))) ⌝ }
+    ensures { λ r. ⌜ r ≡ (twoValued dropping expected send
+        && (isPadded 260 received (now (receiver .entry)) && receiverOk (isYes dropping) (take received (now (receiver .entry)))
+        && (isPadded 261 held (now (outstanding .entry)) && outstandingOk (isYes send) resends (take held (now (outstanding .entry)))))) ⌝ }
 {
-    let n = received as usize;
-    if is_receiver_ok(receiver, n, dropping) {
-        let k = held as usize;
-        return is_outstanding_ok(outstanding, k, send, resends);
+    if is_two_valued(dropping, expected, send) {
+        let n = received as usize;
+        if is_receiver_ok(receiver, n, dropping == 1) {
+            let k = held as usize;
+            return is_outstanding_ok(outstanding, k, send == 1, resends);
+        }
     }
     false
 }
@@ -79,6 +96,7 @@ pub fn in_range(link: &Link) -> bool
         &link.receiver,
         link.received,
         link.dropping,
+        link.expected,
         link.send,
         &link.outstanding,
         link.held,

@@ -27,6 +27,12 @@ enum-told-6 c = search needs
 enum-told-7 : tie.Need-enum-told-7
 enum-told-7 c = search needs
 
+flipped-requires : tie.Need-flipped-requires
+flipped-requires c κs = search needs
+
+flipped-requires-2 : tie.Need-flipped-requires-2
+flipped-requires-2 c κs = search needs
+
 returns : tie.Need-returns
 returns c = rw (c .enum-told .given .1) (bits-gathered _)
 
@@ -37,7 +43,7 @@ returns-3 : tie.Need-returns-3
 returns-3 c = rw (c .enum-told3 .given .1) (bits-ignored _)
 
 returns-4 : tie.Need-returns-4
-returns-4 c = rw (c .before .enum-told4 .given .1) (bits-acknowledged _)
+returns-4 c = rw (c .before .enum-told4 .given .1, c .flipped .ensures) (bits-acknowledged _)
 
 returns-5 : tie.Need-returns-5
 returns-5 c = rw (c .enum-told5 .given .1) (bits-reset _)
@@ -46,7 +52,7 @@ returns-6 : tie.Need-returns-6
 returns-6 c = rw (c .enum-told6 .given .1) (bits-repeat _)
 
 returns-7 : tie.Need-returns-7
-returns-7 c = rw (c .before .enum-told7 .given .1) (bits-request _ _)
+returns-7 c = rw (c .before .enum-told7 .given .1, c .flipped2 .ensures) (bits-request _ _)
 
 pub bits-after-spec : {M : Type 1} → statement M
 bits-after-spec =
@@ -56,9 +62,11 @@ bits-after-spec =
     enum-told-2
     enum-told-3
     enum-told-4
+    flipped-requires
     enum-told-5
     enum-told-6
     enum-told-7
+    flipped-requires-2
     returns
     returns-2
     returns-3

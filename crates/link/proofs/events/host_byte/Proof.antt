@@ -93,9 +93,9 @@ module _ {M : Type 1} (𝓤 : URA M) (H : Heap 𝓤) (A : Atoms 𝓤) (W : Given
       use1 W (‵ (partsAt fullShare members 0 (L.the-type .to h) b o) ⊛ raw (Again (L.the-type .name) members Link (L.the-type .to) (L.the-type .to-one) 𝓤 H A fullShare b o)) (parts-out (L.the-type .name) members Link (L.the-type .to) (L.the-type .to-one) 𝓤 H A W (lawfuls 𝓤 H A W) fullShare h b o) $ split ! $
       fsplit ! $ rewrite ! 0 (λ (zs : List ℕ). ‵ (partAt receiverR fullShare zs b (o + 0))) (map-id (h .receiver)) refl $ lends-part ! tt receiverR (h .receiver) b (o + 0) (λ ν0 δ0. move ! (3 ∷ []) $
       fsplit ! $ lends-part ! tt (UInt w16) (h .received) b (o + 260) (λ ν1 δ1. move ! (3 ∷ []) $
-      fsplit ! $ lends-part ! tt Boolean (h .dropping) b (o + 262) (λ ν2 δ2. move ! (3 ∷ []) $
-      fsplit ! $ lends-part ! tt Boolean (h .expected) b (o + 263) (λ ν3 δ3. move ! (3 ∷ []) $
-      fsplit ! $ lends-part ! tt Boolean (h .send) b (o + 264) (λ ν4 δ4. move ! (3 ∷ []) $
+      fsplit ! $ lends-part ! tt (UInt w8) (h .dropping) b (o + 262) (λ ν2 δ2. move ! (3 ∷ []) $
+      fsplit ! $ lends-part ! tt (UInt w8) (h .expected) b (o + 263) (λ ν3 δ3. move ! (3 ∷ []) $
+      fsplit ! $ lends-part ! tt (UInt w8) (h .send) b (o + 264) (λ ν4 δ4. move ! (3 ∷ []) $
       fsplit ! $ rewrite ! 0 (λ (zs : List ℕ). ‵ (partAt outstandingR fullShare zs b (o + 265))) (map-id (h .outstanding)) refl $ lends-part ! tt outstandingR (h .outstanding) b (o + 265) (λ ν5 δ5. move ! (3 ∷ []) $
       fsplit ! $ lends-part ! tt (UInt w16) (h .held) b (o + 526) (λ ν6 δ6. move ! (3 ∷ []) $
       fsplit ! $ lends-part ! tt (UInt w8) (h .resends) b (o + 528) (λ ν7 δ7. move ! (3 ∷ []) $
@@ -108,9 +108,9 @@ module _ {M : Type 1} (𝓤 : URA M) (H : Heap 𝓤) (A : Atoms 𝓤) (W : Given
       move ! (7 ∷ 15 ∷ 17 ∷ []) $ part-back ! tt (UInt w8) (ws .1 .1 .1 .1 .1 .1 .1 .0) b (o + 528) $
       move ! (7 ∷ 14 ∷ 16 ∷ []) $ part-back ! tt (UInt w16) (ws .1 .1 .1 .1 .1 .1 .0) b (o + 526) $
       move ! (7 ∷ 13 ∷ 15 ∷ []) $ part-back ! tt outstandingR (ws .1 .1 .1 .1 .1 .0) b (o + 265) $ rewrite ! 0 (λ (zs : List ℕ). ‵ (partAt outstandingR fullShare zs b (o + 265))) (sym (map-id (ws .1 .1 .1 .1 .1 .0))) refl $
-      move ! (7 ∷ 12 ∷ 14 ∷ []) $ part-back ! tt Boolean (ws .1 .1 .1 .1 .0) b (o + 264) $
-      move ! (7 ∷ 11 ∷ 13 ∷ []) $ part-back ! tt Boolean (ws .1 .1 .1 .0) b (o + 263) $
-      move ! (7 ∷ 10 ∷ 12 ∷ []) $ part-back ! tt Boolean (ws .1 .1 .0) b (o + 262) $
+      move ! (7 ∷ 12 ∷ 14 ∷ []) $ part-back ! tt (UInt w8) (ws .1 .1 .1 .1 .0) b (o + 264) $
+      move ! (7 ∷ 11 ∷ 13 ∷ []) $ part-back ! tt (UInt w8) (ws .1 .1 .1 .0) b (o + 263) $
+      move ! (7 ∷ 10 ∷ 12 ∷ []) $ part-back ! tt (UInt w8) (ws .1 .1 .0) b (o + 262) $
       move ! (7 ∷ 9 ∷ 11 ∷ []) $ part-back ! tt (UInt w16) (ws .1 .0) b (o + 260) $
       move ! (7 ∷ 8 ∷ 10 ∷ []) $ part-back ! tt receiverR (ws .0) b (o + 0) $ rewrite ! 0 (λ (zs : List ℕ). ‵ (partAt receiverR fullShare zs b (o + 0))) (sym (map-id (ws .0))) refl $
       nothing ! $ move ! (8 ∷ 0 ∷ []) $ fjoin ! $ move ! (7 ∷ 0 ∷ []) $ fjoin ! $ move ! (6 ∷ 0 ∷ []) $ fjoin ! $ move ! (5 ∷ 0 ∷ []) $ fjoin ! $ move ! (4 ∷ 0 ∷ []) $ fjoin ! $ move ! (3 ∷ 0 ∷ []) $ fjoin ! $ move ! (2 ∷ 0 ∷ []) $ fjoin ! $ move ! (1 ∷ 0 ∷ []) $ fjoin ! $ move ! (0 ∷ 2 ∷ []) $

@@ -108,13 +108,13 @@ module _ {M : Type 1} (𝓤 : URA M) (H : Heap 𝓤) (A : Atoms 𝓤) (W : Given
       lends-part ! tt (UInt w16) (h .received) b (o + 260) (λ ν1 δ1.
       move ! (3 ∷ []) $
       fsplit ! $
-      lends-part ! tt Boolean (h .dropping) b (o + 262) (λ ν2 δ2.
+      lends-part ! tt (UInt w8) (h .dropping) b (o + 262) (λ ν2 δ2.
       move ! (3 ∷ []) $
       fsplit ! $
-      lends-part ! tt Boolean (h .expected) b (o + 263) (λ ν3 δ3.
+      lends-part ! tt (UInt w8) (h .expected) b (o + 263) (λ ν3 δ3.
       move ! (3 ∷ []) $
       fsplit ! $
-      lends-part ! tt Boolean (h .send) b (o + 264) (λ ν4 δ4.
+      lends-part ! tt (UInt w8) (h .send) b (o + 264) (λ ν4 δ4.
       move ! (3 ∷ []) $
       fsplit ! $
       rewrite ! 0 (λ (zs : List ℕ). ‵ (partAt outstandingR fullShare zs b (o + 265))) (map-id (h .outstanding)) refl $
@@ -137,11 +137,11 @@ module _ {M : Type 1} (𝓤 : URA M) (H : Heap 𝓤) (A : Atoms 𝓤) (W : Given
       move ! (1 ∷ 8 ∷ 21 ∷ []) $
       part-back ! tt (UInt w16) (ws .1 .0) b (o + 260) $
       move ! (2 ∷ 8 ∷ 19 ∷ []) $
-      part-back ! tt Boolean (ws .1 .1 .0) b (o + 262) $
+      part-back ! tt (UInt w8) (ws .1 .1 .0) b (o + 262) $
       move ! (3 ∷ 8 ∷ 17 ∷ []) $
-      part-back ! tt Boolean (ws .1 .1 .1 .0) b (o + 263) $
+      part-back ! tt (UInt w8) (ws .1 .1 .1 .0) b (o + 263) $
       move ! (4 ∷ 8 ∷ 15 ∷ []) $
-      part-back ! tt Boolean (ws .1 .1 .1 .1 .0) b (o + 264) $
+      part-back ! tt (UInt w8) (ws .1 .1 .1 .1 .0) b (o + 264) $
       move ! (5 ∷ 8 ∷ 13 ∷ []) $
       part-back ! tt outstandingR (ws .1 .1 .1 .1 .1 .0) b (o + 265) $
       rewrite ! 0 (λ (zs : List ℕ). ‵ (partAt outstandingR fullShare zs b (o + 265))) (sym (map-id (ws .1 .1 .1 .1 .1 .0))) refl $

@@ -46,10 +46,10 @@ same-length c = search needs
 
 returns-3 : tie.Need-returns-3
 returns-3 c =
-    let a = c .before .before .before .before .before .before .before .before .before .before .before .before .before .args in
+    let a = c .before .before .before .before .before .before .before .before .before .before .before .before .before .before .args in
     let k : Link = linkWith (a .receiver .now) (a .received .now) (a .dropping .now) (a .expected .now) (a .send .now) (a .outstanding .now) (a .held .now) (a .resends .now) in
-    let t = c .before .before .before .before .before .before .before .before .before .before .before .before .before .pre .0 in
-    taken-framed k (a .out .now) (a .at) (a .n) t (c .before .before .before .before .before .before .before .before .before .before .before .before .before .pre .1) (c .before .before .before .before .before .before .before .before .before .before .before .before .before .pre .2) _ _ _ (λ e. omega (arith, e)) (omega arith) (omega arith) (c .before .before .before .before .before .before .before .server-control .ensures) (c .before .before .before .before .before .frame-in-place .ensures) (c .keep-frame .ensures)
+    let t = c .before .before .before .before .before .before .before .before .before .before .before .before .before .before .pre .0 in
+    taken-framed k (a .out .now) (a .at) (a .n) t (c .before .before .before .before .before .before .before .before .before .before .before .before .before .before .pre .1) (c .before .before .before .before .before .before .before .before .before .before .before .before .before .before .pre .2) _ _ _ (λ e. omega (arith, e)) (omega arith) (omega arith) (c .before .before .before .before .before .before .before .server-control .ensures) (c .before .before .before .before .before .frame-in-place .ensures) (c .keep-frame .ensures)
 
 returns-4 : tie.Need-returns-4
 returns-4 c =

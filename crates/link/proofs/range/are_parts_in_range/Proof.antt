@@ -1,13 +1,11 @@
 use mathlib.Core.Path.{_≡_, refl, sym, _∙_, ap}
 use mathlib.Core.Bool.{Bool, _&&_}
-use lib.ListN.{take}
 use borrow.Author.Needs.{needs}
 use Rattle.link.proofs.range.are_parts_in_range.Statement.{statement}
 use Rattle.link.proofs.range.are_parts_in_range.Tie as tie
-use Rattle.link.proofs.range.are_parts_in_range.Reads as reads
-use Rattle.link.proofs.range.are_parts_in_range.Lts as lts
-use Rattle.link.proofs.range.is_outstanding_ok.Reads as is-outstanding-ok-reads
-use Rattle.link.proofs.range.is_receiver_ok.Reads as is-receiver-ok-reads
+
+is-two-valued-requires : tie.Need-is-two-valued-requires
+is-two-valued-requires c κs = search needs
 
 is-receiver-ok-requires : tie.Need-is-receiver-ok-requires
 is-receiver-ok-requires c κs = search needs
@@ -17,14 +15,19 @@ is-outstanding-ok-requires c κs = search needs
 
 returns : tie.Need-returns
 returns c =
-    let e = sym (c .before .before .before .is-receiver-ok .ensures) ∙ c .before .before .if1 .taken in
-    c .is-outstanding-ok .ensures ∙ rw e
+    let v = sym (c .before .before .before .before .before .before .is-two-valued .ensures) ∙ c .before .before .before .before .before .if1 .taken in
+    let e = sym (c .before .before .before .is-receiver-ok .ensures) ∙ c .before .before .if2 .taken in
+    c .is-outstanding-ok .ensures ∙ rw (v, e)
 
 returns-2 : tie.Need-returns-2
 returns-2 c =
-    let e = sym (c .before .is-receiver-ok .ensures) ∙ c .if1 .left in
-    rw e
+    let v = sym (c .before .before .before .before .is-two-valued .ensures) ∙ c .before .before .before .if1 .taken in
+    let e = sym (c .before .is-receiver-ok .ensures) ∙ c .if2 .left in
+    rw (v, e)
+
+returns-3 : tie.Need-returns-3
+returns-3 c = rw (sym (c .before .is-two-valued .ensures) ∙ c .if1 .left)
 
 pub are-parts-in-range-spec : {M : Type 1} → statement M
 are-parts-in-range-spec =
-    tie.close (tie.spec is-receiver-ok-requires is-outstanding-ok-requires returns returns-2)
+    tie.close (tie.spec is-two-valued-requires is-receiver-ok-requires is-outstanding-ok-requires returns returns-2 returns-3)

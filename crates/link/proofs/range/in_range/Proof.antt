@@ -1,4 +1,4 @@
--- `link::record::in_range` meets its contract: a walk of its MIR. Two fields are shared out to one call, and five are read for it.
+-- `link::record::in_range` meets its contract: a walk of its MIR. Two fields are shared out to one call, and six are read for it.
 -- Assumes nothing.
 use Rattle.walks.proofs.Data.{Data, good, Good, typed, uintD, boolD, copies}
 use Rattle.walks.proofs.Walk.{Param, cell, allocs-all, frees-all, behind, Walk, starts, ends-in, meets-by, shrP}
@@ -26,7 +26,7 @@ use types.Part.{whole, sub, look-in}
 use sound.WpLaws.{fmOf}
 use denote.Laws.{Is}
 use denote.Memory.{partAt}
-use denote.Plain.{UInt, Boolean}
+use denote.Plain.{UInt}
 use denote.Ref.{RefT}
 use denote.Steps.{nothing, only}
 use denote.Struct.Laws as LL
@@ -77,21 +77,22 @@ module _ {M : Type 1} (𝓤 : URA M) (H : Heap 𝓤) (A : Atoms 𝓤) (W : Given
   r′ = inRange h
 
   -- the numbers among the fields are in their ranges
-  goods : Good linkD h → Good (uintD w16) (h .received) × Good (uintD w16) (h .held) × Good byteD (h .resends)
-  goods was = let is = LL.owed L.the-type L′.the-laws h (linkD .val h ∷ []) was in (is .1 .0, is .1 .1 .1 .1 .1 .1 .0, is .1 .1 .1 .1 .1 .1 .1 .0)
+  goods : Good linkD h → Good (uintD w16) (h .received) × Good (uintD w16) (h .held) × Good byteD (h .resends) × Good byteD (h .dropping) × Good byteD (h .expected) × Good byteD (h .send)
+  goods was = let is = LL.owed L.the-type L′.the-laws h (linkD .val h ∷ []) was in (is .1 .0, is .1 .1 .1 .1 .1 .1 .0, is .1 .1 .1 .1 .1 .1 .1 .0, is .1 .1 .0, is .1 .1 .1 .0, is .1 .1 .1 .1 .0)
 
   walk : Walk 1 𝓤 H A W ps boolD (f.clauses 𝓤 H A mem run) 𝓣 code.function (κ, tt) (q, tt) x tt
   walk =
       starts 𝓤 H A W 1 ps (κ, tt) (q, tt) x ∵ enter ! (𝓣 .C) (𝓣 .Λ) code.function _ _ $ allocs-all ! (code.function .locals) (λ l. params1 ! $
-      pass1 ! (init ! 14 refl (tt, tt)) $ pass0 ! $ move ! (19 ∷ 18 ∷ []) $ looked-part ! tt linkD (copies 𝓤 H A W linkD) h (λ q′. cell-of ! linkD q′ h b o (λ was.
+      pass1 ! (init ! 16 refl (tt, tt)) $ pass0 ! $ move ! (21 ∷ 20 ∷ []) $ looked-part ! tt linkD (copies 𝓤 H A W linkD) h (λ q′. cell-of ! linkD q′ h b o (λ was.
       -- [a share of the link's cell; the open borrow; _8; …; _0; …]: the local i stands at 18 - 2i
-      assigns ! (addr ! (from ! (hop ! (look ! 16 refl) (fld ! refl (stop !))))) (from ! (stop !)) (init ! 14 refl (tt, tt)) $
-      assigns ! (of-opd ! (load ! (from ! (hop ! (look ! 16 refl) (fld ! refl (stop !)))) (look-in ! 0 (sub ! 1 refl (whole !))))) (from ! (stop !)) (init ! 12 refl (typed 𝓤 H A (uintD w16) W (h .received) (goods was .0) .0)) $
-      assigns ! (of-opd ! (load ! (from ! (hop ! (look ! 16 refl) (fld ! refl (stop !)))) (look-in ! 0 (sub ! 2 refl (whole !))))) (from ! (stop !)) (init ! 10 refl (tt, tt)) $
-      assigns ! (of-opd ! (load ! (from ! (hop ! (look ! 16 refl) (fld ! refl (stop !)))) (look-in ! 0 (sub ! 4 refl (whole !))))) (from ! (stop !)) (init ! 8 refl (tt, tt)) $
-      assigns ! (addr ! (from ! (hop ! (look ! 16 refl) (fld ! refl (stop !))))) (from ! (stop !)) (init ! 6 refl (tt, tt)) $
-      assigns ! (of-opd ! (load ! (from ! (hop ! (look ! 16 refl) (fld ! refl (stop !)))) (look-in ! 0 (sub ! 6 refl (whole !))))) (from ! (stop !)) (init ! 4 refl (typed 𝓤 H A (uintD w16) W (h .held) (goods was .1) .0)) $
-      assigns ! (of-opd ! (load ! (from ! (hop ! (look ! 16 refl) (fld ! refl (stop !)))) (look-in ! 0 (sub ! 7 refl (whole !))))) (from ! (stop !)) (init ! 2 refl (typed 𝓤 H A byteD W (h .resends) (goods was .2) .0)) $
+      assigns ! (addr ! (from ! (hop ! (look ! 18 refl) (fld ! refl (stop !))))) (from ! (stop !)) (init ! 16 refl (tt, tt)) $
+      assigns ! (of-opd ! (load ! (from ! (hop ! (look ! 18 refl) (fld ! refl (stop !)))) (look-in ! 0 (sub ! 1 refl (whole !))))) (from ! (stop !)) (init ! 14 refl (typed 𝓤 H A (uintD w16) W (h .received) (goods was .0) .0)) $
+      assigns ! (of-opd ! (load ! (from ! (hop ! (look ! 18 refl) (fld ! refl (stop !)))) (look-in ! 0 (sub ! 2 refl (whole !))))) (from ! (stop !)) (init ! 12 refl (typed 𝓤 H A byteD W (h .dropping) (goods was .3) .0)) $
+      assigns ! (of-opd ! (load ! (from ! (hop ! (look ! 18 refl) (fld ! refl (stop !)))) (look-in ! 0 (sub ! 3 refl (whole !))))) (from ! (stop !)) (init ! 10 refl (typed 𝓤 H A byteD W (h .expected) (goods was .4) .0)) $
+      assigns ! (of-opd ! (load ! (from ! (hop ! (look ! 18 refl) (fld ! refl (stop !)))) (look-in ! 0 (sub ! 4 refl (whole !))))) (from ! (stop !)) (init ! 8 refl (typed 𝓤 H A byteD W (h .send) (goods was .5) .0)) $
+      assigns ! (addr ! (from ! (hop ! (look ! 18 refl) (fld ! refl (stop !))))) (from ! (stop !)) (init ! 6 refl (tt, tt)) $
+      assigns ! (of-opd ! (load ! (from ! (hop ! (look ! 18 refl) (fld ! refl (stop !)))) (look-in ! 0 (sub ! 6 refl (whole !))))) (from ! (stop !)) (init ! 4 refl (typed 𝓤 H A (uintD w16) W (h .held) (goods was .1) .0)) $
+      assigns ! (of-opd ! (load ! (from ! (hop ! (look ! 18 refl) (fld ! refl (stop !)))) (look-in ! 0 (sub ! 7 refl (whole !))))) (from ! (stop !)) (init ! 2 refl (typed 𝓤 H A byteD W (h .resends) (goods was .2) .0)) $
       -- the link is taken apart, and two fields are shared out
       part-of ! linkD q′ h b o was $
       use1 W (‵ (partsAt q′ members 0 (L.the-type .to h) b o) ⊛ raw (Again (L.the-type .name) members Link (L.the-type .to) (L.the-type .to-one) 𝓤 H A q′ b o)) (parts-out (L.the-type .name) members Link (L.the-type .to) (L.the-type .to-one) 𝓤 H A W (lawfuls 𝓤 H A W) q′ h b o) $ split ! $
@@ -100,31 +101,32 @@ module _ {M : Type 1} (𝓤 : URA M) (H : Heap 𝓤) (A : Atoms 𝓤) (W : Given
       fsplit ! $ rewrite ! 0 (λ (zs : List ℕ). ‵ (partAt outstandingR q′ zs b (o + 265))) (map-id (h .outstanding)) refl $ shares-part ! tt outstandingR q′ (h .outstanding) b (o + 265) (λ ν5 δ5.
       use0 W (‵ (byteD .row .own (h .resends) (byteD .val (h .resends) ∷ []))) (byteD .made 𝓤 H A W (h .resends) (byteD .val (h .resends) ∷ []) (goods was .2)) $
       use0 W (‵ (uintD w16 .row .own (h .held) (uintD w16 .val (h .held) ∷ []))) (uintD w16 .made 𝓤 H A W (h .held) (uintD w16 .val (h .held) ∷ []) (goods was .1)) $
-      use0 W (‵ (boolD .row .own (h .send) (boolD .val (h .send) ∷ []))) (boolD .made 𝓤 H A W (h .send) (boolD .val (h .send) ∷ []) refl) $
-      use0 W (‵ (boolD .row .own (h .dropping) (boolD .val (h .dropping) ∷ []))) (boolD .made 𝓤 H A W (h .dropping) (boolD .val (h .dropping) ∷ []) refl) $
+      use0 W (‵ (byteD .row .own (h .send) (byteD .val (h .send) ∷ []))) (byteD .made 𝓤 H A W (h .send) (byteD .val (h .send) ∷ []) (goods was .5)) $
+      use0 W (‵ (byteD .row .own (h .expected) (byteD .val (h .expected) ∷ []))) (byteD .made 𝓤 H A W (h .expected) (byteD .val (h .expected) ∷ []) (goods was .4)) $
+      use0 W (‵ (byteD .row .own (h .dropping) (byteD .val (h .dropping) ∷ []))) (byteD .made 𝓤 H A W (h .dropping) (byteD .val (h .dropping) ∷ []) (goods was .3)) $
       use0 W (‵ (uintD w16 .row .own (h .received) (uintD w16 .val (h .received) ∷ []))) (uintD w16 .made 𝓤 H A W (h .received) (uintD w16 .val (h .received) ∷ []) (goods was .0)) $
-      move ! (13 ∷ 5 ∷ 14 ∷ 0 ∷ 1 ∷ 2 ∷ 6 ∷ 3 ∷ 4 ∷ []) $
+      move ! (14 ∷ 6 ∷ 15 ∷ 0 ∷ 1 ∷ 2 ∷ 3 ∷ 7 ∷ 4 ∷ 5 ∷ []) $
       -- [two tokens; what the seven arguments own; what comes back of out; the fields 6 and 7; 4; 3; 2; 1; what comes back of rx; the way back; the open borrow; _8; …]
       calls-any ! (fmOf 𝓤 H (W .laws) 𝓣) g.ended (g.clauses 𝓤 H A mem run) known (
         (
           (ν0 ∷ [], (ν5 ∷ [], tt)),
           (fullShare, (fullShare, tt)),
           tt,
-          (record { ptr = (b, o + 0); name = δ0; now = h .receiver }, (h .received, (h .dropping, (h .send, (record { ptr = (b, o + 265); name = δ5; now = h .outstanding }, (h .held, (h .resends, tt))))))),
-          (vptr b (o + 0) ∷ [], (uintD w16 .val (h .received) ∷ [], (boolD .val (h .dropping) ∷ [], (boolD .val (h .send) ∷ [], (vptr b (o + 265) ∷ [], (uintD w16 .val (h .held) ∷ [], (byteD .val (h .resends) ∷ [], tt))))))),
+          (record { ptr = (b, o + 0); name = δ0; now = h .receiver }, (h .received, (h .dropping, (h .expected, (h .send, (record { ptr = (b, o + 265); name = δ5; now = h .outstanding }, (h .held, (h .resends, tt)))))))),
+          (vptr b (o + 0) ∷ [], (uintD w16 .val (h .received) ∷ [], (byteD .val (h .dropping) ∷ [], (byteD .val (h .expected) ∷ [], (byteD .val (h .send) ∷ [], (vptr b (o + 265) ∷ [], (uintD w16 .val (h .held) ∷ [], (byteD .val (h .resends) ∷ [], tt)))))))),
         ),
         tt,
       )
       (id⊢ 𝓤 _) boolD r′ (λ ws. Unit {0})
       (λ v r ws is′. fact-use 𝓤 _ (id⊢ 𝓤 _) (λ z. factI 𝓤 _ _ (tt, pinned boolD r r′ v is′ (z ∙ range-parts h))))
-      (and-then ! (load ! (from ! (stop !)) (look ! 22 refl)) (and-then ! (load ! (from ! (stop !)) (look ! 20 refl)) (and-then ! (load ! (from ! (stop !)) (look ! 18 refl)) (and-then ! (load ! (from ! (stop !)) (look ! 16 refl)) (and-then ! (load ! (from ! (stop !)) (look ! 14 refl)) (and-then ! (load ! (from ! (stop !)) (look ! 12 refl)) (and-then ! (load ! (from ! (stop !)) (look ! 10 refl)) (no-more !)))))))) (λ ws e good′.
-      move ! (1 ∷ 9 ∷ []) $ part-unshared ! tt outstandingR q′ (h .outstanding) b (o + 265) $ rewrite ! 0 (λ (zs : List ℕ). ‵ (partAt outstandingR q′ zs b (o + 265))) (sym (map-id (h .outstanding))) refl $ move ! (0 ∷ 9 ∷ []) $ fjoin ! $
-      move ! (9 ∷ 0 ∷ []) $ fjoin ! $ move ! (9 ∷ 0 ∷ []) $ fjoin ! $ move ! (9 ∷ 0 ∷ []) $ fjoin ! $ move ! (9 ∷ 0 ∷ []) $ fjoin ! $
-      move ! (1 ∷ 9 ∷ []) $ part-unshared ! tt receiverR q′ (h .receiver) b (o + 0) $ rewrite ! 0 (λ (zs : List ℕ). ‵ (partAt receiverR q′ zs b (o + 0))) (sym (map-id (h .receiver))) refl $ fjoin ! $ move ! (0 ∷ 8 ∷ []) $
-      use2 W (‵ (partAt (linkD .row) q′ h b o)) (parts-in (L.the-type .name) members Link (L.the-type .to) (L.the-type .to-one) 𝓤 H A W (lawfuls 𝓤 H A W) q′ h b o) $ move ! (0 ∷ 8 ∷ []) $ shut-part ! tt linkD h q′ b o $
-      move ! (1 ∷ []) $ drop ! $ move ! (1 ∷ []) $ drop ! $ move ! (1 ∷ []) $ drop ! $ move ! (1 ∷ []) $ drop ! $ move ! (1 ∷ []) $ drop ! $ move ! (1 ∷ []) $ drop ! $ move ! (1 ∷ []) $ drop ! $
-      land ! (from ! (stop !)) (init ! 17 refl (tt, tt)) $
-      returns ! (look ! 17 refl) $ behind ! 1 $ frees-all ! (cell ∷ cell ∷ cell ∷ cell ∷ cell ∷ cell ∷ cell ∷ cell ∷ cell ∷ []) _ $
+      (and-then ! (load ! (from ! (stop !)) (look ! 24 refl)) (and-then ! (load ! (from ! (stop !)) (look ! 22 refl)) (and-then ! (load ! (from ! (stop !)) (look ! 20 refl)) (and-then ! (load ! (from ! (stop !)) (look ! 18 refl)) (and-then ! (load ! (from ! (stop !)) (look ! 16 refl)) (and-then ! (load ! (from ! (stop !)) (look ! 14 refl)) (and-then ! (load ! (from ! (stop !)) (look ! 12 refl)) (and-then ! (load ! (from ! (stop !)) (look ! 10 refl)) (no-more !))))))))) (λ ws e good′.
+      move ! (1 ∷ 10 ∷ []) $ part-unshared ! tt outstandingR q′ (h .outstanding) b (o + 265) $ rewrite ! 0 (λ (zs : List ℕ). ‵ (partAt outstandingR q′ zs b (o + 265))) (sym (map-id (h .outstanding))) refl $ move ! (0 ∷ 10 ∷ []) $ fjoin ! $
+      move ! (10 ∷ 0 ∷ []) $ fjoin ! $ move ! (10 ∷ 0 ∷ []) $ fjoin ! $ move ! (10 ∷ 0 ∷ []) $ fjoin ! $ move ! (10 ∷ 0 ∷ []) $ fjoin ! $
+      move ! (1 ∷ 10 ∷ []) $ part-unshared ! tt receiverR q′ (h .receiver) b (o + 0) $ rewrite ! 0 (λ (zs : List ℕ). ‵ (partAt receiverR q′ zs b (o + 0))) (sym (map-id (h .receiver))) refl $ fjoin ! $ move ! (0 ∷ 9 ∷ []) $
+      use2 W (‵ (partAt (linkD .row) q′ h b o)) (parts-in (L.the-type .name) members Link (L.the-type .to) (L.the-type .to-one) 𝓤 H A W (lawfuls 𝓤 H A W) q′ h b o) $ move ! (0 ∷ 9 ∷ []) $ shut-part ! tt linkD h q′ b o $
+      move ! (1 ∷ []) $ drop ! $ move ! (1 ∷ []) $ drop ! $ move ! (1 ∷ []) $ drop ! $ move ! (1 ∷ []) $ drop ! $ move ! (1 ∷ []) $ drop ! $ move ! (1 ∷ []) $ drop ! $ move ! (1 ∷ []) $ drop ! $ move ! (1 ∷ []) $ drop ! $
+      land ! (from ! (stop !)) (init ! 19 refl (tt, tt)) $
+      returns ! (look ! 19 refl) $ behind ! 1 $ frees-all ! (cell ∷ cell ∷ cell ∷ cell ∷ cell ∷ cell ∷ cell ∷ cell ∷ cell ∷ cell ∷ []) _ $
       suffices ! _ (ends-in 1 𝓤 H A W ps boolD (f.clauses 𝓤 H A mem run) (κ, tt) (q, tt) x tt r′ (tt, tt) (tt, tt) refl (factI 𝓤 _ (emp 𝓤) refl)) $
       nothing ! $ nothing ! $ nothing ! $ keep ! (3 ∷ 0 ∷ 1 ∷ 2 ∷ []) $ group ! 2 $ frame ! $ done !))))))
 
