@@ -98,7 +98,7 @@ pub record Start (lent : ℕ → ℕ → Lent) (t : Tables) (k : Link) : Type 0 
   pub link : T (inRange k)
   pub output : (i n : ℕ) → 262 ≤ length (lent i n .output)
   pub received : k .received ≡ 0
-  pub dropping : k .dropping ≡ false
+  pub dropping : lineOf k .dropping ≡ false
   pub held : k .held ≡ 0
 
 -- "One request, first byte F0": a message of bytes that a frame can carry
@@ -109,7 +109,7 @@ pub record Request (m : List ℕ) : Type 0 where
 
 -- "carrying the expected count bit"
 unfoldable pub requestFrame : Link → List ℕ → List ℕ
-requestFrame k m = dataFrame (hostControl (k .expected)) m
+requestFrame k m = dataFrame (hostControl (lineOf k .expected)) m
 
 -- "each other delivery has exactly one byte changed or lost"
 abbrev pub EachPossible : List ℕ → List Delivery → Type 0
@@ -124,7 +124,7 @@ someSound (d ∷ ds) = isSound d || someSound ds
 -- ---- the conclusion
 -- the frame of the answer to m, under the send bit; none where m has no answer
 unfoldable pub answerFrame : Tables → Link → List ℕ → List ℕ
-answerFrame t k m = if isEmpty (carriedOut t m .says) then [] else dataFrame (serverControl (k .send)) (carriedOut t m .says)
+answerFrame t k m = if isEmpty (carriedOut t m .says) then [] else dataFrame (serverControl (lineOf k .send)) (carriedOut t m .says)
 
 -- what each delivery draws, where this answer's frame is still to be sent: a sound one the acknowledgement and the
 -- answer, and then no later one the answer; a damaged one nothing
@@ -136,7 +136,7 @@ draws answer (d ∷ ds) = (if isSound d then acknowledgement ++ answer else []) 
 -- message begins F0, does no more.": the link record k′ is k, or k with its outstanding frame acknowledged
 pub data Rest (k k′ : Link) : Type 0 where
   same : k′ ≡ k → Rest k k′
-  acknowledged : isEmpty (lineOf k .outstanding) ≡ false → k′ ≡ linkOf (cleared (not (k .send)) (lineOf k)) → Rest k k′
+  acknowledged : isEmpty (lineOf k .outstanding) ≡ false → k′ ≡ linkOf (cleared (not (lineOf k .send)) (lineOf k)) → Rest k k′
 
 unfoldable pub noneBeginsE5 : List ℕ → List Delivery → Bool
 noneBeginsE5 f ds = every (λ (d : Delivery). not (eqb (getD (arrives f d) 0 0) 0xE5)) ds

@@ -31,7 +31,7 @@ pub record StartAnyTables (lent : ℕ → ℕ → Lent) (t : Tables) (k : Link) 
   pub link : T (inRange k)
   pub output : (i n : ℕ) → 262 ≤ length (lent i n .output)
   pub received : k .received ≡ 0
-  pub dropping : k .dropping ≡ false
+  pub dropping : lineOf k .dropping ≡ false
   pub held : k .held ≡ 0
 
 -- "link record [..] that no call refuses" left out
@@ -39,7 +39,7 @@ pub record StartAnyLink (lent : ℕ → ℕ → Lent) (t : Tables) (k : Link) : 
   pub tables : T (wellFormed t)
   pub output : (i n : ℕ) → 262 ≤ length (lent i n .output)
   pub received : k .received ≡ 0
-  pub dropping : k .dropping ≡ false
+  pub dropping : lineOf k .dropping ≡ false
   pub held : k .held ≡ 0
 
 -- "output room that no call refuses" left out
@@ -47,7 +47,7 @@ pub record StartAnyRoom (lent : ℕ → ℕ → Lent) (t : Tables) (k : Link) : 
   pub tables : T (wellFormed t)
   pub link : T (inRange k)
   pub received : k .received ≡ 0
-  pub dropping : k .dropping ≡ false
+  pub dropping : lineOf k .dropping ≡ false
   pub held : k .held ≡ 0
 
 -- "the receiver at a frame start" left out
@@ -63,7 +63,7 @@ pub record StartHolding (lent : ℕ → ℕ → Lent) (t : Tables) (k : Link) : 
   pub link : T (inRange k)
   pub output : (i n : ℕ) → 262 ≤ length (lent i n .output)
   pub received : k .received ≡ 0
-  pub dropping : k .dropping ≡ false
+  pub dropping : lineOf k .dropping ≡ false
 
 -- "first byte F0" left out
 pub record AnyRequest (m : List ℕ) : Type 0 where

@@ -46,9 +46,9 @@ fn fresh_link() -> Link
     Link {
         receiver: [0; 260],
         received: 0,
-        dropping: false,
-        expected: true,
-        send: true,
+        dropping: 0,
+        expected: 1,
+        send: 1,
         outstanding: [0; 261],
         held: 0,
         resends: 0,
