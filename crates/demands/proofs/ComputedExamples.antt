@@ -29,7 +29,7 @@ abbrev itemTests : Item → Item → List Bool
 itemTests a b = eqb (a .id) (b .id) ∷ eqb (a .size) (b .size) ∷ Bool·beq (a .writable) (b .writable) ∷ same (a .bytes) (b .bytes) ∷ []
 
 abbrev linkTests : Link → Link → List Bool
-linkTests a b = same (a .receiver) (b .receiver) ∷ eqb (a .received) (b .received) ∷ Bool·beq (a .dropping) (b .dropping) ∷ Bool·beq (a .expected) (b .expected) ∷ Bool·beq (a .send) (b .send) ∷ same (a .outstanding) (b .outstanding) ∷ eqb (a .held) (b .held) ∷ eqb (a .resends) (b .resends) ∷ []
+linkTests a b = same (a .receiver) (b .receiver) ∷ eqb (a .received) (b .received) ∷ eqb (a .dropping) (b .dropping) ∷ eqb (a .expected) (b .expected) ∷ eqb (a .send) (b .send) ∷ same (a .outstanding) (b .outstanding) ∷ eqb (a .held) (b .held) ∷ eqb (a .resends) (b .resends) ∷ []
 
 unfoldable pub sameDatapoint : Datapoint → Datapoint → Bool
 sameDatapoint a b = all-pass (datapointTests a b)
@@ -94,9 +94,9 @@ link-eq a b t =
     λ i. record {
       receiver = same→eq (a .receiver) (b .receiver) (g 0) i;
       received = eqb→eq (a .received) (b .received) (g 1) i;
-      dropping = beq→eq (a .dropping) (b .dropping) (g 2) i;
-      expected = beq→eq (a .expected) (b .expected) (g 3) i;
-      send = beq→eq (a .send) (b .send) (g 4) i;
+      dropping = eqb→eq (a .dropping) (b .dropping) (g 2) i;
+      expected = eqb→eq (a .expected) (b .expected) (g 3) i;
+      send = eqb→eq (a .send) (b .send) (g 4) i;
       outstanding = same→eq (a .outstanding) (b .outstanding) (g 5) i;
       held = eqb→eq (a .held) (b .held) (g 6) i;
       resends = eqb→eq (a .resends) (b .resends) (g 7) i;

@@ -7,7 +7,7 @@ use native.Mathlib.Decide.{ℕ-discrete}
 use lib.ListN.{getD, take}
 use lib.Dec.{T, eqb}
 use borrow.Author.Tests.{eq-eqb}
-use Rattle.words.specs.Words.{isEmpty}
+use Rattle.words.specs.Words.{isYes, yesOrNo, isEmpty}
 use Rattle.ft12.specs.declared.record.Link.{Link}
 use Rattle.ft12.specs.Frame.{acknowledgement, dataFrame}
 use Rattle.ft12.specs.Record.{Line, lineOf, linkOf, hostControl, memoryOk, lineOk, inRange}
@@ -42,6 +42,10 @@ acted-expected : {l l′ : Line} → Acted l l′ → l′ .expected ≡ l .expe
 unfolding cleared
 acted-expected (kept e) = ap (λ (k : Line). k .expected) e
 acted-expected (clears o e) = ap (λ (k : Line). k .expected) e
+
+acted-written : {l l′ : Line} → Acted l l′ → linkOf l′ .expected ≡ linkOf l .expected
+unfolding linkOf
+acted-written a = ap yesOrNo (acted-expected a)
 
 acted-free : {l l′ : Line} → Acted l l′ → isEmpty (l .outstanding) ≡ true → l′ ≡ l
 acted-free (kept e) f = e
@@ -188,17 +192,19 @@ acted-rest l l′ k k′ p q (clears o e) = subst (λ (j : Link). Rest j k′) (
 -- from a line at a frame start with nothing outstanding
 from-line : (lent : ℕ → ℕ → Lent) → ((i : ℕ) → Roomy (lent i)) → (m : List ℕ) → Request m → (ds : List Delivery) (t : Tables) (l : Line) → Ready t l → isEmpty (l .outstanding) ≡ true
     → EachPossible (requestFrame (linkOf l) m) ds → T (someSound ds) → Once lent m ds t (linkOf l)
-unfolding requestFrame linkOf
+unfolding requestFrame
 from-line lent room m request ds t l ready o p s =
-    let went = goes m request (l .expected) t l ready refl o ds lent room p s in
-    let c = carried m request (l .expected) in
-    let first = first-drawn m c (l .expected) t l ready refl o (lent 0) (room 0) in
+    let bit : Bool = lineOf (linkOf l) .expected in
+    let x : l .expected ≡ bit = sym (ap (λ (n : Line). n .expected) (lineOf-linkOf l)) in
+    let went = goes m request bit t l ready x o ds lent room p s in
+    let c = carried m request bit in
+    let first = first-drawn m c bit t l ready x o (lent 0) (room 0) in
     record {
-      alone = ap (λ (r : Ran). r .sent) first ∙ first-sent m c (l .expected) t l ready refl o;
-      carried = ap (λ (r : Ran). r .tables) first ∙ first-carried m c (l .expected) t l ready refl o;
+      alone = ap (λ (r : Ran). r .sent) first ∙ first-sent m c bit t l ready x o;
+      carried = ap (λ (r : Ran). r .tables) first ∙ first-carried m c bit t l ready x o;
       drawn = went .drawn;
       tables = went .tables ∙ sym (ap (λ (r : Ran). r .tables) first);
-      expected = ap (λ (j : Link). j .expected) (went .link) ∙ acted-expected (went .acted) ∙ sym (ap (λ (r : Ran). r .link .expected) first);
+      expected = ap (λ (j : Link). j .expected) (went .link) ∙ acted-written (went .acted) ∙ sym (ap (λ (r : Ran). r .link .expected) first);
       accepted = deliveries-accepted (requestFrame (linkOf l) m) ds lent t l room (ready .tables) (ready .line);
       rest = acted-rest _ (went .line) _ _ (ap (λ (r : Ran). r .link) first) (went .link) (went .acted);
       undisturbed = λ n. went .link ∙ ap linkOf (went .undisturbed n) ∙ sym (ap (λ (r : Ran). r .link) first);
@@ -212,8 +218,8 @@ module _ (lent : ℕ → ℕ → Lent) (t : Tables) (k : Link) (start : Start le
       λ i. record {
         gathered = ap (λ (n : ℕ). take n (k .receiver)) (start .received) i;
         dropping = start .dropping i;
-        expected = k .expected;
-        send = k .send;
+        expected = isYes (k .expected);
+        send = isYes (k .send);
         outstanding = take (k .held) (k .outstanding);
         resends = k .resends;
       }

@@ -11,6 +11,7 @@ use Rattle.ft12.specs.Frame.{dataFrame}
 use Rattle.ft12.specs.Record.{linkOf}
 use Rattle.ft12.specs.Delivery.{Delivery, sound, changed, lost, isSound, arrives}
 use Rattle.ft12.proofs.RecordLaws.{line-in-range}
+use Rattle.words.specs.Words.{isYes}
 use Rattle.baos.specs.Table.{Tables, wellFormed}
 use Rattle.baos.specs.Service.{carriedOut}
 use Rattle.demands.specs.Example.{lineAt, item1, answer1, datapoint, datapoint5}
@@ -73,7 +74,7 @@ unfolding opened lent link lineAt request item1 requestFrame deliveries arrives 
 met-acknowledged = (tt, tt)
 
 -- so the send bit is not what one sound delivery leaves: the demand names the expected bit alone
-pub met-send : T (delivery (lent 0) (requestFrame link request) sound item1 link .link .send) × T (not (exchange lent (requestFrame link request) deliveries item1 link .link .send))
+pub met-send : T (isYes (delivery (lent 0) (requestFrame link request) sound item1 link .link .send)) × T (not (isYes (exchange lent (requestFrame link request) deliveries item1 link .link .send)))
 unfolding opened lent link lineAt request item1 requestFrame deliveries arrives thenIdle calls delivery exchange
 met-send = (tt, tt)
 

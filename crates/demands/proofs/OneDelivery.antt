@@ -8,6 +8,7 @@ use lib.ListN.{length, getD}
 use lib.Dec.{T, ltb}
 use borrow.Author.Tests.{le-ltb}
 use Rattle.words.specs.Words.{if_then_else_, isEmpty, areBytes}
+use Rattle.ft12.proofs.RecordLaws.{lineOf-linkOf}
 use Rattle.ft12.specs.Frame.{acknowledgement, longestMessage, dataFrame}
 use Rattle.ft12.specs.Record.{Line, linkOf, hostControl, serverControl, lineOk}
 use Rattle.ft12.specs.Rules.{atStart, holding, expecting, onIdleMark, onMessage}
@@ -135,8 +136,8 @@ module _ (m : List ℕ) (carried : Carried m) (bit : Bool) where
     first-expected = message-expected (carriedOut t m .says) _ ∙ (unfold expecting in ap not x)
 
     pub first-sent : done .sent ≡ acknowledgement ++ answerFrame t (linkOf l) m
-    unfolding done saying answerFrame linkOf expecting
-    first-sent = ap (λ (s : List ℕ). acknowledgement ++ s) (message-sent (carriedOut t m .says) (expecting (not (l .expected)) l) (answer-sized t m) o)
+    unfolding done saying answerFrame expecting
+    first-sent = rw lineOf-linkOf (ap (λ (s : List ℕ). acknowledgement ++ s) (message-sent (carriedOut t m .says) (expecting (not (l .expected)) l) (answer-sized t m) o))
 
     pub first-carried : done .tables ≡ carriedOut t m .after
     unfolding done saying

@@ -4,7 +4,7 @@ use mathlib.Core.List.{flatten}
 use Rattle.words.specs.Words.{areZero, isPadded, areBytes}
 use Rattle.ft12.specs.Frame.{fixedFrame, total, checksum, dataFrame, messageOf, isWhole}
 use Rattle.ft12.specs.Receiver.{judgedFirst, judgedFixed, judgedData, judged, isMore, gathers, isBeginning}
-use Rattle.ft12.specs.Record.{lineOf, linkOf, hostControl, serverControl, receiverOk, outstandingOk, lineOk, memoryOk, inRange}
+use Rattle.ft12.specs.Record.{lineOf, linkOf, hostControl, serverControl, receiverOk, outstandingOk, lineOk, twoValued, memoryOk, inRange}
 use Rattle.ft12.specs.Rules.{atStart, startDropping, gathering, cleared, holding, expecting, caseOfAcknowledgement, caseOfFixed, caseOfData, caseOf, heardAt, onHeard, onHostByte, onIdleMark, onAckWaitOver, onMessage}
 use Rattle.baos.specs.Datapoint.{sizeOf, limitOf, unusedBitsOk, isValue, valueOf, datapointOk, withState, withValue, withMark, handedOut, busValue, outcome, commanded}
 use Rattle.baos.specs.Item.{itemOk, bytesOf, withBytes}
@@ -20,5 +20,5 @@ use Rattle.calls.specs.Call.{saying, handedUp, onMoved, onPoll, happens, refusa
 use Rattle.demands.specs.Run.{sentOf, before, run}
 
 unfoldable pub opened : Bool
-unfolding flatten areZero isPadded areBytes fixedFrame total checksum dataFrame messageOf isWhole judgedFirst judgedFixed judgedData judged isMore gathers isBeginning lineOf linkOf hostControl serverControl receiverOk outstandingOk lineOk memoryOk inRange atStart startDropping gathering cleared holding expecting caseOfAcknowledgement caseOfFixed caseOfData caseOf heardAt onHeard onHostByte onIdleMark onAckWaitOver onMessage sizeOf limitOf unusedBitsOk isValue valueOf datapointOk withState withValue withMark handedOut busValue outcome commanded itemOk bytesOf withBytes rising tableOk wellFormed found changedAt mainService subService startOf numberOf filterOf coded answerOf afterOf served inRequest overflow listing getFinding getting itemEntry getServerItem descriptionEntry getDatapointDescription valueEntry passes asked handingOut getDatapointValue parameterEntries getParameterByte firstItemEntry firstDatapointEntry span fills setEntries itemCode takesCommand datapointCode judgedItem judgedDatapoint firstBad setFinding applied setting setItem setServerItem setDatapoint setDatapointValue service unanswered carriedOut needs goes roomAfter choices reported afterReport indicationOf indication statusOf atDatapoint valueFits busOk saying handedUp onMoved onPoll happens refusal refused accepted call sentOf before run
+unfolding flatten areZero isPadded areBytes fixedFrame total checksum dataFrame messageOf isWhole judgedFirst judgedFixed judgedData judged isMore gathers isBeginning lineOf linkOf hostControl serverControl receiverOk outstandingOk lineOk twoValued memoryOk inRange atStart startDropping gathering cleared holding expecting caseOfAcknowledgement caseOfFixed caseOfData caseOf heardAt onHeard onHostByte onIdleMark onAckWaitOver onMessage sizeOf limitOf unusedBitsOk isValue valueOf datapointOk withState withValue withMark handedOut busValue outcome commanded itemOk bytesOf withBytes rising tableOk wellFormed found changedAt mainService subService startOf numberOf filterOf coded answerOf afterOf served inRequest overflow listing getFinding getting itemEntry getServerItem descriptionEntry getDatapointDescription valueEntry passes asked handingOut getDatapointValue parameterEntries getParameterByte firstItemEntry firstDatapointEntry span fills setEntries itemCode takesCommand datapointCode judgedItem judgedDatapoint firstBad setFinding applied setting setItem setServerItem setDatapoint setDatapointValue service unanswered carriedOut needs goes roomAfter choices reported afterReport indicationOf indication statusOf atDatapoint valueFits busOk saying handedUp onMoved onPoll happens refusal refused accepted call sentOf before run
 opened = true

@@ -9,7 +9,7 @@ use lib.Dec.{T}
 use Rattle.words.specs.Words.{areBytes}
 use Rattle.ft12.specs.declared.record.Link.{Link}
 use Rattle.ft12.specs.Frame.{checksum, dataFrame, longestMessage}
-use Rattle.ft12.specs.Record.{linkOf, inRange}
+use Rattle.ft12.specs.Record.{lineOf, linkOf, inRange}
 use Rattle.ft12.specs.Delivery.{Delivery, changed, lost, arrives}
 use Rattle.baos.specs.Table.{Tables, wellFormed}
 use Rattle.calls.specs.declared.event.Event.{Event}
