@@ -32,7 +32,8 @@ valueOf d = take (sizeOf (d .typecode)) (d .value)
 -- report mark is 0 or 1.
 unfoldable pub datapointOk : Datapoint → Bool
 datapointOk d =
-    leb (d .typecode) 14 && ltb (d .state) 32 && unusedBitsOk (d .typecode) (valueOf d) && isPadded 14 (sizeOf (d .typecode)) (d .value) && isYesOrNo (d .mark)
+    leb (d .typecode) 14 && ltb (d .state) 32 && unusedBitsOk (d .typecode) (valueOf d)
+    && isPadded 14 (sizeOf (d .typecode)) (d .value) && isYesOrNo (d .mark)
 
 abbrev pub datapointId : Datapoint → ℕ
 datapointId d = d .id
