@@ -7,7 +7,7 @@ use native.Mathlib.Omega.{arith}
 use lib.ListN.{length, getD, length-append}
 use lib.Dec.{T, leb, ltb, eqb, leb→le, le→leb}
 use borrow.Author.Tests.{ltb-false, leb-true}
-use Rattle.words.specs.Words.{if_then_else_, isEmpty, every, keep}
+use Rattle.words.specs.Words.{if_then_else_, isYes, isEmpty, every, keep}
 use Rattle.words.proofs.WordLaws.{left, true-T, every-map, every-true, every-keep}
 use Rattle.baos.specs.declared.datapoint.Datapoint.{Datapoint}
 use Rattle.baos.specs.declared.item.Item.{Item}
@@ -122,9 +122,9 @@ chosenBytes room ds = entryBytes (map valueEntry (reported (choices room ds)))
 reported-fits : (room : ℕ) (ds : List Datapoint) → length (chosenBytes room ds) ≤ room
 unfolding chosenBytes reported choices goes roomAfter needs flatten
 reported-fits room [] = omega arith
-reported-fits room (d ∷ ds) = go (d .mark) (leb (needs d) room) refl refl (reported-fits (roomAfter room d) ds)
+reported-fits room (d ∷ ds) = go (isYes (d .mark)) (leb (needs d) room) refl refl (reported-fits (roomAfter room d) ds)
   where
-    go : (u v : Bool) → d .mark ≡ u → leb (needs d) room ≡ v → length (chosenBytes (roomAfter room d) ds) ≤ roomAfter room d → length (chosenBytes room (d ∷ ds)) ≤ room
+    go : (u v : Bool) → isYes (d .mark) ≡ u → leb (needs d) room ≡ v → length (chosenBytes (roomAfter room d) ds) ≤ roomAfter room d → length (chosenBytes room (d ∷ ds)) ≤ room
     go false v e c r = simp e (simp e at r)
     go true false e c r = simp (e, c) (omega (arith, simp (e, c) at r))
     go true true e c r =

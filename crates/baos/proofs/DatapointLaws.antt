@@ -1,14 +1,14 @@
 -- One record: the state byte's arithmetic means the paper's bits, and each change of a well-formed record leaves it well formed.
 use Prim.Native.Nat.{ℕ, zero, suc, _+_, _-_, _*_, _/_, _%_, _≤_, _<_}
 use mathlib.Core.Path.{_≡_, refl, ap}
-use mathlib.Core.Bool.{Bool, true, false, _||_}
+use mathlib.Core.Bool.{Bool, true, false, _&&_, _||_}
 use mathlib.Core.List.{List, [], _∷_}
 use native.Mathlib.Omega.{arith}
 use lib.ListN.{length, getD, replicate}
 use lib.Seq.{take-at}
 use lib.Dec.{T, leb, ltb, eqb, leb→le, ltb→lt, lt→ltb, eqb→eq}
-use Rattle.words.specs.Words.{pad, every, isPadded}
-use Rattle.words.proofs.WordLaws.{left, right, both, parts4, join4, pad-padded, padded-decided}
+use Rattle.words.specs.Words.{isYesOrNo, pad, every, isPadded}
+use Rattle.words.proofs.WordLaws.{left, right, both, parts3, parts4, join3, join4, pad-padded, padded-decided}
 use Rattle.baos.specs.declared.datapoint.Datapoint.{Datapoint}
 use Rattle.baos.specs.declared.item.Item.{Item}
 use Rattle.baos.specs.Datapoint.{sizeOf, unusedBitsOk, isValue, valueOf, datapointOk, withValid, withoutUpdated, withRequest, withStatus, fromBus, withState, withValue, withMark, handedOut, busValue, outcome, commanded}
@@ -52,29 +52,35 @@ pub record Parts (d : Datapoint) : Type 0 where
   pub state : d .state < 32
   pub bits : T (unusedBitsOk (d .typecode) (valueOf d))
   pub unused : T (isPadded 14 (sizeOf (d .typecode)) (d .value))
+  pub mark : T (isYesOrNo (d .mark))
+
+-- all of it but the mark
+abbrev but-mark : Datapoint → Bool
+but-mark d = leb (d .typecode) 14 && ltb (d .state) 32 && unusedBitsOk (d .typecode) (valueOf d) && isPadded 14 (sizeOf (d .typecode)) (d .value)
 
 pub parts : (d : Datapoint) → T (datapointOk d) → Parts d
 unfolding datapointOk
 parts d t =
-    let p = parts4 (leb (d .typecode) 14) (ltb (d .state) 32) (unusedBitsOk (d .typecode) (valueOf d)) (isPadded 14 (sizeOf (d .typecode)) (d .value)) t in
-    record { typecode = p .0; state = ltb→lt (d .state) 32 (p .1); bits = p .2; unused = p .3 }
+    let p = parts4 (leb (d .typecode) 14) (ltb (d .state) 32) (unusedBitsOk (d .typecode) (valueOf d)) (isPadded 14 (sizeOf (d .typecode)) (d .value)) (left (but-mark d) (isYesOrNo (d .mark)) t) in
+    record { typecode = p .0; state = ltb→lt (d .state) 32 (p .1); bits = p .2; unused = p .3; mark = right (but-mark d) (isYesOrNo (d .mark)) t }
 
 pub whole : (d : Datapoint) → Parts d → T (datapointOk d)
 unfolding datapointOk
 whole d p =
-    join4 (leb (d .typecode) 14) (ltb (d .state) 32) (unusedBitsOk (d .typecode) (valueOf d)) (isPadded 14 (sizeOf (d .typecode)) (d .value))
-    (p .typecode) (lt→ltb (d .state) 32 (p .state)) (p .bits) (p .unused)
+    both (but-mark d) (isYesOrNo (d .mark))
+    (join4 (leb (d .typecode) 14) (ltb (d .state) 32) (unusedBitsOk (d .typecode) (valueOf d)) (isPadded 14 (sizeOf (d .typecode)) (d .value))
+    (p .typecode) (lt→ltb (d .state) 32 (p .state)) (p .bits) (p .unused)) (p .mark)
 
 -- ---- changes
 pub state-ok : (s : ℕ) (d : Datapoint) → s < 32 → T (datapointOk d) → T (datapointOk (withState s d))
 state-ok s d h t = let p = parts d t in go p (whole (withState s d))
   where
     go : Parts d → (Parts (withState s d) → T (datapointOk (withState s d))) → T (datapointOk (withState s d))
-    go p w = w (unfold withState valueOf in record { typecode = p .typecode; state = h; bits = unfold valueOf in p .bits; unused = p .unused })
+    go p w = w (unfold withState valueOf in record { typecode = p .typecode; state = h; bits = unfold valueOf in p .bits; unused = p .unused; mark = p .mark })
 
-pub mark-ok : (m : Bool) (d : Datapoint) → T (datapointOk d) → T (datapointOk (withMark m d))
+pub mark-ok : (m : ℕ) (d : Datapoint) → T (isYesOrNo m) → T (datapointOk d) → T (datapointOk (withMark m d))
 unfolding withMark datapointOk valueOf
-mark-ok m d t = t
+mark-ok m d h t = both (but-mark d) (isYesOrNo m) (left (but-mark d) (isYesOrNo (d .mark)) t) h
 
 value-length : (k : ℕ) (v : List ℕ) → T (isValue k v) → length v ≡ sizeOf k
 unfolding isValue
@@ -110,6 +116,7 @@ value-ok v s d h i t = go (parts d t) (value-held v s d i) (whole (withValue v s
           state = unfold withValue in h;
           bits = rw e (unfold withValue in value-bits (d .typecode) v i);
           unused = unfold withValue in pad-padded 14 (sizeOf (d .typecode)) v (value-length (d .typecode) v i) (size-fits (d .typecode));
+          mark = unfold withValue in p .mark;
         })
 
 pub handed-out-ok : (d : Datapoint) → T (datapointOk d) → T (datapointOk (handedOut d))
@@ -118,7 +125,7 @@ handed-out-ok d t = state-ok (withoutUpdated (d .state)) d (omega (arith, parts 
 
 pub bus-value-ok : (v : List ℕ) (d : Datapoint) → T (isValue (d .typecode) v) → T (datapointOk d) → T (datapointOk (busValue v d))
 unfolding busValue
-bus-value-ok v d i t = mark-ok true (withValue v (fromBus (d .state)) d) (value-ok v (fromBus (d .state)) d (omega (arith, parts d t .state)) i t)
+bus-value-ok v d i t = mark-ok 1 (withValue v (fromBus (d .state)) d) tt (value-ok v (fromBus (d .state)) d (omega (arith, parts d t .state)) i t)
 
 pub outcome-ok : (status : ℕ) (d : Datapoint) → status ≤ 3 → T (datapointOk d) → T (datapointOk (outcome status d))
 unfolding outcome
@@ -165,6 +172,6 @@ command-same c v d = go (eqb c 1) (eqb c 2) (eqb c 3) (eqb c 4) (eqb c 5) refl r
 pub bytes-ok : (s : List ℕ) (i : Item) → length s ≡ i .size → T (itemOk i) → T (itemOk (withBytes s i))
 unfolding itemOk withBytes
 bytes-ok s i e t =
-    let p = left (leb 1 (i .size)) (isPadded 16 (i .size) (i .bytes)) t in
-    let q = padded-decided 16 (i .size) (i .bytes) .0 (right (leb 1 (i .size)) (isPadded 16 (i .size) (i .bytes)) t) in
-    both (leb 1 (i .size)) (isPadded 16 (i .size) (pad 16 s)) p (pad-padded 16 (i .size) s e (q .within))
+    let p = parts3 (leb 1 (i .size)) (isPadded 16 (i .size) (i .bytes)) (isYesOrNo (i .writable)) t in
+    let q = padded-decided 16 (i .size) (i .bytes) .0 (p .1) in
+    join3 (leb 1 (i .size)) (isPadded 16 (i .size) (pad 16 s)) (isYesOrNo (i .writable)) (p .0) (pad-padded 16 (i .size) s e (q .within)) (p .2)

@@ -69,17 +69,17 @@ module _ (d : Datapoint) (c : ℕ) (v : List ℕ) where
   code-of-value h n k u = simp (h, not-empty v n, eq-eqb (length v) (sizeOf (d .typecode)) k, u)
 
 module _ (i : Item) (v : List ℕ) where
-  pub code-of-fixed : i .writable ≡ false → itemCode i v ≡ 4
+  pub code-of-fixed : (i .writable ≡ 1 → ⊥) → itemCode i v ≡ 4
   unfolding itemCode
-  code-of-fixed e = simp e
+  code-of-fixed n = simp (ne-eqb (i .writable) 1 n)
 
-  pub code-of-data : i .writable ≡ true → length v ≡ i .size → itemCode i v ≡ 0
+  pub code-of-data : i .writable ≡ 1 → length v ≡ i .size → itemCode i v ≡ 0
   unfolding itemCode
-  code-of-data e k = simp (e, eq-eqb (length v) (i .size) k)
+  code-of-data e k = simp (eq-eqb (i .writable) 1 e, eq-eqb (length v) (i .size) k)
 
-  pub code-of-length : i .writable ≡ true → (length v ≡ i .size → ⊥) → itemCode i v ≡ 9
+  pub code-of-length : i .writable ≡ 1 → (length v ≡ i .size → ⊥) → itemCode i v ≡ 9
   unfolding itemCode
-  code-of-length e k = simp (e, ne-eqb (length v) (i .size) k)
+  code-of-length e k = simp (eq-eqb (i .writable) 1 e, ne-eqb (length v) (i .size) k)
 
 -- ---- entries
 -- bytes stored one by one, and the used bytes of an array behind them, are one write

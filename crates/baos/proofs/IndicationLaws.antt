@@ -8,7 +8,7 @@ use lib.ListN.{length, getD, set, take, drop, length-append, length-take, length
 use lib.Seq.{drop-at}
 use lib.Dec.{T, leb, ltb}
 use borrow.Author.Tests.{lt-leb, le-leb, leb-true, ltb-true, ltb-false}
-use Rattle.words.specs.Words.{put, twoBytes, every}
+use Rattle.words.specs.Words.{isYes, put, twoBytes, every}
 use Rattle.words.proofs.WordLaws.{T-true, padded-decided}
 use Rattle.ft12.proofs.EventLaws.{put-none}
 use Rattle.walks.proofs.Branches.{no-T}
@@ -46,37 +46,37 @@ no-room d = lt-leb (needs d) 0 (omega (arith, needs-some d))
 
 goes-none : (d : Datapoint) → goes 0 d ≡ false
 unfolding goes
-goes-none d = go (d .mark) refl
+goes-none d = go (isYes (d .mark)) refl
   where
-    go : (b : Bool) → d .mark ≡ b → goes 0 d ≡ false
+    go : (b : Bool) → isYes (d .mark) ≡ b → goes 0 d ≡ false
     go true e = simp (e, no-room d)
     go false e = simp e
 
 after-none : (d : Datapoint) → roomAfter 0 d ≡ 0
 unfolding roomAfter
-after-none d = go (d .mark) refl
+after-none d = go (isYes (d .mark)) refl
   where
-    go : (b : Bool) → d .mark ≡ b → roomAfter 0 d ≡ 0
+    go : (b : Bool) → isYes (d .mark) ≡ b → roomAfter 0 d ≡ 0
     go true e = simp (e, no-room d)
     go false e = simp e
 
-goes-marked : (room : ℕ) (d : Datapoint) (b : Bool) → d .mark ≡ true → leb (needs d) room ≡ b → goes room d ≡ b
+goes-marked : (room : ℕ) (d : Datapoint) (b : Bool) → isYes (d .mark) ≡ true → leb (needs d) room ≡ b → goes room d ≡ b
 unfolding goes
 goes-marked room d b e f = simp (e, f)
 
-goes-unmarked : (room : ℕ) (d : Datapoint) → d .mark ≡ false → goes room d ≡ false
+goes-unmarked : (room : ℕ) (d : Datapoint) → isYes (d .mark) ≡ false → goes room d ≡ false
 unfolding goes
 goes-unmarked room d e = simp e
 
-after-carried : (room : ℕ) (d : Datapoint) → d .mark ≡ true → leb (needs d) room ≡ true → roomAfter room d ≡ room - needs d
+after-carried : (room : ℕ) (d : Datapoint) → isYes (d .mark) ≡ true → leb (needs d) room ≡ true → roomAfter room d ≡ room - needs d
 unfolding roomAfter
 after-carried room d e f = simp (e, f)
 
-after-waiting : (room : ℕ) (d : Datapoint) → d .mark ≡ true → leb (needs d) room ≡ false → roomAfter room d ≡ 0
+after-waiting : (room : ℕ) (d : Datapoint) → isYes (d .mark) ≡ true → leb (needs d) room ≡ false → roomAfter room d ≡ 0
 unfolding roomAfter
 after-waiting room d e f = simp (e, f)
 
-after-unmarked : (room : ℕ) (d : Datapoint) → d .mark ≡ false → roomAfter room d ≡ room
+after-unmarked : (room : ℕ) (d : Datapoint) → isYes (d .mark) ≡ false → roomAfter room d ≡ room
 unfolding roomAfter
 after-unmarked room d e = simp e
 
@@ -97,7 +97,7 @@ module _ (d : Datapoint) (cs : List Choice) where
   unfolding reported
   reported-other = refl
 
-  after-report-carried : afterReport (chosen d true ∷ cs) ≡ withMark false (handedOut d) ∷ afterReport cs
+  after-report-carried : afterReport (chosen d true ∷ cs) ≡ withMark 0 (handedOut d) ∷ afterReport cs
   unfolding afterReport
   after-report-carried = refl
 
@@ -185,17 +185,17 @@ module _ (ys : List Datapoint) (out : List ℕ) (at : ℕ) where
       telling-code = code-fits d (here .0)
 
       -- it does not fit: the pass ends
-      pub telling-waits : T (d .mark) → T (not (leb (needs d) room)) → MarkedTold ys out at (record { count = count; end = end }) bs zs
+      pub telling-waits : T (isYes (d .mark)) → T (not (leb (needs d) room)) → MarkedTold ys out at (record { count = count; end = end }) bs zs
       telling-waits m n =
           let f : leb (needs d) room ≡ false = no-T (leb (needs d) room) n in
-          finished (chosen d false ∷ choices 0 (drop (i + 1) zs)) (step 0 false (goes-marked room d false (T-true (d .mark) m) f) (after-waiting room d (T-true (d .mark) m) f))
+          finished (chosen d false ∷ choices 0 (drop (i + 1) zs)) (step 0 false (goes-marked room d false (T-true (isYes (d .mark)) m) f) (after-waiting room d (T-true (isYes (d .mark)) m) f))
           (reported-other d _ ∙ none-reported (drop (i + 1) zs))
           (after-report-other d _ ∙ ap (λ (r : List Datapoint). d ∷ r) (none-cleared (drop (i + 1) zs)) ∙ sym (drop-next zs i zeroDatapoint l))
 
       -- it is not marked
-      pub telling-other : T (not (d .mark)) → Telling ys out at (i + 1) end count zs bs
+      pub telling-other : T (not (isYes (d .mark))) → Telling ys out at (i + 1) end count zs bs
       telling-other n =
-          let m : d .mark ≡ false = no-T (d .mark) n in
+          let m : isYes (d .mark) ≡ false = no-T (isYes (d .mark)) n in
           let e = step room false (goes-unmarked room d m) (after-unmarked room d m) in
           let cs : List Choice = choices room (drop (i + 1) zs) in
           record {
@@ -209,9 +209,9 @@ module _ (ys : List Datapoint) (out : List ℕ) (at : ℕ) where
           }
 
       -- it is carried
-      module _ (m : T (d .mark)) (fits : T (not (not (leb (needs d) room)))) where
+      module _ (m : T (isYes (d .mark))) (fits : T (not (not (leb (needs d) room)))) where
         abbrev d′ : Datapoint
-        d′ = withMark false (handedOut d)
+        d′ = withMark 0 (handedOut d)
 
         fit : leb (needs d) room ≡ true
         fit = twice (leb (needs d) room) fits
@@ -231,7 +231,7 @@ module _ (ys : List Datapoint) (out : List ℕ) (at : ℕ) where
         rest = choices (at + 248 - (end + length es)) (drop (i + 1) zs)
 
         carried-step : choices room (drop i zs) ≡ chosen d true ∷ choices (at + 248 - (end + length es)) (drop (i + 1) zs)
-        carried-step = step (at + 248 - (end + length es)) true (goes-marked room d true (T-true (d .mark) m) fit) (after-carried room d (T-true (d .mark) m) fit ∙ rest-is)
+        carried-step = step (at + 248 - (end + length es)) true (goes-marked room d true (T-true (isYes (d .mark)) m) fit) (after-carried room d (T-true (isYes (d .mark)) m) fit ∙ rest-is)
 
         going : Putting out at (entriesTold all) bs end (es ++ entriesTold (choices (at + 248 - (end + length es)) (drop (i + 1) zs)))
         going = subst (Putting out at (entriesTold all) bs end) (ap entriesTold carried-step ∙ told-carried d _) (h .bytes)

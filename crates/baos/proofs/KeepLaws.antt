@@ -6,7 +6,7 @@ use mathlib.Core.List.{List, [], _∷_, map}
 use native.Mathlib.Omega.{arith}
 use lib.ListN.{length, drop}
 use lib.Dec.{T, leb, eqb, eqb→eq}
-use Rattle.words.specs.Words.{if_then_else_, isEmpty, every}
+use Rattle.words.specs.Words.{if_then_else_, isYes, isEmpty, every}
 use Rattle.words.proofs.WordLaws.{left, right, both, parts3, join3, T-true, every-imp, every-true}
 use Rattle.baos.specs.declared.datapoint.Datapoint.{Datapoint}
 use Rattle.baos.specs.declared.item.Item.{Item}
@@ -111,9 +111,9 @@ itemFits o i = eqb (length (o .value)) (i .size)
 
 item-judged : (o : SetEntry) (i : Item) → T (eqb (judgedItem (i ∷ []) o) 0) → T (itemFits o i)
 unfolding judgedItem itemCode itemFits
-item-judged o i t = go (i .writable) (eqb (length (o .value)) (i .size)) refl refl
+item-judged o i t = go (isYes (i .writable)) (eqb (length (o .value)) (i .size)) refl refl
   where
-    go : (u v : Bool) → i .writable ≡ u → eqb (length (o .value)) (i .size) ≡ v → T (itemFits o i)
+    go : (u v : Bool) → isYes (i .writable) ≡ u → eqb (length (o .value)) (i .size) ≡ v → T (itemFits o i)
     go u true e d = simp d tt
     go true false e d = absurd (simp (e, d) at t)
     go false false e d = absurd (simp e at t)
@@ -193,7 +193,7 @@ carried-out-keeps t m w = by-message (λ (s : Served). T (wellFormed (s .after))
 
 -- ---- the indication
 told : Choice → Datapoint
-told c = if c .carried then withMark false (handedOut (c .datapoint)) else c .datapoint
+told c = if c .carried then withMark 0 (handedOut (c .datapoint)) else c .datapoint
 
 told-id : (c : Choice) → datapointId (told c) ≡ datapointId (c .datapoint)
 unfolding told
@@ -208,7 +208,7 @@ unfolding told
 told-ok c t = go (c .carried) refl
   where
     go : (u : Bool) → c .carried ≡ u → T (datapointOk (told c))
-    go true e = simp (e, told) (DatapointLaws.mark-ok false (handedOut (c .datapoint)) (DatapointLaws.handed-out-ok (c .datapoint) t))
+    go true e = simp (e, told) (DatapointLaws.mark-ok 0 (handedOut (c .datapoint)) tt (DatapointLaws.handed-out-ok (c .datapoint) t))
     go false e = simp (e, told) t
 
 report-ids : (room : ℕ) (ds : List Datapoint) → map datapointId (afterReport (choices room ds)) ≡ map datapointId ds
@@ -241,15 +241,15 @@ unfolding indication
 indication-keeps t w = with-datapoints t _ w (report-ok _ (t .datapoints) (parts t w .datapoints))
 
 -- "with [..] some mark set [..]. Otherwise nothing"
-unmarked-stay : (room : ℕ) (ds : List Datapoint) → T (every (λ (d : Datapoint). not (d .mark)) ds) → (reported (choices room ds) ≡ []) × (afterReport (choices room ds) ≡ ds)
+unmarked-stay : (room : ℕ) (ds : List Datapoint) → T (every (λ (d : Datapoint). not (isYes (d .mark))) ds) → (reported (choices room ds) ≡ []) × (afterReport (choices room ds) ≡ ds)
 unfolding reported afterReport choices goes roomAfter
 unmarked-stay room [] t = (refl, refl)
-unmarked-stay room (d ∷ ds) t = go (d .mark) refl (unmarked-stay room ds (right (not (d .mark)) (every (λ (x : Datapoint). not (x .mark)) ds) t))
+unmarked-stay room (d ∷ ds) t = go (isYes (d .mark)) refl (unmarked-stay room ds (right (not (isYes (d .mark))) (every (λ (x : Datapoint). not (isYes (x .mark))) ds) t))
   where
-    go : (u : Bool) → d .mark ≡ u → (reported (choices room ds) ≡ []) × (afterReport (choices room ds) ≡ ds) → (reported (choices room (d ∷ ds)) ≡ []) × (afterReport (choices room (d ∷ ds)) ≡ d ∷ ds)
-    go true e r = absurd (simp e at (left (not (d .mark)) (every (λ (x : Datapoint). not (x .mark)) ds) t))
+    go : (u : Bool) → isYes (d .mark) ≡ u → (reported (choices room ds) ≡ []) × (afterReport (choices room ds) ≡ ds) → (reported (choices room (d ∷ ds)) ≡ []) × (afterReport (choices room (d ∷ ds)) ≡ d ∷ ds)
+    go true e r = absurd (simp e at (left (not (isYes (d .mark))) (every (λ (x : Datapoint). not (isYes (x .mark))) ds) t))
     go false e r = (simp (e, r .0), simp (e, r .1))
 
-pub unmarked-silent : (t : Tables) → T (every (λ (d : Datapoint). not (d .mark)) (t .datapoints)) → indication t ≡ record { says = []; after = t }
+pub unmarked-silent : (t : Tables) → T (every (λ (d : Datapoint). not (isYes (d .mark))) (t .datapoints)) → indication t ≡ record { says = []; after = t }
 unfolding indication
 unmarked-silent t h = let r = unmarked-stay roomForEntries (t .datapoints) h in unfold indicationOf in rw (r .0, r .1)

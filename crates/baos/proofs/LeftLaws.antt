@@ -8,8 +8,8 @@ use lib.ListN.{length, drop, length-drop}
 use lib.Seq.{drop-drop}
 use borrow.Author.Tests.{eq-eqb, eqb-true}
 use lib.Dec.{T, leb, eqb, leb→le, le→leb}
-use Rattle.words.specs.Words.{if_then_else_, every, isEmpty, isPadded, areZero}
-use Rattle.words.proofs.WordLaws.{left, right, true-T, T-true}
+use Rattle.words.specs.Words.{if_then_else_, isYesOrNo, isYes, every, isEmpty, isPadded, areZero}
+use Rattle.words.proofs.WordLaws.{left, right, parts3, true-T, T-true}
 use Rattle.baos.specs.declared.datapoint.Datapoint.{Datapoint}
 use Rattle.baos.specs.declared.item.Item.{Item}
 use Rattle.baos.specs.Message.{Finding, bad, verdictOf, fine}
@@ -190,7 +190,7 @@ item-size : (i : Item) → T (itemOk i) → i .size ≤ 16
 unfolding itemOk isPadded
 item-size i t =
     leb→le (i .size) 16
-    (right (eqb (length (i .bytes)) 16) (leb (i .size) 16) (left (eqb (length (i .bytes)) 16 && leb (i .size) 16) (areZero (drop (i .size) (i .bytes))) (right (leb 1 (i .size)) (isPadded 16 (i .size) (i .bytes)) t)))
+    (right (eqb (length (i .bytes)) 16) (leb (i .size) 16) (left (eqb (length (i .bytes)) 16 && leb (i .size) 16) (areZero (drop (i .size) (i .bytes))) (parts3 (leb 1 (i .size)) (isPadded 16 (i .size) (i .bytes)) (isYesOrNo (i .writable)) t .1)))
 
 abbrev by-item-tests : Bool → Bool → ℕ
 by-item-tests writable sized = if not writable then 4 else if not sized then 9 else 0
@@ -198,7 +198,7 @@ by-item-tests writable sized = if not writable then 4 else if not sized then 9 e
 short-item : (is : List Item) (e : SetEntry) → T (every itemOk is) → judgedItem is e ≡ 0 → T (leb (length (e .value)) 16)
 unfolding judgedItem itemCode
 short-item [] e t z = absurd (omega (arith, z))
-short-item (i ∷ is) e t z = go (i .writable) (eqb (length (e .value)) (i .size)) refl z
+short-item (i ∷ is) e t z = go (isYes (i .writable)) (eqb (length (e .value)) (i .size)) refl z
   where
     go : (a c : Bool) → eqb (length (e .value)) (i .size) ≡ c → by-item-tests a c ≡ 0 → T (leb (length (e .value)) 16)
     go false c q z = absurd (omega (arith, z))

@@ -9,7 +9,7 @@ use mathlib.Core.List.{List, [], _∷_, _++_}
 use lib.ListN.{length, getD, set, take, drop, drop-of-length-le, length-append, take-append-drop}
 use lib.Dec.{T, leb, ltb, leb→le}
 use borrow.Author.Tests.{ltb-false}
-use Rattle.words.specs.Words.{if_then_else_, every, put}
+use Rattle.words.specs.Words.{if_then_else_, isYesOrNo, isPadded, every, put}
 use Rattle.words.proofs.WordLaws.{left as left-part, right as right-part, parts3, padded-decided, every-suffix}
 use Rattle.words.proofs.ByteLaws.{length-put, put-put}
 use Rattle.ft12.proofs.EventLaws.{put-none}
@@ -84,7 +84,7 @@ wide-short w d t = wide-size w d (padded-decided 14 (sizeOf (d .typecode)) (d .v
 pub bytes-fit : (i : Item) → T (itemOk i) → (i .size ≤ 16) × (length (i .bytes) ≡ 16)
 unfolding itemOk
 bytes-fit i t =
-    let p = padded-decided 16 (i .size) (i .bytes) .0 (right-part (leb 1 (i .size)) _ t) in
+    let p = padded-decided 16 (i .size) (i .bytes) .0 (parts3 (leb 1 (i .size)) (isPadded 16 (i .size) (i .bytes)) (isYesOrNo (i .writable)) t .1) in
     (p .within, p .memory)
 
 -- ---- an entry is not empty, so no more entries are counted than bytes

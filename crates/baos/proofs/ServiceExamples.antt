@@ -13,7 +13,7 @@ use Rattle.baos.specs.Service.{service, unanswered, carriedOut}
 -- datapoint 5, one byte, valid, with this state
 unfoldable reading : ℕ → Tables
 reading state =
-    datapointsOnly (record { id = 5; typecode = 7; flags = 0; dpt = 5; state = state; value = pad 14 (0x2A ∷ []); mark = true } ∷ [])
+    datapointsOnly (record { id = 5; typecode = 7; flags = 0; dpt = 5; state = state; value = pad 14 (0x2A ∷ []); mark = 1 } ∷ [])
 
 -- GetDatapointValue from 1 on, up to 9 of them, updated ones only
 unfoldable updatedOnly : List ℕ

@@ -4,7 +4,7 @@ use mathlib.Core.Bool.{Bool, true, false, _&&_}
 use mathlib.Core.List.{List, [], _∷_}
 use lib.ListN.{length, getD, take, replicate}
 use lib.Dec.{leb, ltb, eqb}
-use Rattle.words.specs.Words.{if_then_else_, pad, isPadded}
+use Rattle.words.specs.Words.{if_then_else_, isYesOrNo, pad, isPadded}
 use Rattle.baos.specs.declared.datapoint.Datapoint.{Datapoint}
 
 -- "Type codes: 0 to 6 are 1 to 7 bits in the low bits of one byte; 7 is 1 byte; 8, 9, 10, 11, 12, 13, 14 are 2, 3, 4,
@@ -28,17 +28,19 @@ isValue typecode v = eqb (length v) (sizeOf typecode) && unusedBitsOk typecode v
 unfoldable pub valueOf : Datapoint → List ℕ
 valueOf d = take (sizeOf (d .typecode)) (d .value)
 
--- "type codes are 0 to 14, state bits 7 to 5 are 0, [..] value bits and bytes beyond the type's size [..] are 0"
+-- "type codes are 0 to 14, state bits 7 to 5 are 0, [..] value bits and bytes beyond the type's size [..] are 0". The
+-- report mark is 0 or 1.
 unfoldable pub datapointOk : Datapoint → Bool
 datapointOk d =
-    leb (d .typecode) 14 && ltb (d .state) 32 && unusedBitsOk (d .typecode) (valueOf d) && isPadded 14 (sizeOf (d .typecode)) (d .value)
+    leb (d .typecode) 14 && ltb (d .state) 32 && unusedBitsOk (d .typecode) (valueOf d)
+    && isPadded 14 (sizeOf (d .typecode)) (d .value) && isYesOrNo (d .mark)
 
 abbrev pub datapointId : Datapoint → ℕ
 datapointId d = d .id
 
 -- what is read where no record stands
 abbrev pub zeroDatapoint : Datapoint
-zeroDatapoint = record { id = 0; typecode = 0; flags = 0; dpt = 0; state = 0; value = replicate 14 0; mark = false }
+zeroDatapoint = record { id = 0; typecode = 0; flags = 0; dpt = 0; state = 0; value = replicate 14 0; mark = 0 }
 
 -- ---- the state byte: "bit 4 valid, bit 3 updated from bus, bit 2 data request, bits 1-0 transmission status"
 abbrev pub isValid : ℕ → Bool
@@ -74,7 +76,7 @@ withState s d = record { id = d .id; typecode = d .typecode; flags = d .flags; d
 unfoldable pub withValue : List ℕ → ℕ → Datapoint → Datapoint
 withValue v s d = record { id = d .id; typecode = d .typecode; flags = d .flags; dpt = d .dpt; state = s; value = pad 14 v; mark = d .mark }
 
-unfoldable pub withMark : Bool → Datapoint → Datapoint
+unfoldable pub withMark : ℕ → Datapoint → Datapoint
 withMark m d = record { id = d .id; typecode = d .typecode; flags = d .flags; dpt = d .dpt; state = d .state; value = d .value; mark = m }
 
 -- "An answer or indication that carries a value shows the state byte as it was and then clears bit 3 (build)."
@@ -83,7 +85,7 @@ handedOut d = withState (withoutUpdated (d .state)) d
 
 -- "Bus value: value replaced, bits 4 and 3 set, bit 2 cleared, report mark set, also if the value is equal (build)."
 unfoldable pub busValue : List ℕ → Datapoint → Datapoint
-busValue v d = withMark true (withValue v (fromBus (d .state)) d)
+busValue v d = withMark 1 (withValue v (fromBus (d .state)) d)
 
 -- "Outcome: status becomes 00, 01 or 10."
 unfoldable pub outcome : ℕ → Datapoint → Datapoint

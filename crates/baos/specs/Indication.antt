@@ -1,10 +1,10 @@
 -- DatapointValue.Ind: marked datapoints in rising ID, while they fit.
 use Prim.Native.Nat.{ℕ, _-_}
-use mathlib.Core.Bool.{Bool, false, _&&_}
+use mathlib.Core.Bool.{Bool, _&&_}
 use mathlib.Core.List.{List, [], _∷_, map}
 use lib.ListN.{length}
 use lib.Dec.{leb}
-use Rattle.words.specs.Words.{if_then_else_, keep}
+use Rattle.words.specs.Words.{if_then_else_, isYes, keep}
 use Rattle.baos.specs.declared.datapoint.Datapoint.{Datapoint}
 use Rattle.baos.specs.Datapoint.{withMark, handedOut}
 use Rattle.baos.specs.Table.{Tables, withDatapoints}
@@ -17,11 +17,11 @@ needs d = length (valueEntry d .bytes)
 
 -- it is marked, and fits in the room left
 unfoldable pub goes : ℕ → Datapoint → Bool
-goes room d = d .mark && leb (needs d) room
+goes room d = isYes (d .mark) && leb (needs d) room
 
 -- the room left behind a datapoint: "until the next one does not fit", and then none
 unfoldable pub roomAfter : ℕ → Datapoint → ℕ
-roomAfter room d = if d .mark then (if leb (needs d) room then room - needs d else 0) else room
+roomAfter room d = if isYes (d .mark) then (if leb (needs d) room then room - needs d else 0) else room
 
 -- a datapoint, and whether the indication carries it
 pub record Choice : Type 0 where
@@ -39,7 +39,7 @@ reported cs = map (λ (c : Choice). c .datapoint) (keep (λ (c : Choice). c .car
 
 -- "Marks carried are cleared", and bit 3
 unfoldable pub afterReport : List Choice → List Datapoint
-afterReport cs = map (λ (c : Choice). if c .carried then withMark false (handedOut (c .datapoint)) else c .datapoint) cs
+afterReport cs = map (λ (c : Choice). if c .carried then withMark 0 (handedOut (c .datapoint)) else c .datapoint) cs
 
 -- "its StartDatapoint is the first one's ID"; nothing is said where nothing is marked
 unfoldable pub indicationOf : List Datapoint → List ℕ

@@ -4,7 +4,7 @@ use mathlib.Core.Bool.{Bool, true, false, not, _&&_, _||_}
 use mathlib.Core.List.{List, [], _∷_}
 use lib.ListN.{length, getD, take, drop}
 use lib.Dec.{leb, eqb}
-use Rattle.words.specs.Words.{if_then_else_, ofTwoBytes, isEmpty, every}
+use Rattle.words.specs.Words.{if_then_else_, isYes, ofTwoBytes, isEmpty, every}
 use Rattle.baos.specs.declared.datapoint.Datapoint.{Datapoint}
 use Rattle.baos.specs.declared.item.Item.{Item}
 use Rattle.baos.specs.Datapoint.{datapointId, sizeOf, unusedBitsOk, commanded}
@@ -43,7 +43,7 @@ setEntries first h (suc n) s = first s ∷ setEntries first h n (drop (span h s)
 -- Rows 4 and 9: the code of an entry for this item, 0 where nothing is wrong.
 unfoldable pub itemCode : Item → List ℕ → ℕ
 itemCode i value =
-    if not (i .writable) then 4
+    if not (isYes (i .writable)) then 4
     else if not (eqb (length value) (i .size)) then 9
     else 0
 

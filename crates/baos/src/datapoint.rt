@@ -11,6 +11,6 @@ pub struct Datapoint {
     // Bit 4 valid, bit 3 updated from bus, bit 2 data request, bits 1-0 transmission status.
     pub state: u8,
     pub value: [u8; 14],
-    // The report mark: the value came from the bus and waits for an indication.
-    pub mark: bool,
+    // The report mark, 0 or 1: 1 where the value came from the bus and waits for an indication.
+    pub mark: u8,
 }

@@ -1,7 +1,7 @@
 -- Words against masks: the unused bytes and bits of a record are 0 exactly when two words have no bit of its masks set.
 use Prim.Native.Nat.{ℕ, zero, suc, _+_, _-_, _*_, _/_, _%_, _^_, _<_, _≤_}
 use mathlib.Core.Path.{_≡_, refl, sym, _∙_, ap, subst}
-use mathlib.Core.Bool.{Bool, true, false, _&&_, and-assoc, and-false}
+use mathlib.Core.Bool.{Bool, true, false, _&&_, and-assoc, and-true, and-false}
 use mathlib.Core.List.{List, [], _∷_, _++_}
 use native.Mathlib.Omega.{arith}
 use native.Mathlib.Nat.{div-eq-of-lt, mod-lt}
@@ -11,7 +11,7 @@ use lib.Dec.{leb, ltb, eqb, eqb→eq, ltb→lt, lt→ltb, lit<}
 use lib.Pow.{pow-pos, pow-mono, pow-add, split, shr-mod}
 use lib.Bits.{bitAnd, and-high, and-block, and-zero-r}
 use borrow.Author.Tests.{lt-ltb, le-ltb, le-leb, lt-leb, eq-eqb, ne-eqb, leb-true, leb-false, ltb-true, ltb-false}
-use Rattle.words.specs.Words.{areZero, isPadded}
+use Rattle.words.specs.Words.{isYesOrNo, areZero, isPadded}
 use Rattle.words.proofs.WordLaws.{left, right, both, true-T, same-test}
 use Rattle.baos.specs.declared.datapoint.Datapoint.{Datapoint}
 use Rattle.baos.specs.declared.item.Item.{Item}
@@ -167,31 +167,43 @@ zero-places s n m vs e h =
     ∙ sym (zero-parts s (places vs 0 n) (places vs n m))
     ∙ ap (λ (l : List ℕ). areZero (drop s l)) (sym (all-places vs n m e))
 
--- ---- DPT and state in front of a word
-head-word : (dpt st : ℕ) (xs : List ℕ) → word (dpt ∷ st ∷ xs) ≡ word xs * 2 ^ 16 + (dpt + 256 * st)
+-- ---- the state in front of a word, the mark behind one
+no-product : (x k : ℕ) → x * 2 ^ k ≡ 0 → x ≡ 0
+no-product zero k e = refl
+no-product (suc x) k e = absurd (omega (arith, pow-pos k, e))
+
+zero-sum : (k x y : ℕ) → eqb (x * 2 ^ k + y) 0 ≡ (eqb y 0 && eqb x 0)
+zero-sum k x y =
+    same-test (eqb (x * 2 ^ k + y) 0) (eqb y 0 && eqb x 0)
+    (λ t. let e = eqb→eq (x * 2 ^ k + y) 0 t in both (eqb y 0) (eqb x 0) (true-T (eq-eqb y 0 (omega arith))) (true-T (eq-eqb x 0 (no-product x k (omega arith)))))
+    (λ t. true-T (eq-eqb (x * 2 ^ k + y) 0 (ap (λ (z : ℕ). z * 2 ^ k + y) (eqb→eq x 0 (right (eqb y 0) (eqb x 0) t)) ∙ omega (arith, eqb→eq y 0 (left (eqb y 0) (eqb x 0) t)))))
+
+-- two numbers in one word
+clear-both : (k a m b n : ℕ) → b < 2 ^ k → n < 2 ^ k → eqb (bitAnd (a * 2 ^ k + b) (m * 2 ^ k + n)) 0 ≡ (eqb (bitAnd b n) 0 && eqb (bitAnd a m) 0)
+clear-both k a m b n h l = ap (λ (w : ℕ). eqb w 0) (and-block k a m b n h l) ∙ zero-sum k (bitAnd a m) (bitAnd b n)
+
+head-word : (st : ℕ) (xs : List ℕ) → word (st ∷ xs) ≡ word xs * 2 ^ 8 + st
 unfolding word
-head-word dpt st xs = omega arith
+head-word st xs = omega arith
 
-zero-sum : (x y : ℕ) → eqb (x * 2 ^ 16 + y) 0 ≡ (eqb y 0 && eqb x 0)
-zero-sum x y =
-    same-test (eqb (x * 2 ^ 16 + y) 0) (eqb y 0 && eqb x 0)
-    (λ t. let e = eqb→eq (x * 2 ^ 16 + y) 0 t in both (eqb y 0) (eqb x 0) (true-T (eq-eqb y 0 (omega arith))) (true-T (eq-eqb x 0 (omega arith))))
-    (λ t. true-T (eq-eqb (x * 2 ^ 16 + y) 0 (omega (arith, eqb→eq y 0 (left (eqb y 0) (eqb x 0) t), eqb→eq x 0 (right (eqb y 0) (eqb x 0) t)))))
+clear-head : (st m : ℕ) (xs : List ℕ) → st < 256 → eqb (bitAnd (word (st ∷ xs)) (m * 2 ^ 8 + bitsFrom 5 8)) 0 ≡ (ltb st 32 && eqb (bitAnd (word xs) m) 0)
+clear-head st m xs b =
+    ap (λ (k : ℕ). eqb (bitAnd k (m * 2 ^ 8 + bitsFrom 5 8)) 0) (head-word st xs)
+    ∙ clear-both 8 (word xs) m st (bitsFrom 5 8) b (lit< tt)
+    ∙ ap (λ (t : Bool). t && eqb (bitAnd (word xs) m) 0) (clear-below st 5 8 b)
 
-state-below : (dpt st : ℕ) → dpt < 256 → ltb (dpt + 256 * st) (2 ^ 13) ≡ ltb st 32
-state-below dpt st b =
-    same-test (ltb (dpt + 256 * st) (2 ^ 13)) (ltb st 32)
-    (λ t. lt→ltb st 32 (omega (arith, ltb→lt (dpt + 256 * st) (2 ^ 13) t)))
-    (λ t. lt→ltb (dpt + 256 * st) (2 ^ 13) (omega (arith, ltb→lt st 32 t)))
+tail-word : (mark : ℕ) (ys : List ℕ) → word (ys ++ mark ∷ []) ≡ mark * 2 ^ (8 * length ys) + word ys
+unfolding word
+tail-word mark [] = omega arith
+tail-word mark (y ∷ ys) = rw (next-byte (length ys), tail-word mark ys) (omega arith)
 
-clear-head : (dpt st m : ℕ) (xs : List ℕ) → dpt < 256 → st < 256
-    → eqb (bitAnd (word (dpt ∷ st ∷ xs)) (m * 2 ^ 16 + bitsFrom 13 16)) 0 ≡ (ltb st 32 && eqb (bitAnd (word xs) m) 0)
-clear-head dpt st m xs bd bs =
-    let h : dpt + 256 * st < 2 ^ 16 = omega arith in
-    ap (λ (k : ℕ). eqb (bitAnd k (m * 2 ^ 16 + bitsFrom 13 16)) 0) (head-word dpt st xs)
-    ∙ ap (λ (k : ℕ). eqb k 0) (and-block 16 (word xs) m (dpt + 256 * st) (bitsFrom 13 16) h (lit< tt))
-    ∙ zero-sum (bitAnd (word xs) m) (bitAnd (dpt + 256 * st) (bitsFrom 13 16))
-    ∙ ap (λ (t : Bool). t && eqb (bitAnd (word xs) m) 0) (clear-below (dpt + 256 * st) 13 16 h ∙ state-below dpt st bd)
+clear-tail : (mark s : ℕ) (ys : List ℕ) → mark < 256 → Bytes ys
+    → eqb (bitAnd (word (ys ++ mark ∷ [])) (bitsFrom 1 8 * 2 ^ (8 * length ys) + bitsFrom (8 * s) (8 * length ys))) 0 ≡ (areZero (drop s ys) && isYesOrNo mark)
+clear-tail mark s ys h b =
+    let m : ℕ = 8 * length ys in
+    ap (λ (k : ℕ). eqb (bitAnd k (bitsFrom 1 8 * 2 ^ m + bitsFrom (8 * s) m)) 0) (tail-word mark ys)
+    ∙ clear-both m mark (bitsFrom 1 8) (word ys) (bitsFrom (8 * s) m) (word-below ys b) (omega (arith, pow-pos (8 * s), pow-pos m))
+    ∙ (λ i. clear-bytes s ys b i && clear-below mark 1 8 h i)
 
 -- ---- one word after the other
 module _ (m : Masks) (low high : ℕ) where
@@ -207,10 +219,11 @@ module _ (m : Masks) (low high : ℕ) where
 pub not-above : (last id : ℕ) (ok : Bool) → id ≤ last → (ltb last id && ok) ≡ false
 not-above last id ok h = ap (λ (t : Bool). t && ok) (le-ltb last id h)
 
-regroup : (a u x y : Bool) → ((a && (u && x)) && y) ≡ (a && (u && (x && y)))
-regroup true true x y = refl
-regroup true false x y = refl
-regroup false u x y = refl
+regroup : (a u x y m : Bool) → ((a && (u && x)) && (y && m)) ≡ ((a && (u && (x && y))) && m)
+regroup true true true y m = refl
+regroup true true false y m = refl
+regroup true false x y m = refl
+regroup false u x y m = refl
 
 module _ (d : Datapoint) (last : ℕ) where
   pub not-coded : 14 < d .typecode → (ltb last (d .id) && datapointOk d) ≡ false
@@ -218,39 +231,73 @@ module _ (d : Datapoint) (last : ℕ) where
   not-coded h = simp (lt-leb (d .typecode) 14 h, and-false)
 
   tests-left : d .typecode ≤ 14 → last < d .id → length (d .value) ≡ 14
-      → (ltb (d .state) 32 && (unusedBitsOk (d .typecode) (take (sizeOf (d .typecode)) (d .value)) && areZero (drop (sizeOf (d .typecode)) (d .value)))) ≡ (ltb last (d .id) && datapointOk d)
+      → ((ltb (d .state) 32 && (unusedBitsOk (d .typecode) (take (sizeOf (d .typecode)) (d .value)) && areZero (drop (sizeOf (d .typecode)) (d .value)))) && isYesOrNo (d .mark)) ≡ (ltb last (d .id) && datapointOk d)
   unfolding datapointOk valueOf isPadded
   tests-left k h n =
       simp (lt-ltb last (d .id) h, le-leb (d .typecode) 14 k, eq-eqb (length (d .value)) 14 n, le-leb (sizeOf (d .typecode)) 14 (size-fits (d .typecode)), and-assoc)
 
-  pub datapoint-fits : d .typecode ≤ 14 → last < d .id → length (d .value) ≡ 14 → Bytes (d .value) → d .dpt < 256 → d .state < 256
-      → areClear (datapointMasks (d .typecode)) (word (d .dpt ∷ d .state ∷ places (d .value) 0 6)) (word (places (d .value) 6 8)) ≡ (ltb last (d .id) && datapointOk d)
+  pub datapoint-fits : d .typecode ≤ 14 → last < d .id → length (d .value) ≡ 14 → Bytes (d .value) → d .state < 256 → d .mark < 256
+      → areClear (datapointMasks (d .typecode)) (word (d .state ∷ places (d .value) 0 7)) (word (places (d .value) 7 7 ++ d .mark ∷ [])) ≡ (ltb last (d .id) && datapointOk d)
   unfolding areClear datapointMasks
-  datapoint-fits k h n b bd bs =
+  datapoint-fits k h n b bs bm =
       let s : ℕ = sizeOf (d .typecode) in
-      let xs : List ℕ = places (d .value) 0 6 in
-      let ys : List ℕ = places (d .value) 6 8 in
+      let xs : List ℕ = places (d .value) 0 7 in
+      let ys : List ℕ = places (d .value) 7 7 in
       let u : Bool = unusedBitsOk (d .typecode) (take s (xs ++ ys)) in
-      (λ i. clear-head (d .dpt) (d .state) (bitsFrom (usedBits (d .typecode)) 48) xs bd bs i && clear-bytes (s - 6) ys (bytes-at (d .value) 6 8 b) i)
-      ∙ ap (λ (t : Bool). (ltb (d .state) 32 && t) && areZero (drop (s - 6) ys)) (clear-bits (d .typecode) (getD (d .value) 0 0) (places (d .value) 1 5) ys (bytes-at (d .value) 0 6 b))
-      ∙ regroup (ltb (d .state) 32) u (areZero (drop s xs)) (areZero (drop (s - 6) ys))
-      ∙ ap (λ (t : Bool). ltb (d .state) 32 && (u && t)) (zero-places s 6 8 (d .value) n refl)
-      ∙ ap (λ (l : List ℕ). ltb (d .state) 32 && (unusedBitsOk (d .typecode) (take s l) && areZero (drop s (d .value)))) (sym (all-places (d .value) 6 8 n))
+      let m : Bool = isYesOrNo (d .mark) in
+      (λ i. clear-head (d .state) (bitsFrom (usedBits (d .typecode)) 56) xs bs i && clear-tail (d .mark) (s - 7) ys bm (bytes-at (d .value) 7 7 b) i)
+      ∙ ap (λ (t : Bool). (ltb (d .state) 32 && t) && (areZero (drop (s - 7) ys) && m)) (clear-bits (d .typecode) (getD (d .value) 0 0) (places (d .value) 1 6) ys (bytes-at (d .value) 0 7 b))
+      ∙ regroup (ltb (d .state) 32) u (areZero (drop s xs)) (areZero (drop (s - 7) ys)) m
+      ∙ ap (λ (t : Bool). (ltb (d .state) 32 && (u && t)) && m) (zero-places s 7 7 (d .value) n refl)
+      ∙ ap (λ (l : List ℕ). (ltb (d .state) 32 && (unusedBitsOk (d .typecode) (take s l) && areZero (drop s (d .value)))) && m) (sym (all-places (d .value) 7 7 n))
       ∙ tests-left k h n
 
+-- ---- an item's size and its byte writable as one number, lessened by 1 and with a bit above them
+abbrev pub sizeAndWritable : ℕ → ℕ → ℕ
+sizeAndWritable size writable = size + writable * 0x100 + 0xFFFF
+
+module _ (size writable : ℕ) where
+  sized : 1 ≤ size → size ≤ 16 → sizeAndWritable size writable / 0x10 % 0x10 ≡ 0
+  sized l h = omega arith
+
+  size-of : size < 256 → sizeAndWritable size writable / 0x10 % 0x10 ≡ 0 → (1 ≤ size) × (size ≤ 16)
+  size-of b e = (omega arith, omega arith)
+
+  two-valued : 1 ≤ size → size ≤ 16 → writable < 2 → sizeAndWritable size writable / 0x200 % 0x80 ≡ 0
+  two-valued l h b = omega arith
+
+  two-valued-of : 1 ≤ size → size ≤ 16 → writable < 256 → sizeAndWritable size writable / 0x200 % 0x80 ≡ 0 → writable < 2
+  two-valued-of l h b e = omega arith
+
+  -- the place of the last byte in use
+  last-of : 1 ≤ size → size ≤ 16 → sizeAndWritable size writable % 0x10 + 1 ≡ size
+  last-of l h = omega arith
+
 module _ (i : Item) (last : ℕ) where
-  pub no-size : i .size < 1 → (ltb last (i .id) && itemOk i) ≡ false
-  unfolding itemOk
-  no-size h = simp (lt-leb 1 (i .size) h, and-false)
-
-  pub over-size : 16 < i .size → (ltb last (i .id) && itemOk i) ≡ false
+  pub no-size : (sizeAndWritable (i .size) (i .writable) / 0x10 % 0x10 ≡ 0 → ⊥) → (ltb last (i .id) && itemOk i) ≡ false
   unfolding itemOk isPadded
-  over-size h = simp (lt-leb (i .size) 16 h, and-false)
+  no-size n = go (leb 1 (i .size)) (leb (i .size) 16) refl refl
+    where
+      go : (u v : Bool) → leb 1 (i .size) ≡ u → leb (i .size) 16 ≡ v → (ltb last (i .id) && itemOk i) ≡ false
+      go true true p q = absurd (n (sized (i .size) (i .writable) (leb-true 1 (i .size) p) (leb-true (i .size) 16 q)))
+      go true false p q = simp (q, and-false)
+      go false v p q = simp (p, and-false)
 
-  pub item-fits : 1 ≤ i .size → i .size ≤ 16 → last < i .id → length (i .bytes) ≡ 16 → Bytes (i .bytes)
-      → areClear (itemMasks (i .size)) (word (places (i .bytes) 0 8)) (word (places (i .bytes) 8 8)) ≡ (ltb last (i .id) && itemOk i)
+  pub no-writable : i .size < 256 → sizeAndWritable (i .size) (i .writable) / 0x10 % 0x10 ≡ 0 → (sizeAndWritable (i .size) (i .writable) / 0x200 % 0x80 ≡ 0 → ⊥) → (ltb last (i .id) && itemOk i) ≡ false
+  unfolding itemOk
+  no-writable b e n = go (isYesOrNo (i .writable)) refl
+    where
+      go : (u : Bool) → isYesOrNo (i .writable) ≡ u → (ltb last (i .id) && itemOk i) ≡ false
+      go true p = let s = size-of (i .size) (i .writable) b e in absurd (n (two-valued (i .size) (i .writable) (s .0) (s .1) (ltb-true (i .writable) 2 p)))
+      go false p = simp (p, and-false)
+
+  pub item-fits : i .size < 256 → i .writable < 256 → sizeAndWritable (i .size) (i .writable) / 0x10 % 0x10 ≡ 0 → sizeAndWritable (i .size) (i .writable) / 0x200 % 0x80 ≡ 0 → last < i .id → length (i .bytes) ≡ 16 → Bytes (i .bytes)
+      → areClear (itemMasks (sizeAndWritable (i .size) (i .writable) % 0x10 + 1)) (word (places (i .bytes) 0 8)) (word (places (i .bytes) 8 8)) ≡ (ltb last (i .id) && itemOk i)
   unfolding areClear itemMasks itemOk isPadded
-  item-fits k m h n b =
-      (λ j. clear-bytes (i .size) (places (i .bytes) 0 8) (bytes-at (i .bytes) 0 8 b) j && clear-bytes (i .size - 8) (places (i .bytes) 8 8) (bytes-at (i .bytes) 8 8 b) j)
+  item-fits bs bw e f h n b =
+      let s = size-of (i .size) (i .writable) bs e in
+      let m : i .writable < 2 = two-valued-of (i .size) (i .writable) (s .0) (s .1) bw f in
+      ap (λ (k : ℕ). areClear (itemMasks k) (word (places (i .bytes) 0 8)) (word (places (i .bytes) 8 8))) (last-of (i .size) (i .writable) (s .0) (s .1))
+      ∙ (λ j. clear-bytes (i .size) (places (i .bytes) 0 8) (bytes-at (i .bytes) 0 8 b) j && clear-bytes (i .size - 8) (places (i .bytes) 8 8) (bytes-at (i .bytes) 8 8 b) j)
       ∙ zero-places (i .size) 8 8 (i .bytes) n refl
-      ∙ simp (lt-ltb last (i .id) h, le-leb 1 (i .size) k, le-leb (i .size) 16 m, eq-eqb (length (i .bytes)) 16 n)
+      ∙ simp (lt-ltb last (i .id) h, le-leb 1 (i .size) (s .0), le-leb (i .size) 16 (s .1), eq-eqb (length (i .bytes)) 16 n, lt-ltb (i .writable) 2 m, and-true)

@@ -22,9 +22,14 @@ bitsFrom b m = 2 ^ m - 2 ^ b
 unfoldable pub usedBits : ℕ → ℕ
 usedBits typecode = if ltb typecode 7 then typecode + 1 else 8 * sizeOf typecode
 
--- low: DPT, state and the value's first six bytes. high: its last eight. Of the state, bits 7 to 5.
+-- low: the state and the value's first seven bytes. high: its last seven and the mark. Of the state, bits 7 to 5; of the
+-- mark, bits 7 to 1.
 unfoldable pub datapointMasks : ℕ → Masks
-datapointMasks typecode = record { low = bitsFrom (usedBits typecode) 48 * 2 ^ 16 + bitsFrom 13 16; high = bitsFrom (8 * (sizeOf typecode - 6)) 64 }
+datapointMasks typecode =
+    record {
+      low = bitsFrom (usedBits typecode) 56 * 2 ^ 8 + bitsFrom 5 8;
+      high = bitsFrom 1 8 * 2 ^ 56 + bitsFrom (8 * (sizeOf typecode - 7)) 56;
+    }
 
 -- the two halves of an item's bytes
 unfoldable pub itemMasks : ℕ → Masks

@@ -10,7 +10,7 @@ use crate::mask::are_clear;
 use crate::mask::word8;
 use baos::datapoint::Datapoint;
 
-// The bits of a record's bytes 4 to 11 and 12 to 19 that have to be 0. One `match` gives both numbers: it is compiled
+// The bits of a record's bytes 5 to 12 and 13 to 20 that have to be 0. One `match` gives both numbers: it is compiled
 // to two tables, and no jump.
 fn unused_bits(typecode: u8) -> Masks
     requires { ⌜ typecode ≤ 14 ⌝ }
@@ -18,64 +18,64 @@ fn unused_bits(typecode: u8) -> Masks
 {
     match typecode {
         0 => Masks {
-            low: 0xfffffffffffee000,
-            high: 0xffffffffffffffff,
+            low: 0xfffffffffffffee0,
+            high: 0xfeffffffffffffff,
         },
         1 => Masks {
-            low: 0xfffffffffffce000,
-            high: 0xffffffffffffffff,
+            low: 0xfffffffffffffce0,
+            high: 0xfeffffffffffffff,
         },
         2 => Masks {
-            low: 0xfffffffffff8e000,
-            high: 0xffffffffffffffff,
+            low: 0xfffffffffffff8e0,
+            high: 0xfeffffffffffffff,
         },
         3 => Masks {
-            low: 0xfffffffffff0e000,
-            high: 0xffffffffffffffff,
+            low: 0xfffffffffffff0e0,
+            high: 0xfeffffffffffffff,
         },
         4 => Masks {
-            low: 0xffffffffffe0e000,
-            high: 0xffffffffffffffff,
+            low: 0xffffffffffffe0e0,
+            high: 0xfeffffffffffffff,
         },
         5 => Masks {
-            low: 0xffffffffffc0e000,
-            high: 0xffffffffffffffff,
+            low: 0xffffffffffffc0e0,
+            high: 0xfeffffffffffffff,
         },
         6 => Masks {
-            low: 0xffffffffff80e000,
-            high: 0xffffffffffffffff,
+            low: 0xffffffffffff80e0,
+            high: 0xfeffffffffffffff,
         },
         7 => Masks {
-            low: 0xffffffffff00e000,
-            high: 0xffffffffffffffff,
+            low: 0xffffffffffff00e0,
+            high: 0xfeffffffffffffff,
         },
         8 => Masks {
-            low: 0xffffffff0000e000,
-            high: 0xffffffffffffffff,
+            low: 0xffffffffff0000e0,
+            high: 0xfeffffffffffffff,
         },
         9 => Masks {
-            low: 0xffffff000000e000,
-            high: 0xffffffffffffffff,
+            low: 0xffffffff000000e0,
+            high: 0xfeffffffffffffff,
         },
         10 => Masks {
-            low: 0xffff00000000e000,
-            high: 0xffffffffffffffff,
+            low: 0xffffff00000000e0,
+            high: 0xfeffffffffffffff,
         },
         11 => Masks {
-            low: 0x000000000000e000,
-            high: 0xffffffffffffffff,
+            low: 0xff000000000000e0,
+            high: 0xfeffffffffffffff,
         },
         12 => Masks {
-            low: 0x000000000000e000,
-            high: 0xffffffffffff0000,
+            low: 0x00000000000000e0,
+            high: 0xfeffffffffffff00,
         },
         13 => Masks {
-            low: 0x000000000000e000,
-            high: 0xffffffff00000000,
+            low: 0x00000000000000e0,
+            high: 0xfeffffffff000000,
         },
         14 => Masks {
-            low: 0x000000000000e000,
-            high: 0x0000000000000000,
+            low: 0x00000000000000e0,
+            high: 0xfe00000000000000,
         },
         _ => Masks { low: 0, high: 0 },
     }
@@ -94,7 +94,6 @@ pub fn fits_after(d: Datapoint, last: u16) -> bool
     }
     let m = unused_bits(d.typecode);
     let low = word8(
-        d.dpt,
         d.state,
         d.value[0],
         d.value[1],
@@ -102,9 +101,9 @@ pub fn fits_after(d: Datapoint, last: u16) -> bool
         d.value[3],
         d.value[4],
         d.value[5],
+        d.value[6],
     );
     let high = word8(
-        d.value[6],
         d.value[7],
         d.value[8],
         d.value[9],
@@ -112,6 +111,7 @@ pub fn fits_after(d: Datapoint, last: u16) -> bool
         d.value[11],
         d.value[12],
         d.value[13],
+        d.mark,
     );
     are_clear(m, low, high)
 }

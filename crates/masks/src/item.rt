@@ -1,7 +1,7 @@
 // Items one behind the other: IDs that rise, unused bytes that are 0.
 ghost use mathlib.Core.Path.{_≡_};
 ghost use mathlib.Core.Bool.{_&&_};
-ghost use Prim.Native.Nat.{_≤_};
+ghost use Prim.Native.Nat.{_+_, _≤_};
 ghost use lib.Dec.{ltb};
 ghost use Rattle.baos.specs.Item.{itemOk};
 ghost use Rattle.masks.specs.Mask.{itemMasks};
@@ -10,73 +10,73 @@ use crate::mask::are_clear;
 use crate::mask::word8;
 use baos::item::Item;
 
-// The bits of an item's bytes that have to be 0.
-fn unused_bytes(size: u8) -> Masks
-    requires { ⌜ (1 ≤ size) × (size ≤ 16) ⌝ }
-    ensures { λ r. ⌜ r ≡ itemMasks size ⌝ }
+// The bits of an item's bytes that have to be 0, by the place of the last one in use.
+fn unused_bytes(last: u32) -> Masks
+    requires { ⌜ last ≤ 15 ⌝ }
+    ensures { λ r. ⌜ r ≡ itemMasks (last + 1) ⌝ }
 {
-    match size {
-        1 => Masks {
+    match last {
+        0 => Masks {
             low: 0xffffffffffffff00,
             high: 0xffffffffffffffff,
         },
-        2 => Masks {
+        1 => Masks {
             low: 0xffffffffffff0000,
             high: 0xffffffffffffffff,
         },
-        3 => Masks {
+        2 => Masks {
             low: 0xffffffffff000000,
             high: 0xffffffffffffffff,
         },
-        4 => Masks {
+        3 => Masks {
             low: 0xffffffff00000000,
             high: 0xffffffffffffffff,
         },
-        5 => Masks {
+        4 => Masks {
             low: 0xffffff0000000000,
             high: 0xffffffffffffffff,
         },
-        6 => Masks {
+        5 => Masks {
             low: 0xffff000000000000,
             high: 0xffffffffffffffff,
         },
-        7 => Masks {
+        6 => Masks {
             low: 0xff00000000000000,
+            high: 0xffffffffffffffff,
+        },
+        7 => Masks {
+            low: 0x0000000000000000,
             high: 0xffffffffffffffff,
         },
         8 => Masks {
             low: 0x0000000000000000,
-            high: 0xffffffffffffffff,
+            high: 0xffffffffffffff00,
         },
         9 => Masks {
             low: 0x0000000000000000,
-            high: 0xffffffffffffff00,
+            high: 0xffffffffffff0000,
         },
         10 => Masks {
             low: 0x0000000000000000,
-            high: 0xffffffffffff0000,
+            high: 0xffffffffff000000,
         },
         11 => Masks {
             low: 0x0000000000000000,
-            high: 0xffffffffff000000,
+            high: 0xffffffff00000000,
         },
         12 => Masks {
             low: 0x0000000000000000,
-            high: 0xffffffff00000000,
+            high: 0xffffff0000000000,
         },
         13 => Masks {
             low: 0x0000000000000000,
-            high: 0xffffff0000000000,
+            high: 0xffff000000000000,
         },
         14 => Masks {
             low: 0x0000000000000000,
-            high: 0xffff000000000000,
-        },
-        15 => Masks {
-            low: 0x0000000000000000,
             high: 0xff00000000000000,
         },
-        16 => Masks {
+        15 => Masks {
             low: 0x0000000000000000,
             high: 0x0000000000000000,
         },
@@ -84,20 +84,23 @@ fn unused_bytes(size: u8) -> Masks
     }
 }
 
-// Whether the item may stand behind one with the ID `last`: a higher ID, and well formed.
+// Whether the item may stand behind one with the ID `last`: a higher ID, and well formed. Size and writable are one
+// number, lessened by 1 and with a bit above them: of the size's bits 7 to 4 and writable's 7 to 1 none may be left,
+// which is compiled to one load and one test.
 pub fn item_fits_after(i: Item, last: u16) -> bool
     ensures { λ r. ⌜ r ≡ (ltb last (i .id) && itemOk i) ⌝ }
 {
-    if i.size < 1 {
+    let w = i.size as u32 + i.writable as u32 * 0x100 + 0xFFFF;
+    if w / 0x10 % 0x10 != 0 {
         return false;
     }
-    if i.size > 16 {
+    if w / 0x200 % 0x80 != 0 {
         return false;
     }
     if i.id <= last {
         return false;
     }
-    let m = unused_bytes(i.size);
+    let m = unused_bytes(w % 0x10);
     let low = word8(
         i.bytes[0],
         i.bytes[1],

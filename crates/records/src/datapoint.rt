@@ -1,7 +1,6 @@
 // A datapoint record, by value: how it changes when its value is handed out or the bus has something for it, and
 // which filters it passes.
 ghost use mathlib.Core.Path.{_≡_};
-ghost use mathlib.Core.Bool.{false};
 ghost use mathlib.Core.List.{[], _∷_};
 ghost use Prim.Native.Nat.{_+_, _≤_};
 ghost use lib.ListN.{length};
@@ -21,10 +20,10 @@ pub fn handed_out(d: Datapoint) -> Datapoint
 
 // The value was handed out in an indication.
 pub fn reported(d: Datapoint) -> Datapoint
-    ensures { λ r. ⌜ r ≡ withMark false (handedOut d) ⌝ }
+    ensures { λ r. ⌜ r ≡ withMark 0 (handedOut d) ⌝ }
 {
     let mut r = handed_out(d);
-    r.mark = false;
+    r.mark = 0;
     r
 }
 
@@ -37,7 +36,7 @@ pub fn bus_value(d: Datapoint, value: &[u8]) -> Datapoint
     let mut r = d;
     r.value = v;
     r.state = d.state / 32 * 32 + 24 + d.state % 4;
-    r.mark = true;
+    r.mark = 1;
     r
 }
 
@@ -48,7 +47,7 @@ pub fn bus_byte(d: Datapoint, b: u8) -> Datapoint
     let mut r = d;
     r.value = [b, 0, 0, 0, 0, 0, 0, 0, 0, 0, 0, 0, 0, 0];
     r.state = d.state / 32 * 32 + 24 + d.state % 4;
-    r.mark = true;
+    r.mark = 1;
     r
 }
 

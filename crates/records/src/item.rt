@@ -14,7 +14,7 @@ use words::bytes::put_bytes;
 pub fn item_code(i: Item, value: &[u8]) -> u8
     ensures { λ r. ⌜ r ≡ itemCode i (now (value .entry)) ⌝ }
 {
-    if i.writable {
+    if i.writable == 1 {
         if value.len() == i.size as usize {
             return NO_ERROR;
         }

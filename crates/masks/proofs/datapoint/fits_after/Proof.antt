@@ -37,11 +37,11 @@ element-copy-out-word8-5 c = search needs
 element-copy-out-word8-6 : tie.Need-element-copy-out-word8-6
 element-copy-out-word8-6 c = search needs
 
-word8-requires : tie.Need-word8-requires
-word8-requires c κs = search needs
-
 element-copy-out-word8-7 : tie.Need-element-copy-out-word8-7
 element-copy-out-word8-7 c = search needs
+
+word8-requires : tie.Need-word8-requires
+word8-requires c κs = search needs
 
 element-copy-out-word8-8 : tie.Need-element-copy-out-word8-8
 element-copy-out-word8-8 c = search needs
@@ -76,12 +76,12 @@ returns-3 c =
     let d = m .before .before .before .args .t1 in
     let n : length (d .value) ≡ 14 = search needs in
     let v : (i : ℕ) → Fits w8 (getD (d .value) i 0) = λ i. search needs in
-    let t : Fits w8 (d .dpt) = search needs in
     let s : Fits w8 (d .state) = search needs in
-    let low = c .before .before .before .before .before .before .before .before .before .before .word8 in
+    let k : Fits w8 (d .mark) = search needs in
+    let low = c .before .before .before .before .before .before .before .before .before .word8 in
     c .are-clear .ensures
     ∙ (λ i. areClear (m .unused-bits .ensures i) (low .ensures i) (c .before .word82 .ensures i))
-    ∙ datapoint-fits d (m .before .before .before .args .last) (m .before .before .if1 .left) (m .before .if2 .left) n (λ i. v i .fits) (t .fits) (s .fits)
+    ∙ datapoint-fits d (m .before .before .before .args .last) (m .before .before .if1 .left) (m .before .if2 .left) n (λ i. v i .fits) (s .fits) (k .fits)
 
 pub fits-after-spec : {M : Type 1} → statement M
 fits-after-spec =
@@ -96,8 +96,8 @@ fits-after-spec =
     element-copy-out-word8-4
     element-copy-out-word8-5
     element-copy-out-word8-6
-    word8-requires
     element-copy-out-word8-7
+    word8-requires
     element-copy-out-word8-8
     element-copy-out-word8-9
     element-copy-out-word8-10

@@ -6,15 +6,33 @@ use mir.Syntax.{w8}
 use mir.Val.{Fits}
 use borrow.Author.Needs.{needs}
 use Rattle.masks.specs.Mask.{areClear}
-use Rattle.masks.proofs.MaskLaws.{no-size, over-size, not-above, item-fits}
+use Rattle.masks.proofs.MaskLaws.{no-size, no-writable, not-above, item-fits}
 use Rattle.masks.proofs.item.item_fits_after.Statement.{statement}
 use Rattle.masks.proofs.item.item_fits_after.Tie as tie
+
+cast-w : tie.Need-cast-w
+cast-w c = search needs
+
+cast-w-2 : tie.Need-cast-w-2
+cast-w-2 c = search needs
+
+mul-w : tie.Need-mul-w
+mul-w c = search needs
+
+add-w : tie.Need-add-w
+add-w c = search needs
+
+add-w-2 : tie.Need-add-w-2
+add-w-2 c = search needs
 
 returns : tie.Need-returns
 returns c = sym (no-size (c .before .args .t1) (c .before .args .last) (c .if1 .taken))
 
 returns-2 : tie.Need-returns-2
-returns-2 c = sym (over-size (c .before .before .args .t1) (c .before .before .args .last) (c .if2 .taken))
+returns-2 c =
+    let i = c .before .before .args .t1 in
+    let s : Fits w8 (i .size) = search needs in
+    sym (no-writable i (c .before .before .args .last) (s .fits) (c .before .if1 .left) (c .if2 .taken))
 
 returns-3 : tie.Need-returns-3
 returns-3 c = sym (not-above (c .before .before .before .args .last) (c .before .before .before .args .t1 .id) _ (c .if3 .taken))
@@ -85,15 +103,22 @@ returns-4 c =
     let i = m .before .before .before .before .args .t1 in
     let n : length (i .bytes) ≡ 16 = search needs in
     let v : (j : ℕ) → Fits w8 (getD (i .bytes) j 0) = λ j. search needs in
+    let s : Fits w8 (i .size) = search needs in
+    let k : Fits w8 (i .writable) = search needs in
     let low = c .before .before .before .before .before .before .before .before .before .before .word8 in
     c .are-clear .ensures
     ∙ (λ j. areClear (m .unused-bytes .ensures j) (low .ensures j) (c .before .word82 .ensures j))
-    ∙ item-fits i (m .before .before .before .before .args .last) (m .before .before .before .if1 .left) (m .before .before .if2 .left) (m .before .if3 .left) n (λ j. v j .fits)
+    ∙ item-fits i (m .before .before .before .before .args .last) (s .fits) (k .fits) (m .before .before .before .if1 .left) (m .before .before .if2 .left) (m .before .if3 .left) n (λ j. v j .fits)
 
 pub item-fits-after-spec : {M : Type 1} → statement M
 item-fits-after-spec =
     tie.close
     (tie.spec
+    cast-w
+    cast-w-2
+    mul-w
+    add-w
+    add-w-2
     returns
     returns-2
     returns-3

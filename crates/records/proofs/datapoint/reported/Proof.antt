@@ -1,5 +1,4 @@
 use mathlib.Core.Path.{ap}
-use mathlib.Core.Bool.{false}
 use borrow.Author.Needs.{needs}
 use Rattle.baos.specs.Datapoint.{withMark}
 use Rattle.records.proofs.datapoint.reported.Statement.{statement}
@@ -10,7 +9,7 @@ handed-out-requires c κs = search needs
 
 returns : tie.Need-returns
 unfolding withMark
-returns c = ap (withMark false) (c .handed-out .ensures)
+returns c = ap (withMark 0) (c .handed-out .ensures)
 
 pub reported-spec : {M : Type 1} → statement M
 reported-spec = tie.close (tie.spec handed-out-requires returns)
