@@ -3,13 +3,13 @@
 use Prim.Native.Nat.{ℕ, zero, suc}
 use lib.ListN.{getD}
 use mathlib.Core.Path.{_≡_, sym, subst}
-use mathlib.Core.Bool.{Bool, true, Bool·beq}
+use mathlib.Core.Bool.{Bool, true}
 use mathlib.Core.List.{List, [], _∷_, List·Memᴰ, List·Memᴰ·not-nil, List·Memᴰ·cases-cons}
 use mathlib.Core.Logic.{_⊎_, inl, inr}
 use lib.Dec.{T, eqb, eqb→eq}
 use Rattle.words.specs.Words.{every, same, sameBy}
 use Rattle.ft12.specs.declared.record.Link.{Link}
-use Rattle.words.proofs.WordLaws.{left, right, beq→eq, sameBy→eq, same→eq}
+use Rattle.words.proofs.WordLaws.{left, right, sameBy→eq, same→eq}
 use Rattle.baos.specs.declared.datapoint.Datapoint.{Datapoint}
 use Rattle.baos.specs.declared.item.Item.{Item}
 use Rattle.baos.specs.Table.{Tables}
@@ -23,10 +23,10 @@ abbrev pub all-pass : List Bool → Bool
 all-pass bs = every (λ b. b) bs
 
 abbrev datapointTests : Datapoint → Datapoint → List Bool
-datapointTests a b = eqb (a .id) (b .id) ∷ eqb (a .typecode) (b .typecode) ∷ eqb (a .flags) (b .flags) ∷ eqb (a .dpt) (b .dpt) ∷ eqb (a .state) (b .state) ∷ same (a .value) (b .value) ∷ Bool·beq (a .mark) (b .mark) ∷ []
+datapointTests a b = eqb (a .id) (b .id) ∷ eqb (a .typecode) (b .typecode) ∷ eqb (a .flags) (b .flags) ∷ eqb (a .dpt) (b .dpt) ∷ eqb (a .state) (b .state) ∷ same (a .value) (b .value) ∷ eqb (a .mark) (b .mark) ∷ []
 
 abbrev itemTests : Item → Item → List Bool
-itemTests a b = eqb (a .id) (b .id) ∷ eqb (a .size) (b .size) ∷ Bool·beq (a .writable) (b .writable) ∷ same (a .bytes) (b .bytes) ∷ []
+itemTests a b = eqb (a .id) (b .id) ∷ eqb (a .size) (b .size) ∷ eqb (a .writable) (b .writable) ∷ same (a .bytes) (b .bytes) ∷ []
 
 abbrev linkTests : Link → Link → List Bool
 linkTests a b = same (a .receiver) (b .receiver) ∷ eqb (a .received) (b .received) ∷ eqb (a .dropping) (b .dropping) ∷ eqb (a .expected) (b .expected) ∷ eqb (a .send) (b .send) ∷ same (a .outstanding) (b .outstanding) ∷ eqb (a .held) (b .held) ∷ eqb (a .resends) (b .resends) ∷ []
@@ -78,14 +78,14 @@ datapoint-eq a b t =
       dpt = eqb→eq (a .dpt) (b .dpt) (g 3) i;
       state = eqb→eq (a .state) (b .state) (g 4) i;
       value = same→eq (a .value) (b .value) (g 5) i;
-      mark = beq→eq (a .mark) (b .mark) (g 6) i;
+      mark = eqb→eq (a .mark) (b .mark) (g 6) i;
     }
 
 item-eq : (a b : Item) → T (sameItem a b) → a ≡ b
 unfolding sameItem
 item-eq a b t =
     let g : (k : ℕ) → T (getD (itemTests a b) k true) = nth (itemTests a b) t in
-    λ i. record { id = eqb→eq (a .id) (b .id) (g 0) i; size = eqb→eq (a .size) (b .size) (g 1) i; writable = beq→eq (a .writable) (b .writable) (g 2) i; bytes = same→eq (a .bytes) (b .bytes) (g 3) i }
+    λ i. record { id = eqb→eq (a .id) (b .id) (g 0) i; size = eqb→eq (a .size) (b .size) (g 1) i; writable = eqb→eq (a .writable) (b .writable) (g 2) i; bytes = same→eq (a .bytes) (b .bytes) (g 3) i }
 
 link-eq : (a b : Link) → T (sameLink a b) → a ≡ b
 unfolding sameLink

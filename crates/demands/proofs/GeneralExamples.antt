@@ -7,8 +7,8 @@ use native.Mathlib.Omega.{arith}
 use lib.ListN.{length, drop, length-take}
 use lib.Dec.{T, leb, ltb, eqb, leb→le, ltb→lt}
 use borrow.Author.Tests.{le-ltb, lt-leb, eq-eqb, ne-eqb}
-use Rattle.words.specs.Words.{if_then_else_, isEmpty, isPadded, keep, every}
-use Rattle.words.proofs.WordLaws.{left, right, T-true, padded-decided}
+use Rattle.words.specs.Words.{isYesOrNo, if_then_else_, isEmpty, isPadded, keep, every}
+use Rattle.words.proofs.WordLaws.{parts3, left, right, T-true, padded-decided}
 use Rattle.baos.specs.declared.datapoint.Datapoint.{Datapoint}
 use Rattle.baos.specs.declared.item.Item.{Item}
 use Rattle.baos.specs.Datapoint.{datapointId, datapointOk, sizeOf, valueOf}
@@ -60,7 +60,7 @@ module _ {A : Type 0} (entry : A → AnswerEntry) (ok : A → Bool) (short : (x 
 
 item-short : (i : Item) → T (itemOk i) → length (itemEntry i .bytes) ≤ 248
 unfolding itemEntry itemOk bytesOf
-item-short i t = omega (arith, padded-decided 16 (i .size) (i .bytes) .0 (right (leb 1 (i .size)) (isPadded 16 (i .size) (i .bytes)) t) .within, length-take (i .size) (i .bytes))
+item-short i t = omega (arith, padded-decided 16 (i .size) (i .bytes) .0 (parts3 (leb 1 (i .size)) (isPadded 16 (i .size) (i .bytes)) (isYesOrNo (i .writable)) t .1) .within, length-take (i .size) (i .bytes))
 
 description-short : (d : Datapoint) → T (datapointOk d) → length (descriptionEntry d .bytes) ≤ 248
 unfolding descriptionEntry

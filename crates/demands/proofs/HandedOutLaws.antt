@@ -259,11 +259,11 @@ out-cleared : (d : Datapoint) → isUpdated (handedOut d .state) ≡ false
 unfolding handedOut withState
 out-cleared d = ne-eqb (bit 8 (withoutUpdated (d .state))) 1 (λ e. omega (arith, e, bits-without-updated (d .state) .updated-bit))
 
-report-id : (d : Datapoint) → withMark false (handedOut d) .id ≡ d .id
+report-id : (d : Datapoint) → withMark 0 (handedOut d) .id ≡ d .id
 unfolding withMark
 report-id d = out-id d
 
-report-cleared : (d : Datapoint) → isUpdated (withMark false (handedOut d) .state) ≡ false
+report-cleared : (d : Datapoint) → isUpdated (withMark 0 (handedOut d) .state) ≡ false
 unfolding withMark
 report-cleared d = out-cleared d
 
@@ -379,10 +379,10 @@ module _ (id : ℕ) (t : Tables) (w : T (wellFormed t)) where
   indication-spends =
       record {
         spends = λ e.
-            spent id (λ (d : Datapoint). withMark false (handedOut d)) report-id report-cleared 0 chosen (subst (λ (ns : List ℕ). T (rising 0 ns)) (sym (choices-ids roomForEntries (t .datapoints))) (table-rises id t [] w))
+            spent id (λ (d : Datapoint). withMark 0 (handedOut d)) report-id report-cleared 0 chosen (subst (λ (ns : List ℕ). T (rising 0 ns)) (sym (choices-ids roomForEntries (t .datapoints))) (table-rises id t [] w))
             (sym (indication-shows id (reported chosen) reported-ok) ∙ e);
         keeps = λ e.
-            let k = stays id (λ (d : Datapoint). withMark false (handedOut d)) report-id report-cleared chosen (ap (fresh id) (choices-all roomForEntries (t .datapoints)) ∙ e) in
+            let k = stays id (λ (d : Datapoint). withMark 0 (handedOut d)) report-id report-cleared chosen (ap (fresh id) (choices-all roomForEntries (t .datapoints)) ∙ e) in
             (indication-shows id (reported chosen) reported-ok ∙ k .0, k .1);
       }
 

@@ -92,7 +92,7 @@ item1-ok = tt
 
 -- a datapoint of type code 15
 badTable : Tables
-badTable = datapointsOnly (record { id = 1; typecode = 15; flags = 0; dpt = 0; state = 0; value = replicate 14 0; mark = false } ∷ [])
+badTable = datapointsOnly (record { id = 1; typecode = 15; flags = 0; dpt = 0; state = 0; value = replicate 14 0; mark = 0 } ∷ [])
 
 well-formed : Demand3For StartAnyTables Request EachPossible AtLeastOneSound → ⊥
 well-formed h = refused (h lent ask (sound ∷ []) badTable restingLink start asked (tt, tt) one-sound .accepted)

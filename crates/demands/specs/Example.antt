@@ -55,7 +55,7 @@ exchange t m answer t′ =
 -- 1: item 1 = 00 00 C5 07 00 02
 unfoldable pub item1 : Tables
 item1 =
-    itemsOnly (record { id = 1; size = 6; writable = false; bytes = pad 16 (0x00 ∷ 0x00 ∷ 0xC5 ∷ 0x07 ∷ 0x00 ∷ 0x02 ∷ []) } ∷ [])
+    itemsOnly (record { id = 1; size = 6; writable = 0; bytes = pad 16 (0x00 ∷ 0x00 ∷ 0xC5 ∷ 0x07 ∷ 0x00 ∷ 0x02 ∷ []) } ∷ [])
 
 unfoldable pub ask1 : List ℕ
 ask1 = 0x68 ∷ 0x07 ∷ 0x07 ∷ 0x68 ∷ 0x73 ∷ 0xF0 ∷ 0x01 ∷ 0x00 ∷ 0x01 ∷ 0x00 ∷ 0x01 ∷ 0x66 ∷ 0x16 ∷ []
@@ -78,7 +78,7 @@ case2even = record { tables = item1; line = lineAt false true []; bytes = ask1ev
 
 -- 3 and 4: datapoint 5 of type 0
 unfoldable pub datapoint : ℕ → ℕ → ℕ → List ℕ → Datapoint
-datapoint id typecode state value = record { id = id; typecode = typecode; flags = 0; dpt = 1; state = state; value = pad 14 value; mark = false }
+datapoint id typecode state value = record { id = id; typecode = typecode; flags = 0; dpt = 1; state = state; value = pad 14 value; mark = 0 }
 
 unfoldable pub datapoint5 : ℕ → ℕ → Tables
 datapoint5 state value = datapointsOnly (datapoint 5 0 state (value ∷ []) ∷ [])

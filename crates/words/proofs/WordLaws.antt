@@ -2,7 +2,7 @@
 use Prim.Native.Nat.{ℕ, zero, suc, _+_, _-_, _≤_, _<_}
 use mathlib.Core.Path.{_≡_, refl, sym, _∙_, ap}
 use mathlib.Core.Logic.{_↔_}
-use mathlib.Core.Bool.{Bool, true, false, _&&_, Bool·beq}
+use mathlib.Core.Bool.{Bool, true, false, _&&_}
 use mathlib.Core.List.{List, [], _∷_, _++_, map}
 use native.Mathlib.Omega.{arith}
 use native.Mathlib.Nat.{not-suc-le-zero, le-of-suc-le-suc}
@@ -69,12 +69,6 @@ written-read b t = go (isYes b) refl
     go : (u : Bool) → isYes b ≡ u → yesOrNo u ≡ b
     go true e = omega (arith, eqb→eq b 1 (true-T e))
     go false e = let n : (b ≡ 1 → ⊥) = λ q. absurd (simp e at (true-T (eq-eqb b 1 q))) in omega (arith, ltb→lt b 2 t, n)
-
-pub beq→eq : (a b : Bool) → T (Bool·beq a b) → a ≡ b
-beq→eq true true t = refl
-beq→eq true false t = absurd t
-beq→eq false true t = absurd t
-beq→eq false false t = refl
 
 -- ---- every
 pub every-imp : {A : Type 0} (p q : A → Bool) → ((x : A) → T (p x) → T (q x)) → (xs : List A) → T (every p xs) → T (every q xs)
