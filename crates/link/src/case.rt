@@ -58,7 +58,7 @@ fn case_of_data(c: u8, n: u8, expected: bool, free: bool) -> Heard
         if free {
             return Heard::Request(n);
         }
-        return Heard::Ignored;
+        return Heard::Ignored; // "dropped, unanswered, bit kept"
     }
     if c == host_control(!expected) {
         return Heard::Repeat;
