@@ -67,6 +67,9 @@ placeD = uintD w64
 pub datapoint-id-fits : (d : Datapoint) → Good datapointD d → d .id < 2 ^ 16
 datapoint-id-fits d g = LL.owed D.the-type D′.the-laws d _ g .0 .1
 
+pub datapoint-mark-fits : (d : Datapoint) → Good datapointD d → d .mark < 2 ^ 8
+datapoint-mark-fits d g = LL.owed D.the-type D′.the-laws d _ g .1 .1 .1 .1 .1 .1 .0 .1
+
 pub item-id-fits : (i : Item) → Good itemD i → i .id < 2 ^ 16
 item-id-fits i g = LL.owed I.the-type I′.the-laws i _ g .0 .1
 

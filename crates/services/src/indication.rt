@@ -37,7 +37,7 @@ fn tell_marked(table: &mut [Datapoint], out: &mut [u8], at: usize) -> Told
     let mut end = at;
     let mut count: u16 = 0;
     while i < table.len() {
-        if table[i].mark {
+        if table[i].mark == 1 {
             let d = table[i];
             if waits(d, end, most) {
                 return Told {

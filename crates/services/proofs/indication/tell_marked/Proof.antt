@@ -47,7 +47,7 @@ use Rattle.baos.specs.Get.{valueEntry}
 use Rattle.baos.specs.Indication.{needs as needsOf}
 use Rattle.baos.specs.Inner.Promise.{MarkedTold}
 use Rattle.baos.specs.Table.{tableOk}
-use Rattle.baos.proofs.Types.{datapointD, toldD, told-good, byteD, placeD, datapoint-offset-fits, fits-next}
+use Rattle.baos.proofs.Types.{datapointD, toldD, told-good, byteD, placeD, datapoint-mark-fits, datapoint-offset-fits, fits-next}
 use Rattle.baos.proofs.IndicationLaws.{Telling, telling-begins, telling-done, telling-code, telling-waits, telling-other, telling-room, telling-next}
 use Rattle.services.proofs.indication.waits as waits
 use Rattle.services.proofs.indication.waits.Symbol as waits-def
@@ -72,7 +72,7 @@ ps = mutSliceP 2 0 tt datapointD ∷ mutSliceP 2 1 tt byteD ∷ dataP 2 placeD �
 
 -- where local j stands
 abbrev loc : ℕ → ℕ
-loc j = 40 - 2 * j
+loc j = 42 - 2 * j
 
 record Known {M : Type 1} (𝓤 : URA M) (H : Heap 𝓤) (A : Atoms 𝓤) (mem : Memory → SProp 𝓤) (run : Routine → Fun 𝓤) (C : Calls 𝓤 H) : Type 1 where
   pub waits : Triple 𝓤 (C #services·indication·waits) (tripleOf 𝓤 H A waits.signature (waits.spec 𝓤 H A mem run))
@@ -155,53 +155,54 @@ module _ {M : Type 1} (𝓤 : URA M) (H : Heap 𝓤) (A : Atoms 𝓤) (W : Given
         lets ! (loc 11) (bin ! (load ! (from ! (fld ! refl (stop !))) (look-in ! (loc 1) (sub ! 0 refl (whole !)))) (val ! (loc 9) refl) tt) refl (tt, tt) $
         rewrite ! (loc 11) (λ (j : ℕ). ‵ (fat fullShare tyPtr (l .1 .1 .1 .1 .1 .1 .1 .1 .1 .1 .1 .0) 0 (vptr b j))) (sym (offset-is 22 o i)) refl $
         takes-at ! datapointD fullShare zs i zeroDatapoint b o (lt-zs small) (λ d-ok.
-        sets ! (1 + loc 10) (of-opd ! (load ! (from ! (hop ! (look ! (1 + loc 11) refl) (fld ! refl (stop !)))) (look-in ! 0 (sub ! 6 refl (whole !))))) refl (tt, tt) $
+        lets ! (1 + loc 12) (of-opd ! (load ! (from ! (hop ! (look ! (1 + loc 11) refl) (fld ! refl (stop !)))) (look-in ! 0 (sub ! 6 refl (whole !))))) refl (tt, record { fits = datapoint-mark-fits d d-ok }) $
         back-at ! datapointD fullShare zs i zeroDatapoint b o (lt-zs small) d-ok $
+        sets ! (loc 10) (bin ! (val ! (loc 12) refl) (lit ! tt) tt) refl (tt, tt) $
         both ! 𝓣 (val ! (loc 10) refl) (λ marked.
-        lets ! (loc 12) (bin ! (val ! (loc 5) refl) (lit ! tt) (record { fits = datapoint-offset-fits n i (gn .1) (lt small) })) refl (tt, record { fits = datapoint-offset-fits n i (gn .1) (lt small) }) $
-        lets ! (loc 13) (bin ! (load ! (from ! (fld ! refl (stop !))) (look-in ! (loc 1) (sub ! 0 refl (whole !)))) (val ! (loc 12) refl) tt) refl (tt, tt) $
-        rewrite ! (loc 13) (λ (j : ℕ). ‵ (fat fullShare tyPtr (l .1 .1 .1 .1 .1 .1 .1 .1 .1 .1 .1 .1 .1 .0) 0 (vptr b j))) (sym (offset-is 22 o i)) refl $
+        lets ! (loc 13) (bin ! (val ! (loc 5) refl) (lit ! tt) (record { fits = datapoint-offset-fits n i (gn .1) (lt small) })) refl (tt, record { fits = datapoint-offset-fits n i (gn .1) (lt small) }) $
+        lets ! (loc 14) (bin ! (load ! (from ! (fld ! refl (stop !))) (look-in ! (loc 1) (sub ! 0 refl (whole !)))) (val ! (loc 13) refl) tt) refl (tt, tt) $
+        rewrite ! (loc 14) (λ (j : ℕ). ‵ (fat fullShare tyPtr (l .1 .1 .1 .1 .1 .1 .1 .1 .1 .1 .1 .1 .1 .1 .0) 0 (vptr b j))) (sym (offset-is 22 o i)) refl $
         takes-at ! datapointD fullShare zs i zeroDatapoint b o (lt-zs small) (λ _.
-        lets ! (1 + loc 14) (of-opd ! (load ! (from ! (hop ! (look ! (1 + loc 13) refl) (stop !))) (look-raw ! 0 refl))) refl (typed 𝓤 H A datapointD W d d-ok .0) $
+        lets ! (1 + loc 15) (of-opd ! (load ! (from ! (hop ! (look ! (1 + loc 14) refl) (stop !))) (look-raw ! 0 refl))) refl (typed 𝓤 H A datapointD W d d-ok .0) $
         back-at ! datapointD fullShare zs i zeroDatapoint b o (lt-zs small) d-ok $
-        lets ! (loc 8) (of-opd ! (val ! (loc 14) refl)) refl (typed 𝓤 H A datapointD W d d-ok .0) $
+        lets ! (loc 8) (of-opd ! (val ! (loc 15) refl)) refl (typed 𝓤 H A datapointD W d d-ok .0) $
         calls-plain ! (fmOf 𝓤 H (W .laws) 𝓣) (datapointD ∷ placeD ∷ placeD ∷ []) boolD (waits.clauses 𝓤 H A mem run) (known .waits) (d, (end, (at + 248, tt))) tt (d-ok, ((refl, end-fits), ((refl, most-fits), tt))) (factI 𝓤 _ (emp 𝓤) (code-ok small, telling .inside)) (not (leb (needsOf d) (at + 248 - end))) (λ _ _. id⊢ 𝓤 _)
         (λ _. and-then ! (val ! (1 + loc 8) refl) (and-then ! (val ! (1 + loc 6) refl) (and-then ! (val ! (1 + loc 4) refl) (no-more !)))) (λ _.
-        land ! (from ! (stop !)) (init ! (loc 15) refl (tt, tt)) $
-        leaves-early ! (val ! (loc 15) refl) (λ waiting.
+        land ! (from ! (stop !)) (init ! (loc 16) refl (tt, tt)) $
+        leaves-early ! (val ! (loc 16) refl) (λ waiting.
         lets ! (loc 0) (agg ! (and-then ! (val ! (loc 7) refl) (and-then ! (val ! (loc 6) refl) (no-more !)))) refl (typed 𝓤 H A toldD W told told-ok .0) $
         move ! (0 ∷ 2 ∷ []) $ closed-slice ! tt datapointD n ys zs b o refl (telling .long) gn $ move ! (2 ∷ 3 ∷ []) $ closed-slice ! tt byteD m out bs b′ o′ refl (telling .bytes .long) gm $ move ! (2 ∷ 3 ∷ []) $
-        returns-within ! Done refl (look ! (loc 0) refl) $ behind ! 4 $ frees-all ! (room ∷ room ∷ room ∷ cell ∷ cell ∷ cell ∷ cell ∷ cell ∷ cell ∷ cell ∷ cell ∷ cell ∷ cell ∷ cell ∷ cell ∷ cell ∷ cell ∷ cell ∷ cell ∷ []) _ $
+        returns-within ! Done refl (look ! (loc 0) refl) $ behind ! 4 $ frees-all ! (room ∷ room ∷ room ∷ cell ∷ cell ∷ cell ∷ cell ∷ cell ∷ cell ∷ cell ∷ cell ∷ cell ∷ cell ∷ cell ∷ cell ∷ cell ∷ cell ∷ cell ∷ cell ∷ cell ∷ []) _ $
         by ! (exits end count zs bs count-fits end-fits (telling .long) (telling .bytes .long) (telling-waits ys out at i end count zs bs telling (lt-zs small) marked waiting)))
         (λ fits.
         calls-plain ! (fmOf 𝓤 H (W .laws) 𝓣) (datapointD ∷ []) datapointD (reported.clauses 𝓤 H A mem run) (known .reported) (d, tt) tt (d-ok, tt) (id⊢ 𝓤 _) d′ (λ _ _. id⊢ 𝓤 _)
         (λ _. and-then ! (val ! (1 + loc 8) refl) (no-more !)) (λ left-ok.
-        land ! (from ! (stop !)) (store ! (loc 14) refl (typed 𝓤 H A datapointD W d′ left-ok .0)) $
-        sets ! (loc 12) (bin ! (val ! (loc 5) refl) (lit ! tt) (record { fits = datapoint-offset-fits n i (gn .1) (lt small) })) refl (tt, record { fits = datapoint-offset-fits n i (gn .1) (lt small) }) $
-        lets ! (loc 16) (bin ! (load ! (from ! (fld ! refl (stop !))) (look-in ! (loc 1) (sub ! 0 refl (whole !)))) (val ! (loc 12) refl) tt) refl (tt, tt) $
-        rewrite ! (loc 16) (λ (j : ℕ). ‵ (fat fullShare tyPtr (l .1 .1 .1 .1 .1 .1 .1 .1 .1 .1 .1 .1 .1 .1 .1 .1 .0) 0 (vptr b j))) (sym (offset-is 22 o i)) refl $
+        land ! (from ! (stop !)) (store ! (loc 15) refl (typed 𝓤 H A datapointD W d′ left-ok .0)) $
+        sets ! (loc 13) (bin ! (val ! (loc 5) refl) (lit ! tt) (record { fits = datapoint-offset-fits n i (gn .1) (lt small) })) refl (tt, record { fits = datapoint-offset-fits n i (gn .1) (lt small) }) $
+        lets ! (loc 17) (bin ! (load ! (from ! (fld ! refl (stop !))) (look-in ! (loc 1) (sub ! 0 refl (whole !)))) (val ! (loc 13) refl) tt) refl (tt, tt) $
+        rewrite ! (loc 17) (λ (j : ℕ). ‵ (fat fullShare tyPtr (l .1 .1 .1 .1 .1 .1 .1 .1 .1 .1 .1 .1 .1 .1 .1 .1 .1 .0) 0 (vptr b j))) (sym (offset-is 22 o i)) refl $
         takes-at ! datapointD fullShare zs i zeroDatapoint b o (lt-zs small) (λ _.
-        assigns ! (of-opd ! (val ! (1 + loc 14) refl)) (from ! (hop ! (look ! (1 + loc 16) refl) (stop !))) (store-raw ! 0 refl (typed 𝓤 H A datapointD W d′ left-ok .0)) $
+        assigns ! (of-opd ! (val ! (1 + loc 15) refl)) (from ! (hop ! (look ! (1 + loc 17) refl) (stop !))) (store-raw ! 0 refl (typed 𝓤 H A datapointD W d′ left-ok .0)) $
         puts-at ! datapointD fullShare zs i d′ b o (lt-zs small) left-ok $
-        lets ! (loc 17) (addr ! (from ! (fld ! refl (hop ! (look-in ! (loc 2) (sub ! 0 refl (whole !))) (stop !))))) refl (tt, tt) $
-        lets ! (loc 18) (agg ! (and-then ! (val ! (loc 17) refl) (and-then ! (load ! (from ! (fld ! refl (stop !))) (look-in ! (loc 2) (sub ! 1 refl (whole !)))) (no-more !)))) refl (tt, (tt, (record { fits = gm .0 }, tt))) $
+        lets ! (loc 18) (addr ! (from ! (fld ! refl (hop ! (look-in ! (loc 2) (sub ! 0 refl (whole !))) (stop !))))) refl (tt, tt) $
+        lets ! (loc 19) (agg ! (and-then ! (val ! (loc 18) refl) (and-then ! (load ! (from ! (fld ! refl (stop !))) (look-in ! (loc 2) (sub ! 1 refl (whole !)))) (no-more !)))) refl (tt, (tt, (record { fits = gm .0 }, tt))) $
         move ! (1 ∷ 0 ∷ []) $
         calls-mutR ! (fmOf 𝓤 H (W .laws) 𝓣) byteD (placeD ∷ datapointD ∷ []) placeD (put-value.clauses 𝓤 H A mem run) (known .put-value) m bs (sym (telling .bytes .long)) (subst (Room (byteD .row)) (sym (telling .bytes .long)) gm) (λ _. (end, (d, tt))) (λ _ _. tt) (λ _. ((refl, end-fits), (d-ok, tt)))
         (λ _ _. factI 𝓤 _ (emp 𝓤) (code-ok small, telling-room ys out at i end count zs bs telling (lt-zs small) marked fits)) (put bs end es) (end + length es) (λ _ _ _ _. fact-use 𝓤 _ (id⊢ 𝓤 _) (λ z. factI 𝓤 _ _ (z .buffer, z .ends)))
-        (λ _ _ _. and-then ! (val ! (1 + loc 18) refl) (and-then ! (val ! (1 + loc 6) refl) (and-then ! (val ! (1 + loc 8) refl) (no-more !)))) (λ _ end-ok.
+        (λ _ _ _. and-then ! (val ! (1 + loc 19) refl) (and-then ! (val ! (1 + loc 6) refl) (and-then ! (val ! (1 + loc 8) refl) (no-more !)))) (λ _ end-ok.
         land ! (from ! (stop !)) (store ! (loc 6) refl (tt, record { fits = end-ok .1 })) $
         move ! (1 ∷ 0 ∷ []) $
         sets ! (loc 7) (bin ! (val ! (loc 7) refl) (lit ! tt) (record { fits = count-next })) refl (tt, record { fits = count-next }) $
         assigns-last ! (bin ! (val ! (loc 5) refl) (lit ! tt) (record { fits = fits-next i n (gn .0) (lt small) })) (from ! (stop !)) (store ! (loc 5) refl (tt, record { fits = fits-next i n (gn .0) (lt small) })) $
-        forget ! (loc 8) refl $ forget ! (loc 9) refl $ forget ! (loc 10) refl $ forget ! (loc 11) refl $ forget ! (loc 12) refl $ forget ! (loc 13) refl $ forget ! (loc 14) refl $ forget ! (loc 15) refl $ forget ! (loc 16) refl $ forget ! (loc 17) refl $ forget ! (loc 18) refl $
+        forget ! (loc 8) refl $ forget ! (loc 9) refl $ forget ! (loc 10) refl $ forget ! (loc 11) refl $ forget ! (loc 12) refl $ forget ! (loc 13) refl $ forget ! (loc 14) refl $ forget ! (loc 15) refl $ forget ! (loc 16) refl $ forget ! (loc 17) refl $ forget ! (loc 18) refl $ forget ! (loc 19) refl $
         again ! ≺ Inv s (i + 1, end + length es, count + 1, set zs i d′, put bs end es, telling-next ys out at i end count zs bs telling (lt-zs small) marked fits) (omega (arith, lt small)))))))))
         (λ unmarked.
         assigns-last ! (bin ! (val ! (loc 5) refl) (lit ! tt) (record { fits = fits-next i n (gn .0) (lt small) })) (from ! (stop !)) (store ! (loc 5) refl (tt, record { fits = fits-next i n (gn .0) (lt small) })) $
-        forget ! (loc 9) refl $ forget ! (loc 10) refl $ forget ! (loc 11) refl $
+        forget ! (loc 9) refl $ forget ! (loc 10) refl $ forget ! (loc 11) refl $ forget ! (loc 12) refl $
         again ! ≺ Inv s (i + 1, end, count, zs, bs, telling-other ys out at i end count zs bs telling (lt-zs small) unmarked) (omega (arith, lt small)))))
         (λ big. exec ! (𝓣 .C) (𝓣 .Λ) En part.t-6 (atRet En Done) $ lets ! (loc 0) (agg ! (and-then ! (val ! (loc 7) refl) (and-then ! (val ! (loc 6) refl) (no-more !)))) refl (typed 𝓤 H A toldD W told told-ok .0) $
         move ! (0 ∷ 2 ∷ []) $ closed-slice ! tt datapointD n ys zs b o refl (telling .long) gn $ move ! (2 ∷ 3 ∷ []) $ closed-slice ! tt byteD m out bs b′ o′ refl (telling .bytes .long) gm $ move ! (2 ∷ 3 ∷ []) $
-        returns ! (look ! (loc 0) refl) $ behind ! 4 $ frees-all ! (room ∷ room ∷ room ∷ room ∷ room ∷ room ∷ room ∷ room ∷ cell ∷ cell ∷ room ∷ cell ∷ cell ∷ cell ∷ cell ∷ cell ∷ cell ∷ cell ∷ cell ∷ []) _ $
+        returns ! (look ! (loc 0) refl) $ behind ! 4 $ frees-all ! (room ∷ room ∷ room ∷ room ∷ room ∷ room ∷ room ∷ room ∷ room ∷ cell ∷ cell ∷ room ∷ cell ∷ cell ∷ cell ∷ cell ∷ cell ∷ cell ∷ cell ∷ cell ∷ []) _ $
         by ! (exits end count zs bs count-fits end-fits (telling .long) (telling .bytes .long) (telling-done ys out at i end count zs bs telling (ge big))))
       where
         i : ℕ
@@ -223,7 +224,7 @@ module _ {M : Type 1} (𝓤 : URA M) (H : Heap 𝓤) (A : Atoms 𝓤) (W : Given
         d = getD zs i zeroDatapoint
 
         d′ : Datapoint
-        d′ = withMark false (handedOut d)
+        d′ = withMark 0 (handedOut d)
 
         es : List ℕ
         es = valueEntry d .bytes
@@ -267,10 +268,10 @@ module _ {M : Type 1} (𝓤 : URA M) (H : Heap 𝓤) (A : Atoms 𝓤) (W : Given
   walk : Walk 2 𝓤 H A W ps toldD (f.clauses 𝓤 H A mem run) 𝓣 code.function (κ, (κ′, tt)) (q, (q′, tt)) x tt
   walk =
       starts 𝓤 H A W 2 ps (κ, (κ′, tt)) (q, (q′, tt)) x ∵ enter ! (𝓣 .C) (𝓣 .Λ) code.function _ _ $ allocs-all ! (code.function .locals) (λ l. params1 ! $
-      pass1 ! (init ! 34 refl (tt, (tt, (record { fits = gn .0 }, tt)))) $ pass1 ! (init ! 32 refl (tt, (tt, (record { fits = gm .0 }, tt)))) $ pass1 ! (init ! 30 refl (tt, record { fits = at-ok .1 })) $ pass0 ! $
-      lets ! 28 (bin ! (val ! 30 refl) (lit ! tt) (record { fits = most-fits })) refl (tt, record { fits = most-fits }) $ lets ! 26 (of-opd ! (lit ! tt)) refl (tt, record { fits = lit< tt }) $
-      lets ! 24 (of-opd ! (val ! 30 refl)) refl (tt, record { fits = at-ok .1 }) $ lets ! 22 (of-opd ! (lit ! tt)) refl (tt, record { fits = lit< tt }) $
-      move ! (40 ∷ 38 ∷ []) $ opened-slice ! tt datapointD n ys b o refl (λ _. move ! (41 ∷ 40 ∷ []) $ opened-slice ! tt byteD m out b′ o′ refl (λ _. move ! (2 ∷ 0 ∷ 3 ∷ 1 ∷ []) $ begins l)))
+      pass1 ! (init ! 36 refl (tt, (tt, (record { fits = gn .0 }, tt)))) $ pass1 ! (init ! 34 refl (tt, (tt, (record { fits = gm .0 }, tt)))) $ pass1 ! (init ! 32 refl (tt, record { fits = at-ok .1 })) $ pass0 ! $
+      lets ! 30 (bin ! (val ! 32 refl) (lit ! tt) (record { fits = most-fits })) refl (tt, record { fits = most-fits }) $ lets ! 28 (of-opd ! (lit ! tt)) refl (tt, record { fits = lit< tt }) $
+      lets ! 26 (of-opd ! (val ! 32 refl)) refl (tt, record { fits = at-ok .1 }) $ lets ! 24 (of-opd ! (lit ! tt)) refl (tt, record { fits = lit< tt }) $
+      move ! (42 ∷ 40 ∷ []) $ opened-slice ! tt datapointD n ys b o refl (λ _. move ! (43 ∷ 42 ∷ []) $ opened-slice ! tt byteD m out b′ o′ refl (λ _. move ! (2 ∷ 0 ∷ 3 ∷ 1 ∷ []) $ begins l)))
 
 pub tell-marked-spec : {M : Type 1} → stated.statement M
 unfolding code.routine tablesOf
