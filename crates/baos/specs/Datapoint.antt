@@ -71,13 +71,40 @@ fromBus s = s / 32 * 32 + 24 + s % 4
 
 -- ---- a record with another state; with another value and state; with another mark
 unfoldable pub withState : ℕ → Datapoint → Datapoint
-withState s d = record { id = d .id; typecode = d .typecode; flags = d .flags; dpt = d .dpt; state = s; value = d .value; mark = d .mark }
+withState s d =
+    record {
+      id = d .id;
+      typecode = d .typecode;
+      flags = d .flags;
+      dpt = d .dpt;
+      state = s;
+      value = d .value;
+      mark = d .mark;
+    }
 
 unfoldable pub withValue : List ℕ → ℕ → Datapoint → Datapoint
-withValue v s d = record { id = d .id; typecode = d .typecode; flags = d .flags; dpt = d .dpt; state = s; value = pad 14 v; mark = d .mark }
+withValue v s d =
+    record {
+      id = d .id;
+      typecode = d .typecode;
+      flags = d .flags;
+      dpt = d .dpt;
+      state = s;
+      value = pad 14 v;
+      mark = d .mark;
+    }
 
 unfoldable pub withMark : ℕ → Datapoint → Datapoint
-withMark m d = record { id = d .id; typecode = d .typecode; flags = d .flags; dpt = d .dpt; state = d .state; value = d .value; mark = m }
+withMark m d =
+    record {
+      id = d .id;
+      typecode = d .typecode;
+      flags = d .flags;
+      dpt = d .dpt;
+      state = d .state;
+      value = d .value;
+      mark = m;
+    }
 
 -- "An answer or indication that carries a value shows the state byte as it was and then clears bit 3 (build)."
 unfoldable pub handedOut : Datapoint → Datapoint

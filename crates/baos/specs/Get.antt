@@ -35,7 +35,8 @@ roomForEntries = longestMessage - 6
 
 -- main service, sub-service, start, number of entries, entries
 unfoldable pub listing : ℕ → ℕ → List AnswerEntry → List ℕ
-listing sub start es = 0xF0 ∷ sub ∷ twoBytes start ++ twoBytes (length es) ++ flatten (map (λ (e : AnswerEntry). e .bytes) es)
+listing sub start es =
+    0xF0 ∷ sub ∷ twoBytes start ++ twoBytes (length es) ++ flatten (map (λ (e : AnswerEntry). e .bytes) es)
 
 -- Rows 10, 6, 2 and 3: `size` is the length of such a request, `badFilter` says that its filter is above 2, `es` are
 -- the entries to return.
@@ -49,7 +50,8 @@ getFinding size badFilter m es =
 
 -- "Positive get answer: start echoed, count, entries in rising ID."
 unfoldable pub getting : ℕ → Bool → List AnswerEntry → Tables → Tables → List ℕ → Served
-getting size badFilter es t t′ m = served (getFinding size badFilter m es) m (listing (subService m + 0x80) (startOf m) es) t t′
+getting size badFilter es t t′ m =
+    served (getFinding size badFilter m es) m (listing (subService m + 0x80) (startOf m) es) t t′
 
 unfoldable pub itemEntry : Item → AnswerEntry
 itemEntry i = record { id = i .id; bytes = twoBytes (i .id) ++ i .size ∷ bytesOf i }
@@ -61,7 +63,8 @@ unfoldable pub descriptionEntry : Datapoint → AnswerEntry
 descriptionEntry d = record { id = d .id; bytes = twoBytes (d .id) ++ d .typecode ∷ d .flags ∷ d .dpt ∷ [] }
 
 unfoldable pub getDatapointDescription : Tables → List ℕ → Served
-getDatapointDescription t m = getting 6 false (map descriptionEntry (keep (λ (d : Datapoint). inRequest m (d .id)) (t .datapoints))) t t m
+getDatapointDescription t m =
+    getting 6 false (map descriptionEntry (keep (λ (d : Datapoint). inRequest m (d .id)) (t .datapoints))) t t m
 
 -- the state byte is shown as it was
 unfoldable pub valueEntry : Datapoint → AnswerEntry
@@ -83,7 +86,8 @@ unfoldable pub handingOut : List ℕ → Tables → Tables
 handingOut m t = withDatapoints (map (λ (d : Datapoint). if asked m d then handedOut d else d) (t .datapoints)) t
 
 unfoldable pub getDatapointValue : Tables → List ℕ → Served
-getDatapointValue t m = getting 7 (ltb 2 (filterOf m)) (map valueEntry (keep (asked m) (t .datapoints))) t (handingOut m t) m
+getDatapointValue t m =
+    getting 7 (ltb 2 (filterOf m)) (map valueEntry (keep (asked m) (t .datapoints))) t (handingOut m t) m
 
 -- "parameter bytes [..]; the first has index 1": those from index n on
 unfoldable pub parameterEntries : ℕ → List ℕ → List AnswerEntry
@@ -93,4 +97,6 @@ parameterEntries n (b ∷ bs) = record { id = n; bytes = b ∷ [] } ∷ paramete
 -- "sub 07: start index 0 (build)" is code 2: there is nothing to return
 unfoldable pub getParameterByte : Tables → List ℕ → Served
 getParameterByte t m =
-    getting 6 false (if eqb (startOf m) 0 then [] else keep (λ (e : AnswerEntry). inRequest m (e .id)) (parameterEntries 1 (t .parameters))) t t m
+    getting 6 false
+    (if eqb (startOf m) 0 then [] else keep (λ (e : AnswerEntry). inRequest m (e .id)) (parameterEntries 1 (t .parameters)))
+    t t m

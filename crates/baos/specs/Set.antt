@@ -20,11 +20,21 @@ pub record SetEntry : Type 0 where
 
 -- the first entry of the bytes s: ID, length, data
 unfoldable pub firstItemEntry : List ℕ → SetEntry
-firstItemEntry s = record { id = ofTwoBytes (getD s 0 0) (getD s 1 0); command = 0; value = take (getD s 2 0) (drop 3 s) }
+firstItemEntry s =
+    record {
+      id = ofTwoBytes (getD s 0 0) (getD s 1 0);
+      command = 0;
+      value = take (getD s 2 0) (drop 3 s);
+    }
 
 -- the first entry of the bytes s: ID, command, length, value
 unfoldable pub firstDatapointEntry : List ℕ → SetEntry
-firstDatapointEntry s = record { id = ofTwoBytes (getD s 0 0) (getD s 1 0); command = getD s 2 0; value = take (getD s 3 0) (drop 4 s) }
+firstDatapointEntry s =
+    record {
+      id = ofTwoBytes (getD s 0 0) (getD s 1 0);
+      command = getD s 2 0;
+      value = take (getD s 3 0) (drop 4 s);
+    }
 
 -- how many bytes the first entry takes: a head of h bytes, the last of which is the length, and so many more
 unfoldable pub span : ℕ → List ℕ → ℕ
@@ -33,7 +43,8 @@ span h s = h + getD s (h - 1) 0
 -- n entries fill the bytes s exactly
 unfoldable pub fills : ℕ → ℕ → List ℕ → Bool
 fills h zero s = isEmpty s
-fills h (suc n) s = elim (leb h (length s) && leb (span h s) (length s)) [ true ↦ fills h n (drop (span h s) s) | false ↦ false ]
+fills h (suc n) s =
+    elim (leb h (length s) && leb (span h s) (length s)) [ true ↦ fills h n (drop (span h s) s) | false ↦ false ]
 
 -- the first n entries of the bytes s
 unfoldable pub setEntries : (List ℕ → SetEntry) → ℕ → ℕ → List ℕ → List SetEntry

@@ -58,7 +58,8 @@ tableOk most idOf ok xs = leb (length xs) most && rising 0 (map idOf xs) && ever
 -- datapoints 0 to 1000, items 0 to 64, parameter bytes 0 to 255
 unfoldable pub wellFormed : Tables → Bool
 wellFormed t =
-    tableOk 1000 datapointId datapointOk (t .datapoints) && tableOk 64 itemId itemOk (t .items) && leb (length (t .parameters)) 255
+    tableOk 1000 datapointId datapointOk (t .datapoints) && tableOk 64 itemId itemOk (t .items)
+    && leb (length (t .parameters)) 255
 
 -- What refusal 1 asks of the tables, with whether a frame is outstanding beside them. No record names a frame, so
 -- that nothing depends on it.

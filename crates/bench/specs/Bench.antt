@@ -126,7 +126,8 @@ withValue v b =
 -- one record more, behind the others; a full table stays
 unfoldable pub withDatapoint : Datapoint → Bench → Bench
 withDatapoint d b =
-    if ltb (b .datapointcount) 50 then withDatapoints (set (b .datapoints) (b .datapointcount) d) (b .datapointcount + 1) b
+    if ltb (b .datapointcount) 50 then withDatapoints (set (b .datapoints) (b .datapointcount) d)
+    (b .datapointcount + 1) b
     else b
 
 unfoldable pub withItem : Item → Bench → Bench

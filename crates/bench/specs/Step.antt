@@ -10,7 +10,8 @@ use Rattle.bench.specs.declared.bench.Bench.{Bench}
 -- the tables as far as their counts go
 unfoldable pub tablesIn : Bench → Tables
 tablesIn b =
-    tablesOf (take (b .datapointcount) (b .datapoints)) (take (b .itemcount) (b .items)) (take (b .parametercount) (b .parameters))
+    tablesOf (take (b .datapointcount) (b .datapoints)) (take (b .itemcount) (b .items))
+    (take (b .parametercount) (b .parameters))
 
 -- what the server's call answers and leaves
 unfoldable pub called : Bench → Event → Called

@@ -34,7 +34,12 @@ quiet t l = record { sent = []; tables = t; line = l }
 
 -- the answer goes back to the link, "framed right after" the bytes s
 unfoldable pub saying : List ℕ → Served → Line → Done
-saying s v l = record { sent = s ++ (onMessage (v .says) l) .sent; tables = v .after; line = (onMessage (v .says) l) .line }
+saying s v l =
+    record {
+      sent = s ++ (onMessage (v .says) l) .sent;
+      tables = v .after;
+      line = (onMessage (v .says) l) .line;
+    }
 
 -- a message that the link hands up is carried out; that a frame was acknowledged or dropped, and a reset, leave the
 -- tables
@@ -85,7 +90,12 @@ refused n t k out = record { reply = Refused n; output = out; tables = t; link =
 -- "An accepted call alters no output byte after its reply."
 unfoldable pub accepted : List ℕ → Done → Called
 accepted out d =
-    record { reply = Accepted (length (d .sent)); output = d .sent ++ drop (length (d .sent)) out; tables = d .tables; link = linkOf (d .line) }
+    record {
+      reply = Accepted (length (d .sent));
+      output = d .sent ++ drop (length (d .sent)) out;
+      tables = d .tables;
+      link = linkOf (d .line);
+    }
 
 unfoldable pub call : Event → List ℕ → Tables → Link → List ℕ → Called
 call e v t k out =

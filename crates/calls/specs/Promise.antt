@@ -32,14 +32,17 @@ pub record Leaves (c : Called) (r : Reply) (t′ : Tables) (k′ : Link) (out′
 -- the refusals that do not look at the event: 1, 2 and 3, the lowest first; 0 where none is given. Whether a frame is
 -- outstanding is told beside the tables.
 unfoldable pub lentRefusal : Bool → Tables → Link → ℕ → ℕ
-lentRefusal outstanding t k room = if not (tablesOk outstanding t) then 1 else if not (inRange k) then 2 else if ltb room 262 then 3 else 0
+lentRefusal outstanding t k room =
+    if not (tablesOk outstanding t) then 1 else if not (inRange k) then 2 else if ltb room 262 then 3 else 0
 
 -- ---- a bus event
 
 -- a bus event about the datapoint of this ID: refused with 4 where there is none, or where it does not take the event
-pub record BusEventTaken (e : BusEvent) (id : ℕ) (v : List ℕ) (ds : List Datapoint) (r : Reply) (ds′ : List Datapoint) : Type 0 where
+pub record BusEventTaken (e : BusEvent) (id : ℕ) (v : List ℕ) (ds : List Datapoint) (r : Reply) (ds′ : List Datapoint) :
+    Type 0 where
   pub reply : r ≡ (if foundTakes e v (found datapointId id ds) then Accepted 0 else Refused 4)
-  pub datapoints : ds′ ≡ (if foundTakes e v (found datapointId id ds) then changedAt datapointId id (taken e v) ds else ds)
+  pub datapoints : ds′ ≡ (if foundTakes e v (found datapointId id ds) then changedAt datapointId id (taken e v) ds
+      else ds)
 
 -- ---- a host byte, as it was heard
 

@@ -29,8 +29,10 @@ pub record SameOutcome (r₁ r₂ : Reply) (t₁ t₂ : Tables) (k₁ k₂ : Lin
 
 abbrev pub OneOutcome : Type 0
 OneOutcome =
-    (e : Event) (v : List ℕ) (t : Tables) (k : Link) (out : List ℕ) (r₁ r₂ : Reply) (t₁ t₂ : Tables) (k₁ k₂ : Link) (out₁ out₂ : List ℕ)
-    → Leaves (call e v t k out) r₁ t₁ k₁ out₁ → Leaves (call e v t k out) r₂ t₂ k₂ out₂ → SameOutcome r₁ r₂ t₁ t₂ k₁ k₂ out₁ out₂
+    (e : Event) (v : List ℕ) (t : Tables) (k : Link) (out : List ℕ) (r₁ r₂ : Reply) (t₁ t₂ : Tables) (k₁ k₂ : Link)
+    (out₁ out₂ : List ℕ)
+    → Leaves (call e v t k out) r₁ t₁ k₁ out₁ → Leaves (call e v t k out) r₂ t₂ k₂ out₂
+    → SameOutcome r₁ r₂ t₁ t₂ k₁ k₂ out₁ out₂
 
 -- To read it: two outcomes that keep the promise of one call have the same reply, refusal number and count of bytes
 -- included, the same tables in each record, the same link record and the same output buffer to its end.
@@ -38,8 +40,10 @@ OneOutcome =
 -- so whatever is stated of `call` is stated of each outcome that keeps the promise
 abbrev pub OutcomeIsCall : Type 0
 OutcomeIsCall =
-    (e : Event) (v : List ℕ) (t : Tables) (k : Link) (out : List ℕ) (r : Reply) (t′ : Tables) (k′ : Link) (out′ : List ℕ)
-    → Leaves (call e v t k out) r t′ k′ out′ → call e v t k out ≡ record { reply = r; output = out′; tables = t′; link = k′ }
+    (e : Event) (v : List ℕ) (t : Tables) (k : Link) (out : List ℕ) (r : Reply) (t′ : Tables) (k′ : Link)
+    (out′ : List ℕ)
+    → Leaves (call e v t k out) r t′ k′ out′
+    → call e v t k out ≡ record { reply = r; output = out′; tables = t′; link = k′ }
 
 -- ---- "A request that is answered with an error code changes no datapoint and no item."
 -- "an error answer is F0, sub + 80, an ID, 00 00, code (7 bytes)", as it is read from an answer's bytes: seven, no
@@ -57,7 +61,8 @@ ErrorsChangeNothing = (t : Tables) (m : List ℕ) → ErrorAnswer (carriedOut t 
 abbrev pub ErrorCallsChangeNothing : Type 0
 ErrorCallsChangeNothing =
     (e : Event) (v : List ℕ) (t : Tables) (k : Link) (out : List ℕ) (control : ℕ) (answer : List ℕ) → ErrorAnswer answer
-    → sentOf (call e v t k out .reply) (call e v t k out .output) ≡ acknowledgement ++ dataFrame control answer → call e v t k out .tables ≡ t
+    → sentOf (call e v t k out .reply) (call e v t k out .output) ≡ acknowledgement ++ dataFrame control answer
+    → call e v t k out .tables ≡ t
 
 -- To read it: a call that sends an acknowledgement and, in a data frame, an error answer leaves datapoints, items and
 -- parameter bytes as they were, in every record and field.

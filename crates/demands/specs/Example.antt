@@ -38,7 +38,15 @@ stated c = record { sent = c .sent; tables = c .tablesAfter; link = linkOf (c .l
 
 -- the receiver at a frame start; expected bit, send bit, outstanding frame
 unfoldable pub lineAt : Bool → Bool → List ℕ → Line
-lineAt expected send outstanding = record { gathered = []; dropping = false; expected = expected; send = send; outstanding = outstanding; resends = 0 }
+lineAt expected send outstanding =
+    record {
+      gathered = [];
+      dropping = false;
+      expected = expected;
+      send = send;
+      outstanding = outstanding;
+      resends = 0;
+    }
 
 -- "unless said, nothing is outstanding and both bits are odd": a request, and the answer that is then outstanding
 unfoldable pub exchange : Tables → List ℕ → List ℕ → Tables → Case
@@ -55,30 +63,65 @@ exchange t m answer t′ =
 -- 1: item 1 = 00 00 C5 07 00 02
 unfoldable pub item1 : Tables
 item1 =
-    itemsOnly (record { id = 1; size = 6; writable = 0; bytes = pad 16 (0x00 ∷ 0x00 ∷ 0xC5 ∷ 0x07 ∷ 0x00 ∷ 0x02 ∷ []) } ∷ [])
+    itemsOnly (record { id = 1; size = 6; writable = 0; bytes = pad 16 (0x00 ∷ 0x00 ∷ 0xC5 ∷ 0x07 ∷ 0x00 ∷ 0x02 ∷ []) }
+    ∷ [])
 
 unfoldable pub ask1 : List ℕ
 ask1 = 0x68 ∷ 0x07 ∷ 0x07 ∷ 0x68 ∷ 0x73 ∷ 0xF0 ∷ 0x01 ∷ 0x00 ∷ 0x01 ∷ 0x00 ∷ 0x01 ∷ 0x66 ∷ 0x16 ∷ []
 
 unfoldable pub answer1 : List ℕ
-answer1 = 0x68 ∷ 0x10 ∷ 0x10 ∷ 0x68 ∷ 0xF3 ∷ 0xF0 ∷ 0x81 ∷ 0x00 ∷ 0x01 ∷ 0x00 ∷ 0x01 ∷ 0x00 ∷ 0x01 ∷ 0x06 ∷ 0x00 ∷ 0x00 ∷ 0xC5 ∷ 0x07 ∷ 0x00 ∷ 0x02 ∷ 0x3B ∷ 0x16 ∷ []
+answer1 = 0x68 ∷ 0x10 ∷ 0x10 ∷ 0x68 ∷ 0xF3 ∷ 0xF0 ∷ 0x81 ∷ 0x00 ∷ 0x01 ∷ 0x00 ∷ 0x01 ∷ 0x00 ∷ 0x01 ∷ 0x06 ∷ 0x00 ∷ 0x00
+    ∷ 0xC5 ∷ 0x07 ∷ 0x00 ∷ 0x02 ∷ 0x3B ∷ 0x16 ∷ []
 
 unfoldable pub case1 : Case
-case1 = record { tables = item1; line = lineAt true true []; bytes = ask1; sent = 0xE5 ∷ answer1; tablesAfter = item1; lineAfter = lineAt false true answer1 }
+case1 =
+    record {
+      tables = item1;
+      line = lineAt true true [];
+      bytes = ask1;
+      sent = 0xE5 ∷ answer1;
+      tablesAfter = item1;
+      lineAfter = lineAt false true answer1;
+    }
 
 -- 2: the same frame again; and with 53 and 46, when even is expected and nothing outstanding
 unfoldable pub case2 : Case
-case2 = record { tables = item1; line = lineAt false true answer1; bytes = ask1; sent = 0xE5 ∷ []; tablesAfter = item1; lineAfter = lineAt false true answer1 }
+case2 =
+    record {
+      tables = item1;
+      line = lineAt false true answer1;
+      bytes = ask1;
+      sent = 0xE5 ∷ [];
+      tablesAfter = item1;
+      lineAfter = lineAt false true answer1;
+    }
 
 unfoldable pub ask1even : List ℕ
 ask1even = 0x68 ∷ 0x07 ∷ 0x07 ∷ 0x68 ∷ 0x53 ∷ 0xF0 ∷ 0x01 ∷ 0x00 ∷ 0x01 ∷ 0x00 ∷ 0x01 ∷ 0x46 ∷ 0x16 ∷ []
 
 unfoldable pub case2even : Case
-case2even = record { tables = item1; line = lineAt false true []; bytes = ask1even; sent = 0xE5 ∷ answer1; tablesAfter = item1; lineAfter = lineAt true true answer1 }
+case2even =
+    record {
+      tables = item1;
+      line = lineAt false true [];
+      bytes = ask1even;
+      sent = 0xE5 ∷ answer1;
+      tablesAfter = item1;
+      lineAfter = lineAt true true answer1;
+    }
 
 -- 3 and 4: datapoint 5 of type 0
 unfoldable pub datapoint : ℕ → ℕ → ℕ → List ℕ → Datapoint
-datapoint id typecode state value = record { id = id; typecode = typecode; flags = 0; dpt = 1; state = state; value = pad 14 value; mark = 0 }
+datapoint id typecode state value =
+    record {
+      id = id;
+      typecode = typecode;
+      flags = 0;
+      dpt = 1;
+      state = state;
+      value = pad 14 value;
+      mark = 0;
+    }
 
 unfoldable pub datapoint5 : ℕ → ℕ → Tables
 datapoint5 state value = datapointsOnly (datapoint 5 0 state (value ∷ []) ∷ [])
@@ -116,20 +159,24 @@ entriesFrom id zero = []
 entriesFrom id (suc n) = 0x00 ∷ id ∷ 0x10 ∷ 0x01 ∷ id ∷ entriesFrom (suc id) n
 
 unfoldable pub case5 : Case
-case5 = exchange (oneBytes 49) (0xF0 ∷ 0x05 ∷ 0x00 ∷ 0x01 ∷ 0x00 ∷ 49 ∷ 0x00 ∷ []) (0xF0 ∷ 0x85 ∷ 0x00 ∷ 0x01 ∷ 0x00 ∷ 49 ∷ entriesFrom 1 49) (oneBytes 49)
+case5 = exchange (oneBytes 49) (0xF0 ∷ 0x05 ∷ 0x00 ∷ 0x01 ∷ 0x00 ∷ 49 ∷ 0x00 ∷ [])
+    (0xF0 ∷ 0x85 ∷ 0x00 ∷ 0x01 ∷ 0x00 ∷ 49 ∷ entriesFrom 1 49) (oneBytes 49)
 
 unfoldable pub case5more : Case
-case5more = exchange (oneBytes 50) (0xF0 ∷ 0x05 ∷ 0x00 ∷ 0x01 ∷ 0x00 ∷ 50 ∷ 0x00 ∷ []) (0xF0 ∷ 0x85 ∷ 0x00 ∷ 50 ∷ 0x00 ∷ 0x00 ∷ 0x03 ∷ []) (oneBytes 50)
+case5more = exchange (oneBytes 50) (0xF0 ∷ 0x05 ∷ 0x00 ∷ 0x01 ∷ 0x00 ∷ 50 ∷ 0x00 ∷ [])
+    (0xF0 ∷ 0x85 ∷ 0x00 ∷ 50 ∷ 0x00 ∷ 0x00 ∷ 0x03 ∷ []) (oneBytes 50)
 
 -- 6: n parameter bytes
 unfoldable pub parameterBytes : ℕ → Tables
 parameterBytes n = parametersOnly (replicate n 0xAB)
 
 unfoldable pub case6 : Case
-case6 = exchange (parameterBytes 248) (0xF0 ∷ 0x07 ∷ 0x00 ∷ 0x01 ∷ 0x00 ∷ 248 ∷ []) (0xF0 ∷ 0x87 ∷ 0x00 ∷ 0x01 ∷ 0x00 ∷ 248 ∷ replicate 248 0xAB) (parameterBytes 248)
+case6 = exchange (parameterBytes 248) (0xF0 ∷ 0x07 ∷ 0x00 ∷ 0x01 ∷ 0x00 ∷ 248 ∷ [])
+    (0xF0 ∷ 0x87 ∷ 0x00 ∷ 0x01 ∷ 0x00 ∷ 248 ∷ replicate 248 0xAB) (parameterBytes 248)
 
 unfoldable pub case6more : Case
-case6more = exchange (parameterBytes 255) (0xF0 ∷ 0x07 ∷ 0x00 ∷ 0x02 ∷ 0x00 ∷ 249 ∷ []) (0xF0 ∷ 0x87 ∷ 0x00 ∷ (2 + 248) ∷ 0x00 ∷ 0x00 ∷ 0x03 ∷ []) (parameterBytes 255)
+case6more = exchange (parameterBytes 255) (0xF0 ∷ 0x07 ∷ 0x00 ∷ 0x02 ∷ 0x00 ∷ 249 ∷ [])
+    (0xF0 ∷ 0x87 ∷ 0x00 ∷ (2 + 248) ∷ 0x00 ∷ 0x00 ∷ 0x03 ∷ []) (parameterBytes 255)
 
 -- 9: L = 0 is damage; L = 1 with 73 and checksum 73
 unfoldable pub case9 : Case
@@ -140,7 +187,14 @@ case9 =
       bytes = 0x68 ∷ 0x00 ∷ [];
       sent = [];
       tablesAfter = item1;
-      lineAfter = record { gathered = []; dropping = true; expected = true; send = true; outstanding = []; resends = 0 };
+      lineAfter = record {
+        gathered = [];
+        dropping = true;
+        expected = true;
+        send = true;
+        outstanding = [];
+        resends = 0;
+      };
     }
 
 unfoldable pub case9one : Case
@@ -154,7 +208,8 @@ case9one =
       lineAfter = lineAt false true [];
     }
 
--- ---- 7: "start FFFF, number FFFF: only ID 65535 can answer", for any number from 1 on, any tables that no call refuses and each of the four gets
+-- ---- 7: "start FFFF, number FFFF: only ID 65535 can answer", for any number from 1 on, any tables that no call refuses
+-- and each of the four gets
 -- IDs of two bytes
 pub record TwoByteIds (t : Tables) : Type 0 where
   pub datapoints : T (every (λ (d : Datapoint). ltb (d .id) 0x1_0000) (t .datapoints))
@@ -162,7 +217,8 @@ pub record TwoByteIds (t : Tables) : Type 0 where
 
 -- the request m is answered with these entries, or with code 2 where there are none
 abbrev pub AnsweredWith : Tables → List ℕ → List AnswerEntry → Type 0
-AnsweredWith t m es = carriedOut t m .says ≡ (if isEmpty es then coded m 0xFFFF 2 else listing (subService m + 0x80) 0xFFFF es)
+AnsweredWith t m es = carriedOut t m .says
+    ≡ (if isEmpty es then coded m 0xFFFF 2 else listing (subService m + 0x80) 0xFFFF es)
 
 pub record LastId (t : Tables) (m : List ℕ) : Type 0 where
   pub item : subService m ≡ 0x01 → length m ≡ 6 → AnsweredWith t m (map itemEntry (found itemId 0xFFFF (t .items)))

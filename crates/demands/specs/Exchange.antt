@@ -124,19 +124,22 @@ someSound (d ∷ ds) = isSound d || someSound ds
 -- ---- the conclusion
 -- the frame of the answer to m, under the send bit; none where m has no answer
 unfoldable pub answerFrame : Tables → Link → List ℕ → List ℕ
-answerFrame t k m = if isEmpty (carriedOut t m .says) then [] else dataFrame (serverControl (lineOf k .send)) (carriedOut t m .says)
+answerFrame t k m = if isEmpty (carriedOut t m .says) then []
+    else dataFrame (serverControl (lineOf k .send)) (carriedOut t m .says)
 
 -- what each delivery draws, where this answer's frame is still to be sent: a sound one the acknowledgement and the
 -- answer, and then no later one the answer; a damaged one nothing
 unfoldable pub draws : List ℕ → List Delivery → List (List ℕ)
 draws answer [] = []
-draws answer (d ∷ ds) = (if isSound d then acknowledgement ++ answer else []) ∷ draws (if isSound d then [] else answer) ds
+draws answer (d ∷ ds) = (if isSound d then acknowledgement ++ answer else [])
+    ∷ draws (if isSound d then [] else answer) ds
 
 -- "A damaged frame may begin with E5 [..]. It can then act as the acknowledgement of an outstanding frame and, if its
 -- message begins F0, does no more.": the link record k′ is k, or k with its outstanding frame acknowledged
 pub data Rest (k k′ : Link) : Type 0 where
   same : k′ ≡ k → Rest k k′
-  acknowledged : isEmpty (lineOf k .outstanding) ≡ false → k′ ≡ linkOf (cleared (not (lineOf k .send)) (lineOf k)) → Rest k k′
+  acknowledged : isEmpty (lineOf k .outstanding) ≡ false → k′ ≡ linkOf (cleared (not (lineOf k .send)) (lineOf k))
+      → Rest k k′
 
 unfoldable pub noneBeginsE5 : List ℕ → List Delivery → Bool
 noneBeginsE5 f ds = every (λ (d : Delivery). not (eqb (getD (arrives f d) 0 0) 0xE5)) ds
@@ -150,7 +153,8 @@ pub record Once (lent : ℕ → ℕ → Lent) (m : List ℕ) (ds : List Delivery
   pub drawn : exchange lent (requestFrame k m) ds t k .sent ≡ draws (answerFrame t k m) ds
   -- "Then the tables and the expected bit are those after one sound delivery."
   pub tables : exchange lent (requestFrame k m) ds t k .tables ≡ delivery (lent 0) (requestFrame k m) sound t k .tables
-  pub expected : exchange lent (requestFrame k m) ds t k .link .expected ≡ delivery (lent 0) (requestFrame k m) sound t k .link .expected
+  pub expected : exchange lent (requestFrame k m) ds t k .link .expected
+      ≡ delivery (lent 0) (requestFrame k m) sound t k .link .expected
   -- none of the calls is refused
   pub accepted : T (noneRefused lent (requestFrame k m) ds t k)
   -- what the demand leaves open: the rest of the link record

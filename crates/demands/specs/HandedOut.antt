@@ -33,7 +33,8 @@ pub record Shown : Type 0 where
 -- so many entries of the bytes s: ID, state, length, value
 unfoldable pub shownIn : ℕ → List ℕ → List Shown
 shownIn zero s = []
-shownIn (suc n) s = record { id = ofTwoBytes (getD s 0 0) (getD s 1 0); state = getD s 2 0 } ∷ shownIn n (drop (4 + getD s 3 0) s)
+shownIn (suc n) s = record { id = ofTwoBytes (getD s 0 0) (getD s 1 0); state = getD s 2 0 }
+    ∷ shownIn n (drop (4 + getD s 3 0) s)
 
 -- an answer of GetDatapointValue or an indication has NumberOfDatapoints entries; an error answer has none
 unfoldable pub valuesIn : List ℕ → List Shown
@@ -87,4 +88,5 @@ unfoldable pub noValueFor : ℕ → List Happening → Bool
 noValueFor id hs = every (λ (h : Happening). not (isValueFor id (h .event))) hs
 
 abbrev pub HandedOutOnce : Type 0
-HandedOutOnce = (id : ℕ) (hs : List Happening) (t : Tables) (k : Link) → T (allAccepted hs t k) → T (noValueFor id hs) → timesHandedOut id hs t k ≤ 1
+HandedOutOnce = (id : ℕ) (hs : List Happening) (t : Tables) (k : Link) → T (allAccepted hs t k) → T (noValueFor id hs)
+    → timesHandedOut id hs t k ≤ 1

@@ -32,7 +32,8 @@ behindThem s = drop (getD s 1 0) (drop 4 s)
 -- the sum of control and data bytes, the carry beyond eight bits dropped."
 unfoldable pub isData : List ℕ → Bool
 isData s =
-    eqb (getD s 0 0) 0x68 && leb 1 (getD s 1 0) && leb (getD s 1 0) 255 && eqb (getD s 2 0) (getD s 1 0) && eqb (getD s 3 0) 0x68
+    eqb (getD s 0 0) 0x68 && leb 1 (getD s 1 0) && leb (getD s 1 0) 255 && eqb (getD s 2 0) (getD s 1 0)
+    && eqb (getD s 3 0) 0x68
     && eqb (getD (behindThem s) 0 0) (checksum (controlAndData s)) && eqb (getD (behindThem s) 1 0) 0x16
 
 -- "Control [..] from server: F3 or D3", the count bit odd or even

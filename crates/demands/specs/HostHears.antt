@@ -38,7 +38,8 @@ toHearOf Ignored b t l = []
 toHearOf Acknowledged b t l = []
 toHearOf Reset b t l = heard-acknowledgement ∷ []
 toHearOf Repeat b t l = heard-acknowledgement ∷ []
-toHearOf (Request n) b t l = heard-acknowledgement ∷ said (l .send) (carriedOut t (messageOf (l .gathered ++ b ∷ [])) .says)
+toHearOf (Request n) b t l =
+    heard-acknowledgement ∷ said (l .send) (carriedOut t (messageOf (l .gathered ++ b ∷ [])) .says)
 
 unfoldable pub toHear : Event → Tables → Line → List HostHeard
 toHear (HostByte b) t l = toHearOf (heardAt b l) b t l
@@ -92,7 +93,8 @@ allToHear (h ∷ hs) t k =
     toHear (h .event) t (lineOf k) ++ allToHear hs (c .tables) (c .link)
 
 abbrev pub HostHearsAll : Type 0
-HostHearsAll = (hs : List Happening) (t : Tables) (k : Link) → T (allAccepted hs t k) → hostReads (allSent hs t k) ≡ allToHear hs t k
+HostHearsAll = (hs : List Happening) (t : Tables) (k : Link) → T (allAccepted hs t k)
+    → hostReads (allSent hs t k) ≡ allToHear hs t k
 
 -- To read it: the host that reads all bytes of any run of accepted calls, one after the other, hears the
 -- acknowledgements, messages and resets of the calls in turn, each with its count bit, and nothing else; no byte of

@@ -99,7 +99,8 @@ marked = thenIdle (arrives ask1 (lost 3)) ++ thenIdle ask1
 -- "exactly one byte": example 3's request with two changed, value and checksum, and then sound. The first sets the
 -- value 0 that nobody sent, and the second is taken for its repeat.
 unfoldable pub twoChanged : List Event
-twoChanged = thenIdle (arrives (arrives (dataFrame 0x73 (set5 1)) (changed 15 0x00)) (changed 16 0x78)) ++ thenIdle (dataFrame 0x73 (set5 1))
+twoChanged = thenIdle (arrives (arrives (dataFrame 0x73 (set5 1)) (changed 15 0x00)) (changed 16 0x78))
+    ++ thenIdle (dataFrame 0x73 (set5 1))
 
 -- "first byte F0": "A damaged frame may begin with E5: its first byte 68 [..] was lost before a length of E5. It can
 -- then act as the acknowledgement of an outstanding frame and, if its message begins F0, does no more." This one does
@@ -135,8 +136,10 @@ pub record Needed : Type 0 where
   pub two-sent : calls roomy twoChanged (datapoint5 0x00 0) restingLink .sent ≡ (0xE5 ∷ answer3) ++ 0xE5 ∷ []
   pub two-tables : calls roomy twoChanged (datapoint5 0x00 0) restingLink .tables ≡ datapoint5 0x13 0
   -- the first byte: one byte is lost, and a set is carried out that nobody sent
-  pub spelt-sent : delivery roomy (requestFrame restingLink spelling) (lost 0) (datapoint5 0x00 0) restingLink .sent ≡ 0xE5 ∷ answer3
-  pub spelt-tables : delivery roomy (requestFrame restingLink spelling) (lost 0) (datapoint5 0x00 0) restingLink .tables ≡ datapoint5 0x03 0
+  pub spelt-sent : delivery roomy (requestFrame restingLink spelling) (lost 0) (datapoint5 0x00 0) restingLink .sent
+      ≡ 0xE5 ∷ answer3
+  pub spelt-tables : delivery roomy (requestFrame restingLink spelling) (lost 0) (datapoint5 0x00 0) restingLink .tables
+      ≡ datapoint5 0x03 0
 
 -- To read it: without any one of the premises named, and with all the others, demand 3 is false. With a table that is
 -- not well formed, a link record that is not in range or output room below 262 bytes a call is refused; from

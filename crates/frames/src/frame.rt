@@ -68,7 +68,8 @@ pub fn frame_in_place(out: &mut [u8], at: usize, n: usize, control: u8)
 // Whether f begins as a data frame of its length with this control byte does: 68 L L 68 C.
 fn is_headed(f: &[u8], c: u8) -> bool
     requires { ⌜ 7 ≤ length (now f) ⌝ }
-    ensures { λ r. ⌜ r ≡ same (take 5 (now (f .entry))) (0x68 ∷ (length (now (f .entry)) - 6) ∷ (length (now (f .entry)) - 6) ∷ 0x68 ∷ c ∷ []) ⌝ }
+    ensures { λ r. ⌜ r ≡ same (take 5 (now (f .entry)))
+        (0x68 ∷ (length (now (f .entry)) - 6) ∷ (length (now (f .entry)) - 6) ∷ 0x68 ∷ c ∷ []) ⌝ }
 {
     let n = f.len();
     let count = n - 6;

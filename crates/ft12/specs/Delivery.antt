@@ -71,4 +71,9 @@ hearing (b ∷ bs) l =
 
 -- bytes, and the idle mark behind them
 unfoldable pub delivered : List ℕ → Line → Hearing
-delivered bs l = record { sent = hearing bs l .sent; ups = hearing bs l .ups; line = onIdleMark (hearing bs l .line) .line }
+delivered bs l =
+    record {
+      sent = hearing bs l .sent;
+      ups = hearing bs l .ups;
+      line = onIdleMark (hearing bs l .line) .line;
+    }

@@ -92,7 +92,8 @@ twoValued dropping expected send = isYesOrNo dropping && isYesOrNo expected && i
 
 -- the lengths are within the memory, "and [..] its unused bytes are 0"
 unfoldable pub memoryOk : Link → Bool
-memoryOk k = isPadded 260 (k .received) (k .receiver) && isPadded 261 (k .held) (k .outstanding) && twoValued (k .dropping) (k .expected) (k .send)
+memoryOk k = isPadded 260 (k .received) (k .receiver) && isPadded 261 (k .held) (k .outstanding)
+    && twoValued (k .dropping) (k .expected) (k .send)
 
 unfoldable pub inRange : Link → Bool
 inRange k = memoryOk k && lineOk (lineOf k)

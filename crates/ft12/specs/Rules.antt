@@ -39,7 +39,15 @@ still l = record { sent = []; up = nothing; line = l }
 
 -- the line with another receiver
 abbrev pub receiving : List ℕ → Bool → Line → Line
-receiving g d l = record { gathered = g; dropping = d; expected = l .expected; send = l .send; outstanding = l .outstanding; resends = l .resends }
+receiving g d l =
+    record {
+      gathered = g;
+      dropping = d;
+      expected = l .expected;
+      send = l .send;
+      outstanding = l .outstanding;
+      resends = l .resends;
+    }
 
 -- the receiver at a frame start
 unfoldable pub atStart : Line → Line
@@ -55,14 +63,38 @@ gathering g l = receiving g false l
 -- nothing outstanding any more, and this send bit: "one that is cleared or dropped leaves count 0 and none of its
 -- bytes"
 unfoldable pub cleared : Bool → Line → Line
-cleared send l = record { gathered = l .gathered; dropping = l .dropping; expected = l .expected; send = send; outstanding = []; resends = 0 }
+cleared send l =
+    record {
+      gathered = l .gathered;
+      dropping = l .dropping;
+      expected = l .expected;
+      send = send;
+      outstanding = [];
+      resends = 0;
+    }
 
 -- this frame outstanding, sent again so often
 unfoldable pub holding : List ℕ → ℕ → Line → Line
-holding f n l = record { gathered = l .gathered; dropping = l .dropping; expected = l .expected; send = l .send; outstanding = f; resends = n }
+holding f n l =
+    record {
+      gathered = l .gathered;
+      dropping = l .dropping;
+      expected = l .expected;
+      send = l .send;
+      outstanding = f;
+      resends = n;
+    }
 
 unfoldable pub expecting : Bool → Line → Line
-expecting odd l = record { gathered = l .gathered; dropping = l .dropping; expected = odd; send = l .send; outstanding = l .outstanding; resends = l .resends }
+expecting odd l =
+    record {
+      gathered = l .gathered;
+      dropping = l .dropping;
+      expected = odd;
+      send = l .send;
+      outstanding = l .outstanding;
+      resends = l .resends;
+    }
 
 -- ---- a host byte: what it is to the link, by its judgement, the expected bit and whether nothing is outstanding
 
@@ -104,7 +136,12 @@ onHeard Ignored b l = still (atStart l)
 onHeard Acknowledged b l = record { sent = []; up = acknowledged; line = cleared (not (l .send)) (atStart l) }
 onHeard Reset b l = record { sent = acknowledgement; up = reset; line = expecting true (cleared true (atStart l)) }
 onHeard Repeat b l = record { sent = acknowledgement; up = nothing; line = atStart l }
-onHeard (Request n) b l = record { sent = acknowledgement; up = message (messageOf (l .gathered ++ b ∷ [])); line = expecting (not (l .expected)) (atStart l) }
+onHeard (Request n) b l =
+    record {
+      sent = acknowledgement;
+      up = message (messageOf (l .gathered ++ b ∷ []));
+      line = expecting (not (l .expected)) (atStart l);
+    }
 
 unfoldable pub onHostByte : ℕ → Line → Moved
 onHostByte b l = onHeard (heardAt b l) b l
@@ -146,7 +183,11 @@ onIdleMark l = still (atStart l)
 unfoldable pub onAckWaitOver : Line → Moved
 onAckWaitOver l =
     if isEmpty (l .outstanding) then still l
-    else if ltb (l .resends) 3 then record { sent = l .outstanding; up = nothing; line = holding (l .outstanding) (l .resends + 1) l }
+    else if ltb (l .resends) 3 then record {
+      sent = l .outstanding;
+      up = nothing;
+      line = holding (l .outstanding) (l .resends + 1) l;
+    }
     else record { sent = fixedFrame 0xC0; up = dropped; line = cleared true l }
 
 -- A message is taken back: framed, sent and held as outstanding; "a new frame starts with count 0". No message is
@@ -155,4 +196,8 @@ onAckWaitOver l =
 unfoldable pub onMessage : List ℕ → Line → Moved
 onMessage m l =
     if isEmpty m || ltb longestMessage (length m) || not (isEmpty (l .outstanding)) then still l
-    else record { sent = dataFrame (serverControl (l .send)) m; up = nothing; line = holding (dataFrame (serverControl (l .send)) m) 0 l }
+    else record {
+      sent = dataFrame (serverControl (l .send)) m;
+      up = nothing;
+      line = holding (dataFrame (serverControl (l .send)) m) 0 l;
+    }

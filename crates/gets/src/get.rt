@@ -149,7 +149,8 @@ fn parameters_present(count: usize, start: usize, number: usize) -> usize
 pub fn get_parameters(parameters: &[u8], m: &[u8], out: &mut [u8], at: usize) -> usize
     requires { ⌜ (length (now parameters) ≤ 255) × (6 ≤ length (now m)) × (subService (now m) < 0x80)
         × (at + 254 ≤ length (now out)) ⌝ }
-    ensures { λ r. ⌜ Written (now (out .entry)) at (getParameterByte (parametersOnly (now (parameters .entry))) (now (m .entry)) .says) r (now (out .exit)) ⌝ }
+    ensures { λ r. ⌜ Written (now (out .entry)) at
+        (getParameterByte (parametersOnly (now (parameters .entry))) (now (m .entry)) .says) r (now (out .exit)) ⌝ }
 {
     let v = request_verdict(m, false);
     if v.code != NO_ERROR {
@@ -205,7 +206,8 @@ pub fn get_datapoints(
 pub fn get_items(table: &[Item], m: &[u8], out: &mut [u8], at: usize) -> usize
     requires { ⌜ (tableOk 64 itemId itemOk (now table) ≡ true) × (6 ≤ length (now m)) × (subService (now m) < 0x80)
         × (at + 254 ≤ length (now out)) ⌝ }
-    ensures { λ r. ⌜ Written (now (out .entry)) at (getServerItem (itemsOnly (now (table .entry))) (now (m .entry)) .says) r (now (out .exit)) ⌝ }
+    ensures { λ r. ⌜ Written (now (out .entry)) at
+        (getServerItem (itemsOnly (now (table .entry))) (now (m .entry)) .says) r (now (out .exit)) ⌝ }
 {
     let v = request_verdict(m, false);
     if v.code != NO_ERROR {

@@ -27,7 +27,8 @@ fn is_two_valued(dropping: u8, expected: u8, send: u8) -> bool
 // Whether the receiver's n bytes are a beginning, or none while it drops, and the others 0.
 fn is_receiver_ok(receiver: &[u8], n: usize, dropping: bool) -> bool
     requires { ⌜ length (now receiver) ≡ 260 ⌝ }
-    ensures { λ r. ⌜ r ≡ (isPadded 260 n (now (receiver .entry)) && receiverOk dropping (take n (now (receiver .entry)))) ⌝ }
+    ensures { λ r. ⌜ r ≡ (isPadded 260 n (now (receiver .entry))
+        && receiverOk dropping (take n (now (receiver .entry)))) ⌝ }
 {
     if receiver.len() < n {
         return false;
@@ -45,7 +46,8 @@ fn is_receiver_ok(receiver: &[u8], n: usize, dropping: bool) -> bool
 // most, and the others are 0.
 fn is_outstanding_ok(outstanding: &[u8], n: usize, send: bool, resends: u8) -> bool
     requires { ⌜ length (now outstanding) ≡ 261 ⌝ }
-    ensures { λ r. ⌜ r ≡ (isPadded 261 n (now (outstanding .entry)) && outstandingOk send resends (take n (now (outstanding .entry)))) ⌝ }
+    ensures { λ r. ⌜ r ≡ (isPadded 261 n (now (outstanding .entry))
+        && outstandingOk send resends (take n (now (outstanding .entry)))) ⌝ }
 {
     if outstanding.len() < n {
         return false;
@@ -75,8 +77,10 @@ fn are_parts_in_range(
     resends: u8,
 ) -> bool
     ensures { λ r. ⌜ r ≡ (twoValued dropping expected send
-        && (isPadded 260 received (now (receiver .entry)) && receiverOk (isYes dropping) (take received (now (receiver .entry)))
-        && (isPadded 261 held (now (outstanding .entry)) && outstandingOk (isYes send) resends (take held (now (outstanding .entry)))))) ⌝ }
+        && (isPadded 260 received (now (receiver .entry))
+        && receiverOk (isYes dropping) (take received (now (receiver .entry)))
+        && (isPadded 261 held (now (outstanding .entry))
+        && outstandingOk (isYes send) resends (take held (now (outstanding .entry)))))) ⌝ }
 {
     if is_two_valued(dropping, expected, send) {
         let n = received as usize;

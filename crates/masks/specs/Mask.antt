@@ -22,8 +22,8 @@ bitsFrom b m = 2 ^ m - 2 ^ b
 unfoldable pub usedBits : ℕ → ℕ
 usedBits typecode = if ltb typecode 7 then typecode + 1 else 8 * sizeOf typecode
 
--- low: the state and the value's first seven bytes. high: its last seven and the mark. Of the state, bits 7 to 5; of the
--- mark, bits 7 to 1.
+-- low: the state and the value's first seven bytes. high: its last seven and the mark. Of the state, bits 7 to 5; of
+-- the mark, bits 7 to 1.
 unfoldable pub datapointMasks : ℕ → Masks
 datapointMasks typecode =
     record {

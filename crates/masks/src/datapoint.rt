@@ -119,7 +119,9 @@ pub fn fits_after(d: Datapoint, last: u16) -> bool
 // Whether four records may stand one behind the other, the first behind one with the ID `last`. Four a turn: one
 // loop's jump and count for four records.
 pub fn four_fit_after(a: Datapoint, b: Datapoint, c: Datapoint, d: Datapoint, last: u16) -> bool
-    ensures { λ r. ⌜ r ≡ (ltb last (a .id) && datapointOk a && (ltb (a .id) (b .id) && datapointOk b && (ltb (b .id) (c .id) && datapointOk c && (ltb (c .id) (d .id) && datapointOk d)))) ⌝ }
+    ensures { λ r. ⌜ r ≡ (ltb last (a .id) && datapointOk a
+        && (ltb (a .id) (b .id) && datapointOk b
+        && (ltb (b .id) (c .id) && datapointOk c && (ltb (c .id) (d .id) && datapointOk d)))) ⌝ }
 {
     if !fits_after(a, last) {
         return false;

@@ -76,7 +76,8 @@ fn put_head(out: &mut [u8], at: usize, sub: u8, start: u16, count: u16) -> usize
 // What stands in front of the entries of a get's answer.
 pub fn put_answer_head(out: &mut [u8], at: usize, m: &[u8], count: u16) -> usize
     requires { ⌜ (6 ≤ length (now m)) × (subService (now m) < 0x80) × (at + 6 ≤ length (now out)) ⌝ }
-    ensures { λ r. ⌜ Written (now (out .entry)) at (0xF0 ∷ (subService (now (m .entry)) + 0x80) ∷ twoBytes (startOf (now (m .entry))) ++ twoBytes count) r (now (out .exit)) ⌝ }
+    ensures { λ r. ⌜ Written (now (out .entry)) at (0xF0 ∷ (subService (now (m .entry)) + 0x80)
+        ∷ twoBytes (startOf (now (m .entry))) ++ twoBytes count) r (now (out .exit)) ⌝ }
 {
     let start = start_of(m);
     put_head(&mut *out, at, m[1] + ANSWER, start, count)
@@ -87,7 +88,8 @@ pub fn put_answer_head(out: &mut [u8], at: usize, m: &[u8], count: u16) -> usize
 pub fn put_indication_head(out: &mut [u8], at: usize, count: u16)
     requires { ⌜ at + 8 ≤ length (now out) ⌝ }
     ensures { λ _. ⌜ now (out .exit)
-        ≡ put (now (out .entry)) at (0xF0 ∷ 0xC1 ∷ getD (now (out .entry)) (at + 6) 0 ∷ getD (now (out .entry)) (at + 7) 0 ∷ twoBytes count) ⌝ }
+        ≡ put (now (out .entry)) at (0xF0 ∷ 0xC1 ∷ getD (now (out .entry)) (at + 6) 0
+        ∷ getD (now (out .entry)) (at + 7) 0 ∷ twoBytes count) ⌝ }
 {
     let high = out[at + 6];
     let low = out[at + 7];

@@ -28,7 +28,8 @@ pub fn call(
     out: &mut [u8],
 ) -> Reply
     ensures { λ r. ⌜ Leaves (call event (now (value .entry))
-        (tablesOf (now (datapoints .entry)) (now (items .entry)) (now (parameters .entry))) (now (link .entry)) (now (out .entry))) r
+        (tablesOf (now (datapoints .entry)) (now (items .entry)) (now (parameters .entry))) (now (link .entry))
+        (now (out .entry))) r
         (tablesOf (now (datapoints .exit)) (now (items .exit)) (now (parameters .entry))) (now (link .exit))
         (now (out .exit)) ⌝ }
 {

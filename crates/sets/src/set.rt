@@ -169,7 +169,8 @@ fn item_set_at(s: &[u8], at: usize, i: Item) -> Item
 fn find_entries(table: &[Datapoint], m: &[u8], n: u16, entries: &mut [EntryPlace]) -> bool
     requires { ⌜ (length (now table) ≤ 1000) × (rising 0 (map datapointId (now table)) ≡ true) × (6 ≤ length (now m))
         × (length (now m) ≤ 254) × (62 ≤ length (now entries)) ⌝ }
-    ensures { λ r. ⌜ EntriesFound (now (table .entry)) (now (m .entry)) n (now (entries .entry)) r (now (entries .exit)) ⌝ }
+    ensures { λ r. ⌜ EntriesFound (now (table .entry)) (now (m .entry)) n (now (entries .entry)) r (now (entries .exit))
+        ⌝ }
 {
     let mut at: usize = MESSAGE_HEAD;
     let mut k: usize = 0;
@@ -282,7 +283,9 @@ fn judge_datapoints(table: &[Datapoint], m: &[u8], entries: &[EntryPlace], n: u1
     requires { ⌜ (length (now table) ≤ 1000) × (rising 0 (map datapointId (now table)) ≡ true)
         × (fills 4 n (drop 6 (now m)) ≡ true)
         × (take n (now entries) ≡ entryPlaces (now table) n 6 (drop 6 (now m))) ⌝ }
-    ensures { λ r. ⌜ r ≡ verdictOf (firstBad (λ e. judgedDatapoint (found datapointId (e .id) (now (table .entry))) e) (setEntries firstDatapointEntry 4 n (drop 6 (now (m .entry))))) ⌝ }
+    ensures { λ r. ⌜ r ≡ verdictOf
+        (firstBad (λ e. judgedDatapoint (found datapointId (e .id) (now (table .entry))) e)
+        (setEntries firstDatapointEntry 4 n (drop 6 (now (m .entry))))) ⌝ }
 {
     let mut k: usize = 0;
     let count = n as usize;
@@ -325,7 +328,9 @@ fn apply_datapoints(table: &mut [Datapoint], m: &[u8], entries: &[EntryPlace], n
 fn judge_items(table: &[Item], m: &[u8], n: u16) -> Verdict
     requires { ⌜ (length (now table) ≤ 64) × (rising 0 (map itemId (now table)) ≡ true)
         × (fills 3 n (drop 6 (now m)) ≡ true) ⌝ }
-    ensures { λ r. ⌜ r ≡ verdictOf (firstBad (λ e. judgedItem (found itemId (e .id) (now (table .entry))) e) (setEntries firstItemEntry 3 n (drop 6 (now (m .entry))))) ⌝ }
+    ensures { λ r. ⌜ r ≡ verdictOf
+        (firstBad (λ e. judgedItem (found itemId (e .id) (now (table .entry))) e)
+        (setEntries firstItemEntry 3 n (drop 6 (now (m .entry))))) ⌝ }
 {
     let mut at: usize = MESSAGE_HEAD;
     let mut left = n;
@@ -393,7 +398,8 @@ fn set_verdict(m: &[u8], head: usize) -> Verdict
 pub fn set_datapoints(table: &mut [Datapoint], m: &[u8], out: &mut [u8], at: usize) -> usize
     requires { ⌜ (tableOk 1000 datapointId datapointOk (now table) ≡ true) × (6 ≤ length (now m))
         × (length (now m) ≤ 254) × (subService (now m) < 0x80) × (at + 254 ≤ length (now out)) ⌝ }
-    ensures { λ r. ⌜ Answered (setDatapointValue (datapointsOnly (now (table .entry))) (now (m .entry)) .after .datapoints)
+    ensures { λ r. ⌜ Answered
+        (setDatapointValue (datapointsOnly (now (table .entry))) (now (m .entry)) .after .datapoints)
         (now (out .entry)) at (setDatapointValue (datapointsOnly (now (table .entry))) (now (m .entry)) .says) r
         (now (out .exit)) (now (table .exit)) ⌝ }
 {

@@ -27,7 +27,8 @@ pub extern "C" fn tagobrelin_call(
     out: &mut [u8],
 ) -> i32
     ensures { λ r. ⌜ Gives (calledBy event byte id outcome (now (value .entry))
-        (tablesOf (now (datapoints .entry)) (now (items .entry)) (now (parameters .entry))) (now (link .entry)) (now (out .entry))) r
+        (tablesOf (now (datapoints .entry)) (now (items .entry)) (now (parameters .entry))) (now (link .entry))
+        (now (out .entry))) r
         (tablesOf (now (datapoints .exit)) (now (items .exit)) (now (parameters .entry))) (now (link .exit))
         (now (out .exit)) ⌝ }
 {

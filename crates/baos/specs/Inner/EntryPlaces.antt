@@ -16,4 +16,8 @@ use Rattle.baos.specs.Set.{firstDatapointEntry, span}
 unfoldable pub entryPlaces : List Datapoint → ℕ → ℕ → List ℕ → List EntryPlace
 entryPlaces ds zero at s = []
 entryPlaces ds (suc n) at s =
-    elim (leb 4 (length s) && leb (span 4 s) (length s)) [ true ↦ record { at = at; place = place datapointId (firstDatapointEntry s .id) ds } ∷ entryPlaces ds n (at + span 4 s) (drop (span 4 s) s) | false ↦ [] ]
+    elim (leb 4 (length s) && leb (span 4 s) (length s)) [
+      | true ↦ record { at = at; place = place datapointId (firstDatapointEntry s .id) ds }
+          ∷ entryPlaces ds n (at + span 4 s) (drop (span 4 s) s)
+      | false ↦ []
+    ]

@@ -97,7 +97,13 @@ sizeAsked values = if values then 7 else 6
 
 -- what a get of values, or of anything else, asks for
 unfoldable pub wantedOf : Bool → List ℕ → Wanted
-wantedOf values m = record { start = startOf m; end = startOf m + numberOf m; filter = filterAsked values m; values = values }
+wantedOf values m =
+    record {
+      start = startOf m;
+      end = startOf m + numberOf m;
+      filter = filterAsked values m;
+      values = values;
+    }
 
 -- Rows 10 and 6, known before the first pass.
 unfoldable pub requestFinding : Bool → List ℕ → Finding

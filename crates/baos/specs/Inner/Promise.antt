@@ -28,13 +28,15 @@ pub record WrittenWide (out : List ℕ) (at : ℕ) (wide bytes : List ℕ) (end 
   pub ends : end ≡ at + length bytes
 
 -- bytes written, and the table as it is to be left
-pub record Answered {A : Type 0} (left : List A) (out : List ℕ) (at : ℕ) (bytes : List ℕ) (end : ℕ) (out′ : List ℕ) (table′ : List A) : Type 0 where
+pub record Answered {A : Type 0} (left : List A) (out : List ℕ) (at : ℕ) (bytes : List ℕ) (end : ℕ) (out′ : List ℕ)
+    (table′ : List A) : Type 0 where
   pub table : table′ ≡ left
   pub buffer : out′ ≡ put out at bytes
   pub ends : end ≡ at + length bytes
 
 -- a message carried out: its answer written, and both tables
-pub record Carried (s : Served) (out : List ℕ) (at end : ℕ) (out′ : List ℕ) (ds′ : List Datapoint) (is′ : List Item) : Type 0 where
+pub record Carried (s : Served) (out : List ℕ) (at end : ℕ) (out′ : List ℕ) (ds′ : List Datapoint) (is′ : List Item) :
+    Type 0 where
   pub datapoints : ds′ ≡ s .after .datapoints
   pub items : is′ ≡ s .after .items
   pub buffer : out′ ≡ put out at (s .says)
@@ -42,12 +44,14 @@ pub record Carried (s : Served) (out : List ℕ) (at end : ℕ) (out′ : List �
 
 -- the first n entries of the message m found: whether they fill it exactly, and the list, which begins with them and
 -- is as it was behind
-pub record EntriesFound (ds : List Datapoint) (m : List ℕ) (n : ℕ) (es : List EntryPlace) (filled : Bool) (es′ : List EntryPlace) : Type 0 where
+pub record EntriesFound (ds : List Datapoint) (m : List ℕ) (n : ℕ) (es : List EntryPlace) (filled : Bool)
+    (es′ : List EntryPlace) : Type 0 where
   pub answer : filled ≡ fills 4 n (drop 6 m)
   pub entries : es′ ≡ entryPlaces ds n 6 (drop 6 m) ++ drop (length (entryPlaces ds n 6 (drop 6 m))) es
 
 -- the marked datapoints told as far as they fit: the table, their entries, how many there are and where they end
-pub record MarkedTold (ds : List Datapoint) (out : List ℕ) (at : ℕ) (told : Told) (out′ : List ℕ) (ds′ : List Datapoint) : Type 0 where
+pub record MarkedTold (ds : List Datapoint) (out : List ℕ) (at : ℕ) (told : Told) (out′ : List ℕ)
+    (ds′ : List Datapoint) : Type 0 where
   pub table : ds′ ≡ afterReport (choices roomForEntries ds)
   pub buffer : out′ ≡ put out at (entriesTold (choices roomForEntries ds))
   pub counted : told .count ≡ length (reported (choices roomForEntries ds))
