@@ -7,6 +7,8 @@ use native.Mathlib.Omega.{arith}
 use native.Mathlib.Numerals.{add-one}
 use lib.ListN.{length, take, getD}
 use lib.Seq.{take-suc, take-all}
+use lib.Dec.{eqb}
+use borrow.Author.Tests.{eqb-true, eq-eqb}
 use Rattle.baos.specs.declared.datapoint.Datapoint.{Datapoint}
 use Rattle.baos.specs.declared.item.Item.{Item}
 use Rattle.bench.specs.Same.{Decides}
@@ -32,6 +34,10 @@ shown p = ((λ _. p), (λ _. refl))
 -- a test of a part of Q fails
 pub failed : {P Q : Type 0} {b : Bool} → Decides b P → b ≡ false → (Q → P) → Decides false Q
 failed d e f = refuted (λ q. false-true (sym e ∙ d .1 (f q)))
+
+-- two numbers, compared
+pub compared : (a b : ℕ) → Decides (eqb a b) (a ≡ b)
+compared a b = ((λ e. eqb-true a b e), (λ q. eq-eqb a b q))
 
 -- what is left of Q is P
 pub left-to : {P Q : Type 0} {b : Bool} → Decides b P → (P → Q) → (Q → P) → Decides b Q

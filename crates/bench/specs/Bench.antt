@@ -20,10 +20,10 @@ idleLink expected send =
 
 -- what stands in the places of a table that are not in use
 unfoldable pub noDatapoint : Datapoint
-noDatapoint = record { id = 0; typecode = 0; flags = 0; dpt = 0; state = 0; value = replicate 14 0; mark = false }
+noDatapoint = record { id = 0; typecode = 0; flags = 0; dpt = 0; state = 0; value = replicate 14 0; mark = 0 }
 
 unfoldable pub noItem : Item
-noItem = record { id = 0; size = 0; writable = false; bytes = replicate 16 0 }
+noItem = record { id = 0; size = 0; writable = 0; bytes = replicate 16 0 }
 
 -- "unless said, nothing is outstanding and both bits are odd"
 unfoldable pub emptyBench : Bench

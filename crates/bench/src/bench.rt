@@ -3,6 +3,7 @@
 ghost use mathlib.Core.Path.{_≡_};
 ghost use Rattle.bench.specs.Bench.{idleLink, emptyBench, withLink, withDatapoint, withItem, withParameters};
 ghost use Rattle.bench.specs.Bench.{withValue};
+ghost use Rattle.words.specs.Words.{yesOrNo};
 use baos::datapoint::Datapoint;
 use baos::item::Item;
 use calls::reply::Reply;
@@ -26,6 +27,16 @@ pub struct Bench {
 
 // ---- a bench is made
 
+// 1 for yes, 0 for no, as lent memory has it.
+fn yes_or_no(said: bool) -> u8
+    ensures { λ r. ⌜ r ≡ yesOrNo said ⌝ }
+{
+    if said {
+        return 1;
+    }
+    0
+}
+
 // The link record with nothing received, nothing outstanding, and these count bits: true is odd.
 pub fn idle_link(expected: bool, send: bool) -> Link
     ensures { λ r. ⌜ r ≡ idleLink expected send ⌝ }
@@ -33,9 +44,9 @@ pub fn idle_link(expected: bool, send: bool) -> Link
     Link {
         receiver: [0; 260],
         received: 0,
-        dropping: false,
-        expected: expected,
-        send: send,
+        dropping: 0,
+        expected: yes_or_no(expected),
+        send: yes_or_no(send),
         outstanding: [0; 261],
         held: 0,
         resends: 0,
@@ -55,12 +66,12 @@ pub fn empty() -> Bench
         dpt: 0,
         state: 0,
         value: [0; 14],
-        mark: false,
+        mark: 0,
     };
     let item = Item {
         id: 0,
         size: 0,
-        writable: false,
+        writable: 0,
         bytes: [0; 16],
     };
     Bench {

@@ -38,7 +38,7 @@ fn same_datapoint(a: Datapoint, b: Datapoint) -> bool
     if a.state != b.state {
         return false;
     }
-    same_bit(a.mark, b.mark)
+    a.mark == b.mark
 }
 
 fn same_item(a: Item, b: Item) -> bool
@@ -55,7 +55,7 @@ fn same_item(a: Item, b: Item) -> bool
     if a.size != b.size {
         return false;
     }
-    same_bit(a.writable, b.writable)
+    a.writable == b.writable
 }
 
 fn same_datapoints(a: [Datapoint; 50], b: [Datapoint; 50]) -> bool
@@ -116,13 +116,13 @@ pub fn same_tables(a: Bench, b: Bench) -> bool
 pub fn is_link(link: Link, expected: bool, send: bool, dropping: bool, outstanding: &[u8]) -> bool
     ensures { λ r. ⌜ Decides r (LinkIs link expected send dropping (now (outstanding .entry))) ⌝ }
 {
-    if !same_bit(link.expected, expected) {
+    if !same_bit(link.expected == 1, expected) {
         return false;
     }
-    if !same_bit(link.send, send) {
+    if !same_bit(link.send == 1, send) {
         return false;
     }
-    if !same_bit(link.dropping, dropping) {
+    if !same_bit(link.dropping == 1, dropping) {
         return false;
     }
     let n = link.held as usize;

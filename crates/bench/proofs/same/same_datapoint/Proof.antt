@@ -1,7 +1,7 @@
 use borrow.Author.Needs.{needs}
 use mathlib.Core.Path.{ap}
 use Rattle.baos.specs.declared.datapoint.Datapoint.{Datapoint}
-use Rattle.bench.proofs.SameLaws.{not-true, not-false, refuted, failed, left-to, datapoint-same}
+use Rattle.bench.proofs.SameLaws.{not-true, not-false, refuted, failed, left-to, compared, datapoint-same}
 use Rattle.bench.proofs.same.same_datapoint.Statement.{statement}
 use Rattle.bench.proofs.same.same_datapoint.Tie as tie
 
@@ -32,14 +32,11 @@ returns-5 c = refuted (λ q. c .if5 .taken (ap (λ (d : Datapoint). d .dpt) q))
 returns-6 : tie.Need-returns-6
 returns-6 c = refuted (λ q. c .if6 .taken (ap (λ (d : Datapoint). d .state) q))
 
-same-bit-requires : tie.Need-same-bit-requires
-same-bit-requires c κs = search needs
-
 returns-7 : tie.Need-returns-7
 returns-7 c =
-    left-to (c .same-bit .ensures)
-    (λ m. datapoint-same _ _ (c .before .before .before .before .before .before .before .before .before .before .before .before .before .if2 .left) (c .before .before .before .before .before .before .before .before .before .before .if3 .left) (c .before .before .before .before .before .before .before .if4 .left) (c .before .before .before .before .if5 .left) (c .before .if6 .left) m
-    (c .before .before .before .before .before .before .before .before .before .before .before .before .before .before .before .before .before .same .ensures .0 (not-false _ (c .before .before .before .before .before .before .before .before .before .before .before .before .before .before .before .before .if1 .left))))
+    left-to (compared _ _)
+    (λ m. datapoint-same _ _ (c .before .before .before .before .before .before .before .before .before .before .before .before .if2 .left) (c .before .before .before .before .before .before .before .before .before .if3 .left) (c .before .before .before .before .before .before .if4 .left) (c .before .before .before .if5 .left) (c .if6 .left) m
+    (c .before .before .before .before .before .before .before .before .before .before .before .before .before .before .before .before .same .ensures .0 (not-false _ (c .before .before .before .before .before .before .before .before .before .before .before .before .before .before .before .if1 .left))))
     (λ q. ap (λ (d : Datapoint). d .mark) q)
 
 pub same-datapoint-spec : {M : Type 1} → statement M
@@ -55,5 +52,4 @@ same-datapoint-spec =
     returns-4
     returns-5
     returns-6
-    same-bit-requires
     returns-7)

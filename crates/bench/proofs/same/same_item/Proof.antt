@@ -1,7 +1,7 @@
 use borrow.Author.Needs.{needs}
 use mathlib.Core.Path.{ap}
 use Rattle.baos.specs.declared.item.Item.{Item}
-use Rattle.bench.proofs.SameLaws.{not-true, not-false, refuted, failed, left-to, item-same}
+use Rattle.bench.proofs.SameLaws.{not-true, not-false, refuted, failed, left-to, compared, item-same}
 use Rattle.bench.proofs.same.same_item.Statement.{statement}
 use Rattle.bench.proofs.same.same_item.Tie as tie
 
@@ -23,13 +23,10 @@ returns-2 c = refuted (λ q. c .if2 .taken (ap (λ (i : Item). i .id) q))
 returns-3 : tie.Need-returns-3
 returns-3 c = refuted (λ q. c .if3 .taken (ap (λ (i : Item). i .size) q))
 
-same-bit-requires : tie.Need-same-bit-requires
-same-bit-requires c κs = search needs
-
 returns-4 : tie.Need-returns-4
 returns-4 c =
-    left-to (c .same-bit .ensures)
-    (λ w. item-same _ _ (c .before .before .before .before .if2 .left) (c .before .if3 .left) w (c .before .before .before .before .before .before .before .before .same .ensures .0 (not-false _ (c .before .before .before .before .before .before .before .if1 .left))))
+    left-to (compared _ _)
+    (λ w. item-same _ _ (c .before .before .before .if2 .left) (c .if3 .left) w (c .before .before .before .before .before .before .before .same .ensures .0 (not-false _ (c .before .before .before .before .before .before .if1 .left))))
     (λ q. ap (λ (i : Item). i .writable) q)
 
 pub same-item-spec : {M : Type 1} → statement M
@@ -42,5 +39,4 @@ same-item-spec =
     returns
     returns-2
     returns-3
-    same-bit-requires
     returns-4)
