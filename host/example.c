@@ -3,7 +3,7 @@
 #include <unistd.h>
 #include "tagobrelin.h"
 
-static struct tagobrelin_datapoint datapoints[] = {{.id = 5, .typecode = 0, .state = 0x18, .value = {1}, .mark = true}};
+static struct tagobrelin_datapoint datapoints[] = {{.id = 5, .typecode = 0, .state = 0x18, .value = {1}, .mark = 1}};
 static struct tagobrelin_item items[] = {{.id = 1, .size = 6, .bytes = {0x00, 0x00, 0xC5, 0x07, 0x00, 0x02}}};
 static const uint8_t parameters[] = {0x2A};
 static struct tagobrelin_link line;

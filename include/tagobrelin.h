@@ -10,13 +10,11 @@
  *   - Datapoints, items and the link record lie at even addresses. (As C objects of these types they do.)
  *   - No two of these runs of memory overlap, but for value and parameters, which are only read; and nobody else writes to any of
  *     them while the call runs.
- *   - A bool is the byte 0 or 1. (C keeps that where a bool is assigned; memory read from a store is the caller's to look at.)
- * The contents may otherwise be anything: what is not in order is refused by number, and then no byte of anything is changed.
+ * The contents may be anything: what is not in order is refused by number, and then no byte of anything is changed.
  */
 #ifndef TAGOBRELIN_H
 #define TAGOBRELIN_H
 
-#include <stdbool.h>
 #include <stddef.h>
 #include <stdint.h>
 
@@ -32,24 +30,24 @@ struct tagobrelin_datapoint {
     uint8_t dpt;       /* datapoint type: any byte */
     uint8_t state;     /* bit 4 valid, 3 updated from bus, 2 data request, 1-0 transmission status; bits 7 to 5 are 0 */
     uint8_t value[14]; /* big-endian, from the first byte on; bits and bytes beyond the type's size are 0 */
-    bool mark;         /* the value came from the bus and waits for an indication */
+    uint8_t mark;      /* 1: the value came from the bus and waits for an indication; else 0 */
 };
 
 /* One server item. A table has 0 to 64 of them, their IDs 1 or more and strictly rising. */
 struct tagobrelin_item {
     uint16_t id;
     uint8_t size;      /* 1 to 16 */
-    bool writable;
+    uint8_t writable;  /* 1: a host may set it; else 0 */
     uint8_t bytes[16]; /* those beyond the size are 0 */
 };
 
-/* The link record: made by tagobrelin_fresh_link, and from then on changed by tagobrelin_call alone. A bit is true where it is odd. */
+/* The link record: made by tagobrelin_fresh_link, and from then on changed by tagobrelin_call alone. */
 struct tagobrelin_link {
     uint8_t receiver[260];    /* the bytes of the frame that is being received, and 0 behind them */
     uint16_t received;        /* how many they are */
-    bool dropping;            /* the receiver drops what comes, up to the next idle mark */
-    bool expected;            /* the count bit of the next request that is carried out */
-    bool send;                /* the count bit of the next frame that is sent, or of the outstanding one */
+    uint8_t dropping;         /* 1: the receiver drops what comes, up to the next idle mark; else 0 */
+    uint8_t expected;         /* the count bit of the next request that is carried out: 1 odd, 0 even */
+    uint8_t send;             /* the count bit of the next frame that is sent, or of the outstanding one: 1 odd, 0 even */
     uint8_t outstanding[261]; /* the frame that waits for its acknowledgement, and 0 behind it */
     uint16_t held;            /* how many bytes it has: 0 where nothing is outstanding */
     uint8_t resends;          /* how often it was sent again: 0 to 3 */
@@ -96,8 +94,8 @@ int32_t tagobrelin_call(uint8_t event, uint8_t byte, uint16_t id, uint8_t outcom
                         struct tagobrelin_link *link,
                         uint8_t *out, size_t room);
 
-/* Makes the link record that a reset leaves: the receiver at a frame start, both bits odd, nothing outstanding. Before it
- * the record's bools are 0 or 1, as at every call: static memory is, and other memory is zeroed first. */
+/* Makes the link record that a reset leaves, whatever stood there: the receiver at a frame start, both bits odd, nothing
+ * outstanding. */
 void tagobrelin_fresh_link(struct tagobrelin_link *link);
 
 #ifdef __cplusplus
@@ -109,7 +107,6 @@ void tagobrelin_fresh_link(struct tagobrelin_link *link);
 
 /* The layout that the archive was compiled for. */
 #define TAGOBRELIN_AT(type, field, at) TAGOBRELIN_ASSERT(offsetof(struct tagobrelin_##type, field) == at)
-TAGOBRELIN_ASSERT(sizeof(bool) == 1);
 TAGOBRELIN_ASSERT(sizeof(size_t) == 8);
 TAGOBRELIN_ASSERT(sizeof(struct tagobrelin_datapoint) == 22);
 TAGOBRELIN_AT(datapoint, id, 0);
