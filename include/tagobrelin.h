@@ -1,15 +1,17 @@
-/* Tagobrelin in C: what libtagobrelin.a exports.
+/* Tagobrelin in C: what libtagobrelin.a exports, and over it the face that a program uses: struct tagobrelin_server and one
+ * function an event, at the end of this file.
  *
- * Both functions are proved to do what crates/tagobrelin/src/exported.rt promises, for every content of the memory that they
- * are lent. They keep no state of their own, use no heap, and need memcpy and memset of the C library. The proof speaks of a
- * caller that keeps the rules below: nothing checks a C caller.
+ * The archive's two functions, tagobrelin_call and tagobrelin_fresh_link, are proved to do what crates/tagobrelin/src/exported.rt
+ * promises, for every content of the memory that they are lent. They keep no state of their own, use no heap, and need memcpy and
+ * memset of the C library. The proof speaks of a caller that keeps the rules below: nothing checks a C caller.
  *
  * A caller guarantees, at each call:
- *   - No pointer is null, not even one whose count is 0: pass the address of any byte then.
+ *   - No pointer is null, not even one whose count is 0: pass the address of any byte then. (The face does.)
  *   - Behind each pointer lies as much memory as its count says, and the counts are elements, not bytes.
  *   - Datapoints, items and the link record lie at even addresses. (As C objects of these types they do.)
  *   - No two of these runs of memory overlap, but for value and parameters, which are only read; and nobody else writes to any of
- *     them while the call runs.
+ *     them while the call runs. So two calls for one server are never made at the same time, also not one of them in an interrupt
+ *     or another thread; for two servers that share no memory they may be.
  * The contents may be anything: what is not in order is refused by number, and then no byte of anything is changed.
  */
 #ifndef TAGOBRELIN_H
@@ -17,6 +19,13 @@
 
 #include <stddef.h>
 #include <stdint.h>
+
+/* By semver.org, for the face at the end of this file. What it stands on, tagobrelin_call and the records' layout, may change in a
+ * minor version: header and archive are always taken together. CHANGELOG.md tells what changed. */
+#define TAGOBRELIN_VERSION_MAJOR 1
+#define TAGOBRELIN_VERSION_MINOR 0
+#define TAGOBRELIN_VERSION_PATCH 0
+#define TAGOBRELIN_VERSION "1.0.0"
 
 #ifdef __cplusplus
 extern "C" {
@@ -73,8 +82,8 @@ enum {
 /* What tagobrelin_call returns: 0 to 262, how many bytes from the start of `out` are to be sent to the host; or one of these.
  * Several at once: the first that applies, in the order TAGOBRELIN_NO_EVENT, -1, -2, -3, -4. */
 enum {
-    TAGOBRELIN_BAD_TABLE = -1,     /* a table is not well formed, or has more entries than above, or there are more than 255 parameter bytes */
-    TAGOBRELIN_BAD_LINK = -2,      /* the link record is not in range: it was not made by tagobrelin_fresh_link, or somebody wrote to it */
+    TAGOBRELIN_BAD_TABLE = -1,     /* a table is not well formed, or has more entries than above; or above 255 parameter bytes */
+    TAGOBRELIN_BAD_LINK = -2,      /* the link record is not in range: not made by tagobrelin_fresh_link, or written to since */
     TAGOBRELIN_NO_ROOM = -3,       /* `out` has room for less than TAGOBRELIN_ROOM bytes */
     TAGOBRELIN_BAD_BUS_EVENT = -4, /* no datapoint has this ID; or the value's length is not its type's, or unused bits are set */
     TAGOBRELIN_NO_EVENT = -100     /* the event is not 1 to 6, or it is 6 and the outcome is not 0 to 2 */
@@ -98,11 +107,120 @@ int32_t tagobrelin_call(uint8_t event, uint8_t byte, uint16_t id, uint8_t outcom
  * outstanding. */
 void tagobrelin_fresh_link(struct tagobrelin_link *link);
 
+/* ---- The face. Later versions add members and functions and take none away.
+ *
+ * A server: the tables that it holds, its end of the line, and what it sends. It is static or zeroed before its members are set, by
+ * name: a member that a later version adds is 0 then, which means none. */
+struct tagobrelin_server {
+    struct tagobrelin_datapoint *datapoints; /* may be null where the count is 0, as items and parameters may */
+    size_t datapoint_count;
+    struct tagobrelin_item *items;
+    size_t item_count;
+    uint8_t *parameters; /* only read today; not const, since a later version lets the host set them */
+    size_t parameter_count;
+    struct tagobrelin_link link;  /* made by tagobrelin_start; nobody else writes to it, or has to read it */
+    uint8_t out[TAGOBRELIN_ROOM]; /* what the last event left to be sent */
+};
+
+/* Before the first event: the link as a reset leaves it. The tables stay. */
+static inline void tagobrelin_start(struct tagobrelin_server *server)
+{
+    tagobrelin_fresh_link(&server->link);
+}
+
+/* One event by its number. The functions below are for use; this is what they have in common. */
+static inline int32_t tagobrelin_event(struct tagobrelin_server *server, uint8_t event, uint8_t byte, uint16_t id, uint8_t outcome,
+                                       const uint8_t *value, size_t value_count)
+{
+    /* Something that exists stands where there is no element. */
+    struct tagobrelin_datapoint no_datapoint;
+    struct tagobrelin_item no_item;
+    if ((!server->datapoints && server->datapoint_count > 0) || (!server->items && server->item_count > 0) ||
+        (!server->parameters && server->parameter_count > 0))
+        return TAGOBRELIN_BAD_TABLE;
+    return tagobrelin_call(event, byte, id, outcome, value ? value : server->out, value ? value_count : 0,
+                           server->datapoints ? server->datapoints : &no_datapoint, server->datapoint_count,
+                           server->items ? server->items : &no_item, server->item_count,
+                           server->parameters ? server->parameters : server->out, server->parameter_count,
+                           &server->link, server->out, sizeof server->out);
+}
+
+/* The six events. Each returns how many bytes from the start of `out` are to be sent now, 0 for none, or a number below 0: then it
+ * was refused and nothing changed. Only bus values and outcomes can be refused with tables that are in order. */
+
+static inline int32_t tagobrelin_host_byte(struct tagobrelin_server *server, uint8_t byte)
+{
+    return tagobrelin_event(server, TAGOBRELIN_HOST_BYTE, byte, 0, 0, NULL, 0);
+}
+
+/* The line was silent for TAGOBRELIN_GAP_BITS. */
+static inline int32_t tagobrelin_idle_mark(struct tagobrelin_server *server)
+{
+    return tagobrelin_event(server, TAGOBRELIN_IDLE_MARK, 0, 0, 0, NULL, 0);
+}
+
+/* A frame is outstanding, and TAGOBRELIN_ACK_WAIT_BITS are over since its last bit was on the line. */
+static inline int32_t tagobrelin_ack_wait_over(struct tagobrelin_server *server)
+{
+    return tagobrelin_event(server, TAGOBRELIN_ACK_WAIT_OVER, 0, 0, 0, NULL, 0);
+}
+
+/* An indication is sent, if one is due. Not while a request comes in: behind an indication it is dropped, and the host has to
+ * repeat it. */
+static inline int32_t tagobrelin_poll(struct tagobrelin_server *server)
+{
+    return tagobrelin_event(server, TAGOBRELIN_POLL, 0, 0, 0, NULL, 0);
+}
+
+/* The bus gave this value, of as many bytes as the datapoint's type has. */
+static inline int32_t tagobrelin_bus_value(struct tagobrelin_server *server, uint16_t id, const uint8_t *value, size_t value_count)
+{
+    return tagobrelin_event(server, TAGOBRELIN_BUS_VALUE, 0, id, 0, value, value_count);
+}
+
+/* A transmission came to TAGOBRELIN_SENT, TAGOBRELIN_FAILED or TAGOBRELIN_IN_PROGRESS. */
+static inline int32_t tagobrelin_outcome(struct tagobrelin_server *server, uint16_t id, uint8_t outcome)
+{
+    return tagobrelin_event(server, TAGOBRELIN_OUTCOME, 0, id, outcome, NULL, 0);
+}
+
+/* 1 where a frame is outstanding: sent, and not acknowledged yet. */
+static inline int tagobrelin_is_outstanding(const struct tagobrelin_server *server)
+{
+    return server->link.held > 0;
+}
+
+/* 1 where a frame from the host has begun and is not whole yet. */
+static inline int tagobrelin_is_receiving(const struct tagobrelin_server *server)
+{
+    return server->link.received > 0;
+}
+
+/* 1 where what comes is dropped, behind damage and up to the next idle mark. */
+static inline int tagobrelin_is_dropping(const struct tagobrelin_server *server)
+{
+    return server->link.dropping != 0;
+}
+
+/* Times on the line, in bit times. */
+enum {
+    TAGOBRELIN_BYTE_BITS = 11,     /* one byte: start bit, 8 data bits, even parity, stop bit */
+    TAGOBRELIN_GAP_BITS = 33,      /* the silence that is an idle mark */
+    TAGOBRELIN_ACK_WAIT_BITS = 510 /* the wait for an acknowledgement, from the frame's last bit on */
+};
+
+/* So many bit times in microseconds at this baud rate, rounded up. */
+#define TAGOBRELIN_MICROSECONDS(bits, baud) (((uint64_t)(bits) * 1000000u + (uint64_t)(baud) - 1u) / (uint64_t)(baud))
+
 #ifdef __cplusplus
 }
 #define TAGOBRELIN_ASSERT(fact) static_assert(fact, #fact)
-#else
+#elif defined __STDC_VERSION__ && __STDC_VERSION__ >= 201112L
 #define TAGOBRELIN_ASSERT(fact) _Static_assert(fact, #fact)
+#else /* C99 has no such assertion: a type, another for each line, that cannot be where the fact is none */
+#define TAGOBRELIN_ASSERT(fact) TAGOBRELIN_ASSERT_AT(fact, __LINE__)
+#define TAGOBRELIN_ASSERT_AT(fact, line) TAGOBRELIN_ASSERTED(fact, line)
+#define TAGOBRELIN_ASSERTED(fact, line) typedef char tagobrelin_asserted_##line[(fact) ? 1 : -1]
 #endif
 
 /* The layout that the archive was compiled for. */
@@ -132,5 +250,7 @@ TAGOBRELIN_AT(link, held, 526);
 TAGOBRELIN_AT(link, resends, 528);
 #undef TAGOBRELIN_AT
 #undef TAGOBRELIN_ASSERT
+#undef TAGOBRELIN_ASSERT_AT
+#undef TAGOBRELIN_ASSERTED
 
 #endif
