@@ -5,7 +5,11 @@
 #include <unistd.h>
 #include "tagobrelin.h"
 
-enum { BAUD = 19200 };
+enum { /* times in microseconds */
+    BAUD = 19200,
+    GAP = TAGOBRELIN_MICROSECONDS(TAGOBRELIN_GAP_BITS, BAUD),
+    ACK_WAIT = TAGOBRELIN_MICROSECONDS(TAGOBRELIN_ACK_WAIT_BITS, BAUD)
+};
 
 static struct tagobrelin_datapoint datapoints[] = {{.id = 5, .typecode = 0, .state = 0x18, .value = {1}, .mark = 1}};
 static struct tagobrelin_item items[] = {{.id = 1, .size = 6, .bytes = {0x00, 0x00, 0xC5, 0x07, 0x00, 0x02}}};
@@ -17,7 +21,7 @@ static struct tagobrelin_server server = {
 };
 static uint64_t line_free, frame_over; /* when all that was sent will be over the line, and when the last frame will */
 
-static uint64_t now(void) /* in microseconds, by a clock that always runs */
+static uint64_t now(void) /* by a clock that always runs */
 {
     struct timespec time;
     clock_gettime(CLOCK_MONOTONIC, &time);
@@ -26,10 +30,12 @@ static uint64_t now(void) /* in microseconds, by a clock that always runs */
 
 static void send_out(int32_t count) /* what an event returned */
 {
-    uint64_t start = now();
+    uint64_t time = now();
+    if (count == 0)
+        return;
     if (count < 0 || write(STDOUT_FILENO, server.out, (size_t)count) != count)
         _exit(1);
-    line_free = (line_free > start ? line_free : start) + TAGOBRELIN_MICROSECONDS(count * TAGOBRELIN_BYTE_BITS, BAUD);
+    line_free = (line_free > time ? line_free : time) + TAGOBRELIN_MICROSECONDS(count * TAGOBRELIN_BYTE_BITS, BAUD);
     if (count > 1) /* more than an acknowledgement: a frame */
         frame_over = line_free;
 }
@@ -41,9 +47,9 @@ int main(void)
     tagobrelin_start(&server);
     for (;;) {
         struct pollfd input = {.fd = STDIN_FILENO, .events = POLLIN};
-        uint64_t time = now(); /* before the look at the line: what came in time is heard before a time is over */
+        uint64_t time = now(); /* before the look at the line: what came in time is heard before a wait is over */
         if (poll(&input, 1, 1) > 0) {
-            uint8_t bytes[256];
+            uint8_t bytes[4096];
             ssize_t count = read(STDIN_FILENO, bytes, sizeof bytes);
             if (count <= 0)
                 return 0;
@@ -51,11 +57,11 @@ int main(void)
                 send_out(tagobrelin_host_byte(&server, bytes[i]));
             heard = now();
             idle = 0;
-        } else if (!idle && time >= heard + TAGOBRELIN_MICROSECONDS(TAGOBRELIN_GAP_BITS, BAUD)) {
+        } else if (!idle && time >= heard + GAP) {
             send_out(tagobrelin_idle_mark(&server));
             idle = 1;
         }
-        if (tagobrelin_is_outstanding(&server) && time >= frame_over + TAGOBRELIN_MICROSECONDS(TAGOBRELIN_ACK_WAIT_BITS, BAUD))
+        if (tagobrelin_is_outstanding(&server) && time >= frame_over + ACK_WAIT)
             send_out(tagobrelin_ack_wait_over(&server));
         if (idle) /* not while a request comes in: it would be dropped */
             send_out(tagobrelin_poll(&server));

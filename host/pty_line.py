@@ -218,10 +218,10 @@ def give_up(text):
 
 def found_archive(words):
     """The archive that the command line names, or the one that rt makes."""
-    archive = words[0] if words else os.path.join(HERE, '..', 'target', 'staticlib', 'libtagobrelin.a')
-    if not os.path.exists(archive):
-        give_up('there is no %s; `rt staticlib tagobrelin` makes it' % os.path.normpath(archive))
-    return archive
+    if words:
+        return words[0]
+    made = subprocess.run([os.path.join(HERE, 'archive')], stdout=subprocess.PIPE, text=True)
+    return made.stdout.strip() if made.returncode == 0 else give_up('the archive is made')
 
 
 def built_serve(folder, words):

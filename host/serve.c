@@ -183,7 +183,7 @@ static void hear_byte(uint8_t byte)
 
 static void hear(void)
 {
-    uint8_t bytes[256];
+    uint8_t bytes[4096]; /* all that a tty keeps: what came is heard before a wait is over */
     ssize_t count = read(line.tty, bytes, sizeof bytes);
     if (count < 0 && (errno == EAGAIN || errno == EINTR))
         return;
@@ -320,7 +320,7 @@ static void serve(void)
         }
         if (ready == 0)
             FD_ZERO(&readable);
-        /* What is over by the time before this look at the line is over: bytes that came until then were heard. */
+        /* A wait is over by the time before this look at the line: where this program is late, bytes may have come in time. */
         if (FD_ISSET(line.tty, &readable)) {
             hear();
         } else if (time >= idle_due) {

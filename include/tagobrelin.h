@@ -112,11 +112,11 @@ void tagobrelin_fresh_link(struct tagobrelin_link *link);
  * A server: the tables that it holds, its end of the line, and what it sends. It is static or zeroed before its members are set, by
  * name: a member that a later version adds is 0 then, which means none. */
 struct tagobrelin_server {
-    struct tagobrelin_datapoint *datapoints; /* may be null where the count is 0, as items and parameters may */
+    struct tagobrelin_datapoint *datapoints; /* null only where the count is 0, as items and parameters: else refused, -1 */
     size_t datapoint_count;
     struct tagobrelin_item *items;
     size_t item_count;
-    uint8_t *parameters; /* only read today; not const, since a later version lets the host set them */
+    uint8_t *parameters; /* only read today; not const, so that a later version can let the host set them */
     size_t parameter_count;
     struct tagobrelin_link link;  /* made by tagobrelin_start; nobody else writes to it, or has to read it */
     uint8_t out[TAGOBRELIN_ROOM]; /* what the last event left to be sent */
