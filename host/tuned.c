@@ -75,9 +75,9 @@ static const uint64_t unused_high[15] = {0xfeffffffffffffff, 0xfeffffffffffffff,
 static const uint8_t size_of[15] = {1, 1, 1, 1, 1, 1, 1, 1, 2, 3, 4, 6, 8, 10, 14};
 static const uint8_t first_byte_unused[15] = {0xfe, 0xfc, 0xf8, 0xf0, 0xe0, 0xc0, 0x80};
 
-/* by size: the bits of 16 bytes that have to be 0 */
-static const uint64_t item_low[17] = {~0ull, ~0ull << 8, ~0ull << 16, ~0ull << 24, ~0ull << 32, ~0ull << 40, ~0ull << 48, ~0ull << 56};
-static const uint64_t item_high[17] = {~0ull, ~0ull, ~0ull, ~0ull, ~0ull, ~0ull, ~0ull, ~0ull, ~0ull, ~0ull << 8, ~0ull << 16, ~0ull << 24,
+/* by size: the bits of 16 bytes that have to be 0; a size beyond has an entry too, since it is judged later than looked up */
+static const uint64_t item_low[256] = {~0ull, ~0ull << 8, ~0ull << 16, ~0ull << 24, ~0ull << 32, ~0ull << 40, ~0ull << 48, ~0ull << 56};
+static const uint64_t item_high[256] = {~0ull, ~0ull, ~0ull, ~0ull, ~0ull, ~0ull, ~0ull, ~0ull, ~0ull, ~0ull << 8, ~0ull << 16, ~0ull << 24,
                                        ~0ull << 32, ~0ull << 40, ~0ull << 48, ~0ull << 56, 0};
 
 /* One record: unused bits are gathered in `bad`; the top bit of `rises` stays set while each ID is above the one before it. */
@@ -108,11 +108,11 @@ static inline bool datapoints_are_well_formed(const datapoint *d, size_t n)
     return bad == 0 && rises != 0;
 }
 
+/* size and writable as one number, less 1: at most bits 8 and 3 to 0 where the size is 1 to 16 and writable 0 or 1 */
 #define LOOK_AT_ITEM(i)                                                                                  \
     do {                                                                                                 \
-        uint32_t both = two_bytes_as_they_lie(&(i)->size), size = both & 0xff, id = (i)->id;             \
-        if (RARELY((both - 1) & 0xfef0)) /* the size is not 1 to 16, or writable not 0 or 1 */           \
-            return false;                                                                                \
+        uint32_t size = (i)->size, id = (i)->id;                                                         \
+        sizes |= two_bytes_as_they_lie(&(i)->size) - 1;                                                  \
         bad |= (word((i)->bytes) & item_low[size]) | (word((i)->bytes + 8) & item_high[size]);           \
         rises &= last - id;                                                                              \
         last = id;                                                                                       \
@@ -120,7 +120,7 @@ static inline bool datapoints_are_well_formed(const datapoint *d, size_t n)
 
 static inline bool items_are_well_formed(const item *i, size_t n)
 {
-    uint32_t last = 0, rises = 1u << 31;
+    uint32_t last = 0, rises = 1u << 31, sizes = 0;
     uint64_t bad = 0;
     if (RARELY(n > 64))
         return false;
@@ -132,7 +132,7 @@ static inline bool items_are_well_formed(const item *i, size_t n)
     }
     for (; n; n--, i++)
         LOOK_AT_ITEM(i);
-    return bad == 0 && rises != 0;
+    return bad == 0 && rises != 0 && (sizes & 0xfef0) == 0;
 }
 
 /* how many datapoints have a lower ID */
