@@ -1,4 +1,4 @@
-/* The face of tagobrelin.h, each function of it; compiled as C and as C++ by host/face_test. Tells only what is wrong. */
+/* The face of tagobrelin.h, each function of it, compiled as C and as C++ by host/face_test. Tells what is wrong. */
 #include <stdio.h>
 #include <string.h>
 
@@ -6,6 +6,8 @@
 
 #define TEXT_OF(number) #number
 #define TEXT(number) TEXT_OF(number)
+#define VERSION_BY_NUMBERS \
+    TEXT(TAGOBRELIN_VERSION_MAJOR) "." TEXT(TAGOBRELIN_VERSION_MINOR) "." TEXT(TAGOBRELIN_VERSION_PATCH)
 #define EXPECT(fact) expect(fact, #fact, __LINE__)
 
 static struct tagobrelin_datapoint datapoints[1];
@@ -53,17 +55,23 @@ static int32_t heard(struct tagobrelin_server *by, const char *bytes, size_t cou
 
 static void requests(void)
 {
-    EXPECT(!tagobrelin_is_outstanding(&server) && !tagobrelin_is_receiving(&server) && !tagobrelin_is_dropping(&server));
+    EXPECT(!tagobrelin_is_outstanding(&server) && !tagobrelin_is_receiving(&server) &&
+           !tagobrelin_is_dropping(&server));
     EXPECT(HEARD(&server, "\x68\x07") == 0 && tagobrelin_is_receiving(&server));
     EXPECT(HEARD(&server, "\x07\x68\x73\xF0\x01\x00\x01\x00\x01\x66\x16") == 19 && !tagobrelin_is_receiving(&server));
     EXPECT(SENT(&server, "\xE5\x68\x0C\x0C\x68\xF3\xF0\x81\x00\x01\x00\x01\x00\x01\x02\xC5\x00\x2E\x16"));
     EXPECT(tagobrelin_is_outstanding(&server) == 1);
-    EXPECT(tagobrelin_ack_wait_over(&server) == 18 && tagobrelin_ack_wait_over(&server) == 18 && tagobrelin_ack_wait_over(&server) == 18);
-    EXPECT(tagobrelin_ack_wait_over(&server) == 4 && SENT(&server, "\x10\xC0\xC0\x16") && !tagobrelin_is_outstanding(&server));
-    EXPECT(HEARD(&server, "\x68\x07\x07\x68\x53\xF0\x07\x00\x01\x00\xF8\x43\x16") == TAGOBRELIN_ROOM && tagobrelin_is_outstanding(&server));
+    EXPECT(tagobrelin_ack_wait_over(&server) == 18 && tagobrelin_ack_wait_over(&server) == 18 &&
+           tagobrelin_ack_wait_over(&server) == 18);
+    EXPECT(tagobrelin_ack_wait_over(&server) == 4 && SENT(&server, "\x10\xC0\xC0\x16") &&
+           !tagobrelin_is_outstanding(&server));
+    EXPECT(HEARD(&server, "\x68\x07\x07\x68\x53\xF0\x07\x00\x01\x00\xF8\x43\x16") == TAGOBRELIN_ROOM &&
+           tagobrelin_is_outstanding(&server));
     EXPECT(HEARD(&server, "\xE5") == 0 && !tagobrelin_is_outstanding(&server));
-    EXPECT(HEARD(&server, "\x68\x00") == 0 && tagobrelin_is_dropping(&server) && HEARD(&server, "\x10\x40\x40\x16") == 0);
-    EXPECT(tagobrelin_idle_mark(&server) == 0 && !tagobrelin_is_dropping(&server) && HEARD(&server, "\x10\x40\x40\x16") == 1);
+    EXPECT(HEARD(&server, "\x68\x00") == 0 && tagobrelin_is_dropping(&server) &&
+           HEARD(&server, "\x10\x40\x40\x16") == 0);
+    EXPECT(tagobrelin_idle_mark(&server) == 0 && !tagobrelin_is_dropping(&server) &&
+           HEARD(&server, "\x10\x40\x40\x16") == 1);
 }
 
 static void bus_events(void)
@@ -83,7 +91,8 @@ static void bus_events(void)
 /* null pointers: no table at all is a server too, and a count without a table is refused */
 static void no_tables(void)
 {
-    EXPECT(HEARD(&empty, "\x68\x07\x07\x68\x73\xF0\x01\x00\x01\x00\x01\x66\x16") == 15 && tagobrelin_is_outstanding(&empty));
+    EXPECT(HEARD(&empty, "\x68\x07\x07\x68\x73\xF0\x01\x00\x01\x00\x01\x66\x16") == 15 &&
+           tagobrelin_is_outstanding(&empty));
     EXPECT(tagobrelin_ack_wait_over(&empty) == 14 && tagobrelin_idle_mark(&empty) == 0 && tagobrelin_poll(&empty) == 0);
     EXPECT(tagobrelin_bus_value(&empty, 1, NULL, 0) == TAGOBRELIN_BAD_BUS_EVENT);
     EXPECT(tagobrelin_outcome(&empty, 1, TAGOBRELIN_SENT) == TAGOBRELIN_BAD_BUS_EVENT);
@@ -108,6 +117,6 @@ int main(void)
     EXPECT(TAGOBRELIN_MICROSECONDS(TAGOBRELIN_GAP_BITS, 19200) == 1719);
     EXPECT(TAGOBRELIN_MICROSECONDS(TAGOBRELIN_ACK_WAIT_BITS, 19200) == 26563);
     EXPECT(TAGOBRELIN_MICROSECONDS(261 * TAGOBRELIN_BYTE_BITS, 1200) == 2392500);
-    EXPECT(strcmp(TAGOBRELIN_VERSION, TEXT(TAGOBRELIN_VERSION_MAJOR) "." TEXT(TAGOBRELIN_VERSION_MINOR) "." TEXT(TAGOBRELIN_VERSION_PATCH)) == 0);
+    EXPECT(strcmp(TAGOBRELIN_VERSION, VERSION_BY_NUMBERS) == 0);
     return failed;
 }

@@ -31,7 +31,8 @@ bool is_baud(unsigned long baud)
 
 static bool cannot_use(const char *path)
 {
-    fprintf(stderr, "serve: %s: %s\n", path, errno == EBUSY || errno == EWOULDBLOCK ? "in use by another program" : strerror(errno));
+    bool is_locked = errno == EBUSY || errno == EWOULDBLOCK;
+    fprintf(stderr, "serve: %s: %s\n", path, is_locked ? "in use by another program" : strerror(errno));
     return false;
 }
 

@@ -17,8 +17,8 @@ struct line {
 #define BAUDS "1200, 2400, 4800, 9600, 19200, 38400, 57600, 115200"
 bool is_baud(unsigned long baud);
 
-/* Opens the tty for this program alone: 8 data bits, 1 stop bit, and these. If it cannot, it tells why on standard error and returns
- * false. */
+/* Opens the tty for this program alone: 8 data bits, 1 stop bit, and these. If it cannot, it tells why on standard error
+ * and returns false. */
 bool open_line(struct line *line, const char *path, unsigned long baud, enum parity parity);
 
 /* Puts the tty's settings back and closes it. */

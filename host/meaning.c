@@ -1,5 +1,5 @@
-/* The words are those of crates/trace/src/meaning.rt, which has none for indications and for some services: these are called as document
- * 000 calls them. host/meaning_test holds the two together. */
+/* The words are those of crates/trace/src/meaning.rt, which has none for indications and for some services: these are
+ * called as document 000 calls them. host/meaning_test holds the two together. */
 #include "meaning.h"
 
 #include <stdbool.h>
@@ -35,7 +35,7 @@ static unsigned number_of(const uint8_t *bytes)
 
 /* ---- entries, each in a line of its own */
 
-/* how many bytes an entry has before its data; the last of them counts these, but that a description is all head; 0 without entries */
+/* how many bytes an entry has before its data, which the last of them counts (a description is all head); 0: none */
 static size_t head_size(uint8_t sub)
 {
     switch (sub) {
@@ -55,13 +55,19 @@ static size_t head_size(uint8_t sub)
 
 static void show_entry(FILE *to, uint8_t sub, const uint8_t *head, const uint8_t *value, size_t size)
 {
-    static const char *const commands[] = {"no command", "set new value", "send value on bus", "set new value and send on bus", "read new value via bus",
-                                           "clear transmission state", "reserved command"};
+    static const char *const commands[] = {"no command",
+                                           "set new value",
+                                           "send value on bus",
+                                           "set new value and send on bus",
+                                           "read new value via bus",
+                                           "clear transmission state",
+                                           "reserved command"};
     below(to);
     if (sub == 0x02 || sub == 0x81)
         fprintf(to, "item %u = ", number_of(head));
     else if (sub == 0x06)
-        fprintf(to, "datapoint %u: %s%s", number_of(head), choice(commands, COUNT(commands), head[2]), size > 0 ? ", value " : ", no value");
+        fprintf(to, "datapoint %u: %s%s", number_of(head), choice(commands, COUNT(commands), head[2]),
+                size > 0 ? ", value " : ", no value");
     else if (sub == 0x83)
         fprintf(to, "datapoint %u: type %u, flags %02X, DPT %u", number_of(head), head[2], head[3], head[4]);
     else
@@ -92,8 +98,9 @@ static void show_entries(FILE *to, uint8_t sub, const uint8_t *message, size_t c
 
 static void show_service(FILE *to, uint8_t sub)
 {
-    static const char *const services[] = {"another service", "GetServerItem", "SetServerItem", "GetDatapointDescription", "GetDescriptionString",
-                                           "GetDatapointValue", "SetDatapointValue", "GetParameterByte", "SetParameterByte", "another service"};
+    static const char *const services[] = {
+        "another service",   "GetServerItem",     "SetServerItem",    "GetDatapointDescription", "GetDescriptionString",
+        "GetDatapointValue", "SetDatapointValue", "GetParameterByte", "SetParameterByte",        "another service"};
     if (sub == 0xC1)
         fputs("DatapointValue.Ind, ", to);
     else
@@ -103,8 +110,18 @@ static void show_service(FILE *to, uint8_t sub)
 /* an answer of number 0 tells that a set was done, or an error by its code (document 000, appendix B) */
 static void show_result(FILE *to, const uint8_t *message, size_t count)
 {
-    static const char *const errors[] = {"", "", " (no element found)", " (buffer is too small)", " (item is not writable)", " (service is not supported)",
-                                         " (bad service parameter)", " (bad ID)", " (bad command or value)", " (bad length)", " (message inconsistent)", ""};
+    static const char *const errors[] = {"",
+                                         "",
+                                         " (no element found)",
+                                         " (buffer is too small)",
+                                         " (item is not writable)",
+                                         " (service is not supported)",
+                                         " (bad service parameter)",
+                                         " (bad ID)",
+                                         " (bad command or value)",
+                                         " (bad length)",
+                                         " (message inconsistent)",
+                                         ""};
     if (count < 7)
         return;
     if (message[6] == 0)
@@ -150,11 +167,17 @@ static void show_message(FILE *to, const uint8_t *message, size_t count)
 static bool is_whole_data_frame(const uint8_t *bytes, size_t count)
 {
     uint8_t sum = 0;
-    if (count < 7 || bytes[0] != 0x68 || bytes[1] != bytes[2] || bytes[3] != 0x68 || count != bytes[1] + 6u || bytes[count - 1] != 0x16)
+    if (count < 7 || bytes[0] != 0x68 || bytes[1] != bytes[2] || bytes[3] != 0x68 || count != bytes[1] + 6u ||
+        bytes[count - 1] != 0x16)
         return false;
     for (size_t i = 4; i < count - 2; i++)
         sum = (uint8_t)(sum + bytes[i]);
     return sum == bytes[count - 2];
+}
+
+static const char *fixed_frame(uint8_t control)
+{
+    return control == 0x40 ? "reset request" : control == 0xC0 ? "reset indication" : "another frame of four bytes";
 }
 
 static void show_meaning(FILE *to, const uint8_t *bytes, size_t count)
@@ -165,7 +188,7 @@ static void show_meaning(FILE *to, const uint8_t *bytes, size_t count)
     } else if (count == 1 && bytes[0] == 0xE5) {
         fputs("acknowledgement", to);
     } else if (count == 4 && bytes[0] == 0x10 && bytes[1] == bytes[2] && bytes[3] == 0x16) {
-        fputs(bytes[1] == 0x40 ? "reset request" : bytes[1] == 0xC0 ? "reset indication" : "another frame of four bytes", to);
+        fputs(fixed_frame(bytes[1]), to);
     } else {
         fputs("no sound frame", to);
     }

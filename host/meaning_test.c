@@ -1,5 +1,5 @@
-/* meaning_test TRACE: each frame that ./run shows (crates/cases/stdout), shown by meaning.c, is the same text; and some that it does not show. One
- * line for each test. */
+/* meaning_test TRACE: each frame that ./run shows (crates/cases/stdout), shown by meaning.c, is the same text; and some
+ * that it does not show. One line for each test. */
 #define _POSIX_C_SOURCE 200809L
 #include <stdbool.h>
 #include <stdio.h>
@@ -95,14 +95,16 @@ int main(int count, char **words)
     char name[100];
     snprintf(name, sizeof name, "of the %u frames that ./run shows is the same", frames);
     test(name, is_same && frames > 40);
-    test("of an indication", SHOWN("\x68\x0C\x0C\x68\xF3\xF0\xC1\x00\x05\x00\x01\x00\x05\x18\x01\x01\xC9\x16",
-                                   "68 0C 0C 68 F3 F0 C1 00 05 00 01 00 05 18 01 01 C9 16\n"
-                                   "            data frame, count bit odd, 11 bytes: DatapointValue.Ind, start 5, number 1\n"
-                                   "            datapoint 5: state 18, value 01\n"));
-    test("of a set of an item", SHOWN("\x68\x0B\x0B\x68\x53\xF0\x02\x00\x0F\x00\x01\x00\x0F\x01\x01\x66\x16",
-                                      "68 0B 0B 68 53 F0 02 00 0F 00 01 00 0F 01 01 66 16\n"
-                                      "            data frame, count bit even, 10 bytes: SetServerItem.Req, start 15, number 1\n"
-                                      "            item 15 = 01\n"));
+    test("of an indication",
+         SHOWN("\x68\x0C\x0C\x68\xF3\xF0\xC1\x00\x05\x00\x01\x00\x05\x18\x01\x01\xC9\x16",
+               "68 0C 0C 68 F3 F0 C1 00 05 00 01 00 05 18 01 01 C9 16\n"
+               "            data frame, count bit odd, 11 bytes: DatapointValue.Ind, start 5, number 1\n"
+               "            datapoint 5: state 18, value 01\n"));
+    test("of a set of an item",
+         SHOWN("\x68\x0B\x0B\x68\x53\xF0\x02\x00\x0F\x00\x01\x00\x0F\x01\x01\x66\x16",
+               "68 0B 0B 68 53 F0 02 00 0F 00 01 00 0F 01 01 66 16\n"
+               "            data frame, count bit even, 10 bytes: SetServerItem.Req, start 15, number 1\n"
+               "            item 15 = 01\n"));
     test("of the server's reset", SHOWN("\x10\xC0\xC0\x16", "10 C0 C0 16\n            reset indication\n"));
     test("of half a frame", SHOWN("\x68\x07\x07", "68 07 07\n            no sound frame\n"));
     return failed;

@@ -1,4 +1,5 @@
-"""What the tests on a line share: two ptys with a trace, which can lose bytes and be as slow as a serial line; the program on it; checks.
+"""What the tests on a line share: two ptys with a trace, which can lose bytes and be as slow as a serial line; the
+program on it; checks.
 
 The server's program has one pty, the host the other. Bytes go over in both directions, and are put together to FT1.2 units as their
 sender meant them: an acknowledgement E5, a fixed frame, a data frame."""
@@ -52,13 +53,14 @@ class Unit:
 
 
 class Line:
-    """Two ptys and what goes over between them: at once, or in the time that it takes at a baud rate. Then bytes arrive in lots, as drivers
-    hand them over: so many at a time, or what there is whenever the latency timer has run down."""
+    """Two ptys and what goes over between them: at once, or in the time that it takes at a baud rate. Then bytes arrive
+    in lots, as drivers hand them over: so many at a time, or what there is whenever the latency timer has run down."""
 
     def __init__(self, baud=None, lot=4096, latency=None):
         self.baud, self.lot, self.latency = baud, lot, latency
         self.free = {'server': 0.0, 'host': 0.0}  # when this side has sent all that it has begun to send
-        self.waiting = {'server': [], 'host': []}  # what it has sent and the other side not yet got: when it will, and the bytes
+        self.waiting = {'server': [], 'host': []}  # what the other side has not yet got: when it will, and the bytes
+        self.late = 0.0  # how much later than due some bytes went over: a busy machine makes pauses of its own
         self.masters, self.slaves, self.paths = {}, {}, {}
         for side in ('server', 'host'):
             # the slave stays open here, so that the pty outlives the program that uses it
@@ -83,7 +85,9 @@ class Line:
                 if self.masters[side] in ready:
                     lots += self.lots_of(side, os.read(self.masters[side], 4096))
                 while lots and lots[0][0] <= time.monotonic():
-                    self.deliver(side, other, lots.pop(0)[1])
+                    due, data = lots.pop(0)
+                    self.late = max(self.late, time.monotonic() - due) if self.baud else 0.0
+                    self.deliver(side, other, data)
 
     def lots_of(self, side, data):
         """These bytes as they arrive: when, and which."""

@@ -107,8 +107,8 @@ static bool send_bytes(const uint8_t *bytes, size_t count)
     return true;
 }
 
-/* Sends what an event left to be sent, and keeps the acknowledgement's time, which runs from the end of the outstanding frame on the
- * line: what is sent is such a frame where it is more than an acknowledgement. Returns the event's number. */
+/* Sends what an event left to be sent, and keeps the acknowledgement's time, which runs from the end of the outstanding
+ * frame on the line: what is sent is such a frame where it is more than an acknowledgement. Returns the event's number. */
 static int32_t follow(int32_t number)
 {
     if (number > 0) {
@@ -196,15 +196,15 @@ static void hear(void)
         hear_byte(bytes[i]);
 }
 
-/* The line was silent for the gap. Frames that it cuts are told at the third, and then at ten times as many: a host that breaks off is rare, and a
- * driver that makes pauses cuts many. */
+/* The line was silent for the gap. Frames that it cuts are told at the third, and then at ten times as many: a host that
+ * breaks off is rare, and a driver that makes pauses cuts many. */
 static void hear_silence(void)
 {
     static unsigned long tell_at = 3;
     bool is_within = heard_count > 0;
     if (tagobrelin_is_receiving(&server) && ++cut_count == tell_at) {
-        fprintf(stderr, "serve: %lu frames from the host were cut by an idle mark: if the driver of %s makes pauses, choose a longer -g than %g\n",
-                cut_count, line.path, (double)gap / MILLISECOND);
+        fprintf(stderr, "serve: %lu frames from the host were cut by an idle mark: ", cut_count);
+        fprintf(stderr, "if the driver of %s makes pauses, choose a longer -g than %g\n", line.path, (double)gap / MILLISECOND);
         tell_at *= 10;
     }
     show_heard();
@@ -320,7 +320,7 @@ static void serve(void)
         }
         if (ready == 0)
             FD_ZERO(&readable);
-        /* A wait is over by the time before this look at the line: where this program is late, bytes may have come in time. */
+        /* A wait is over by the time before this look at the line: where this is late, bytes may have come in time. */
         if (FD_ISSET(line.tty, &readable)) {
             hear();
         } else if (time >= idle_due) {
@@ -382,10 +382,10 @@ static void tell_usage(FILE *to)
           "  TABLES  a text file with datapoints, items and parameter bytes; host/tables.txt is one\n"
           "  -b      baud: 19200 if not given\n"
           "  -p      parity: even if not given\n"
-          "  -g      milliseconds of silence that are an idle mark. If not given 20, and more below 12650 baud, so that the pauses\n"
-          "          of a FIFO and of a USB adapter (16 ms) are none. It costs: behind damage all is dropped up to an idle mark, so a\n"
-          "          frame that the host repeats sooner is lost too. The standard's gap is 33 bit times, 2 ms at 19200 baud: for a\n"
-          "          driver that hands over each byte at once, and for more than 19200 baud\n"
+          "  -g      milliseconds of silence that are an idle mark. If not given 20, and more below 12650 baud, so that the\n"
+          "          pauses of a FIFO and of a USB adapter (16 ms) are none. It costs: behind damage all is dropped up to an\n"
+          "          idle mark, so a frame that the host repeats sooner is lost too. The standard's gap is 33 bit times, 2 ms\n"
+          "          at 19200 baud: for a driver that hands over each byte at once, and for more than 19200 baud\n"
           "  -a      milliseconds to wait for the acknowledgement of a frame, from its end on: 100 if not given\n"
           "  -i      milliseconds between polls for an indication: 20 if not given\n"
           "  -v      shows each frame in both directions, with its meaning\n"
@@ -418,8 +418,9 @@ static enum parity parity_option(const char *text)
     exit(2);
 }
 
-/* Longer than the pauses that drivers make in a frame: a 16550 hands over 16 bytes at most at a time, or what there is when 4 byte times were
- * silent; a USB adapter hands over what came within 16 ms. And at 19200 baud shorter than a host's wait, 510 bit times, before it repeats. */
+/* Longer than the pauses that drivers make in a frame: a 16550 hands over 16 bytes at most at a time, or what there is
+ * when 4 byte times were silent; a USB adapter hands over what came within 16 ms. And at 19200 baud shorter than the wait
+ * of 510 bit times after which a host repeats. */
 static int64_t default_gap(void)
 {
     int64_t fifo = bit_times(TAGOBRELIN_GAP_BITS + 20 * TAGOBRELIN_BYTE_BITS), usb = 20 * MILLISECOND;
@@ -479,7 +480,7 @@ int main(int count, char **texts)
     tagobrelin_start(&server);
     told = tables;
     poll_due = now();
-    setvbuf(stdout, NULL, _IOFBF, 1 << 16); /* what is shown leaves at the end of a round: nothing that is sent waits for it */
+    setvbuf(stdout, NULL, _IOFBF, 1 << 16); /* what is shown leaves at the end of a round: no frame waits for it */
     printf("serving %zu datapoints, %zu items and %zu parameter bytes on %s: %lu baud, %s parity\n", tables.datapoint_count, tables.item_count,
            tables.parameter_count, line.path, baud, parity == NO_PARITY ? "no" : parities[parity]);
     fflush(stdout);

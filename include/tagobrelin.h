@@ -1,17 +1,18 @@
-/* Tagobrelin in C: what libtagobrelin.a exports, and over it the face that a program uses: struct tagobrelin_server and one
- * function an event, at the end of this file.
+/* Tagobrelin in C: what libtagobrelin.a exports, and over it the face that a program uses: struct tagobrelin_server and
+ * one function an event, at the end of this file.
  *
- * The archive's two functions, tagobrelin_call and tagobrelin_fresh_link, are proved to do what crates/tagobrelin/src/exported.rt
- * promises, for every content of the memory that they are lent. They keep no state of their own, use no heap, and need memcpy and
- * memset of the C library. The proof speaks of a caller that keeps the rules below: nothing checks a C caller.
+ * The archive's two functions, tagobrelin_call and tagobrelin_fresh_link, are proved to do what
+ * crates/tagobrelin/src/exported.rt promises, for every content of the memory that they are lent. They keep no state of
+ * their own, use no heap, and need memcpy and memset of the C library. The proof speaks of a caller that keeps the rules
+ * below: nothing checks a C caller.
  *
  * A caller guarantees, at each call:
  *   - No pointer is null, not even one whose count is 0: pass the address of any byte then. (The face does.)
  *   - Behind each pointer lies as much memory as its count says, and the counts are elements, not bytes.
  *   - Datapoints, items and the link record lie at even addresses. (As C objects of these types they do.)
- *   - No two of these runs of memory overlap, but for value and parameters, which are only read; and nobody else writes to any of
- *     them while the call runs. So two calls for one server are never made at the same time, also not one of them in an interrupt
- *     or another thread; for two servers that share no memory they may be.
+ *   - No two of these runs of memory overlap, but for value and parameters, which are only read; and nobody else writes
+ *     to any of them while the call runs. So two calls for one server are never made at the same time, also not one of
+ *     them in an interrupt or another thread; for two servers that share no memory they may be.
  * The contents may be anything: what is not in order is refused by number, and then no byte of anything is changed.
  */
 #ifndef TAGOBRELIN_H
@@ -20,8 +21,8 @@
 #include <stddef.h>
 #include <stdint.h>
 
-/* By semver.org, for the face at the end of this file. What it stands on, tagobrelin_call and the records' layout, may change in a
- * minor version: header and archive are always taken together. CHANGELOG.md tells what changed. */
+/* By semver.org, for the face at the end of this file. What it stands on, tagobrelin_call and the records' layout, may
+ * change in a minor version: header and archive are always taken together. CHANGELOG.md tells what changed. */
 #define TAGOBRELIN_VERSION_MAJOR 1
 #define TAGOBRELIN_VERSION_MINOR 0
 #define TAGOBRELIN_VERSION_PATCH 0
@@ -56,7 +57,7 @@ struct tagobrelin_link {
     uint16_t received;        /* how many they are */
     uint8_t dropping;         /* 1: the receiver drops what comes, up to the next idle mark; else 0 */
     uint8_t expected;         /* the count bit of the next request that is carried out: 1 odd, 0 even */
-    uint8_t send;             /* the count bit of the next frame that is sent, or of the outstanding one: 1 odd, 0 even */
+    uint8_t send;             /* the count bit of the next frame that is sent, or of the outstanding one, likewise */
     uint8_t outstanding[261]; /* the frame that waits for its acknowledgement, and 0 behind it */
     uint16_t held;            /* how many bytes it has: 0 where nothing is outstanding */
     uint8_t resends;          /* how often it was sent again: 0 to 3 */
@@ -79,22 +80,23 @@ enum {
     TAGOBRELIN_IN_PROGRESS = 2
 };
 
-/* What tagobrelin_call returns: 0 to 262, how many bytes from the start of `out` are to be sent to the host; or one of these.
- * Several at once: the first that applies, in the order TAGOBRELIN_NO_EVENT, -1, -2, -3, -4. */
+/* What tagobrelin_call returns: 0 to 262, how many bytes from the start of `out` are to be sent to the host; or one of
+ * these. Several at once: the first that applies, in the order TAGOBRELIN_NO_EVENT, -1, -2, -3, -4. */
 enum {
-    TAGOBRELIN_BAD_TABLE = -1,     /* a table is not well formed, or has more entries than above; or above 255 parameter bytes */
-    TAGOBRELIN_BAD_LINK = -2,      /* the link record is not in range: not made by tagobrelin_fresh_link, or written to since */
+    TAGOBRELIN_BAD_TABLE = -1,     /* a table is not well formed, or too long; or more than 255 parameter bytes */
+    TAGOBRELIN_BAD_LINK = -2,      /* the link record is not in range: not made by tagobrelin_fresh_link, or altered */
     TAGOBRELIN_NO_ROOM = -3,       /* `out` has room for less than TAGOBRELIN_ROOM bytes */
-    TAGOBRELIN_BAD_BUS_EVENT = -4, /* no datapoint has this ID; or the value's length is not its type's, or unused bits are set */
+    TAGOBRELIN_BAD_BUS_EVENT = -4, /* the ID is absent, the value's length is not its type's, or unused bits are set */
     TAGOBRELIN_NO_EVENT = -100     /* the event is not 1 to 6, or it is 6 and the outcome is not 0 to 2 */
 };
 
 /* The most that one call sends, and the room that each call wants. */
 enum { TAGOBRELIN_ROOM = 262 };
 
-/* One event. `byte`, `id`, `outcome` and `value` are read where the event has them, and may be anything where it has not.
- * A number below 0: no byte of anything lent was changed. Else the first bytes of `out`, as many as the number says, are to be
- * sent, the bytes behind them are as they were, and tables and link record are such that the next call does not refuse them. */
+/* One event. `byte`, `id`, `outcome` and `value` are read where the event has them, and may be anything where it has
+ * not. A number below 0: no byte of anything lent was changed. Else the first bytes of `out`, as many as the number
+ * says, are to be sent, the bytes behind them are as they were, and tables and link record are such that the next call
+ * does not refuse them. */
 int32_t tagobrelin_call(uint8_t event, uint8_t byte, uint16_t id, uint8_t outcome,
                         const uint8_t *value, size_t value_count,
                         struct tagobrelin_datapoint *datapoints, size_t datapoint_count,
@@ -103,16 +105,16 @@ int32_t tagobrelin_call(uint8_t event, uint8_t byte, uint16_t id, uint8_t outcom
                         struct tagobrelin_link *link,
                         uint8_t *out, size_t room);
 
-/* Makes the link record that a reset leaves, whatever stood there: the receiver at a frame start, both bits odd, nothing
- * outstanding. */
+/* Makes the link record that a reset leaves, whatever stood there: the receiver at a frame start, both bits odd,
+ * nothing outstanding. */
 void tagobrelin_fresh_link(struct tagobrelin_link *link);
 
 /* ---- The face. Later versions add members and functions and take none away.
  *
- * A server: the tables that it holds, its end of the line, and what it sends. It is static or zeroed before its members are set, by
- * name: a member that a later version adds is 0 then, which means none. */
+ * A server: the tables that it holds, its end of the line, and what it sends. It is static or zeroed before its members
+ * are set, by name: a member that a later version adds is 0 then, which means none. */
 struct tagobrelin_server {
-    struct tagobrelin_datapoint *datapoints; /* null only where the count is 0, as items and parameters: else refused, -1 */
+    struct tagobrelin_datapoint *datapoints; /* each table may be null where its count is 0, and only there */
     size_t datapoint_count;
     struct tagobrelin_item *items;
     size_t item_count;
@@ -129,8 +131,8 @@ static inline void tagobrelin_start(struct tagobrelin_server *server)
 }
 
 /* One event by its number. The functions below are for use; this is what they have in common. */
-static inline int32_t tagobrelin_event(struct tagobrelin_server *server, uint8_t event, uint8_t byte, uint16_t id, uint8_t outcome,
-                                       const uint8_t *value, size_t value_count)
+static inline int32_t tagobrelin_event(struct tagobrelin_server *server, uint8_t event, uint8_t byte, uint16_t id,
+                                       uint8_t outcome, const uint8_t *value, size_t value_count)
 {
     /* Something that exists stands where there is no element. */
     struct tagobrelin_datapoint no_datapoint;
@@ -145,8 +147,8 @@ static inline int32_t tagobrelin_event(struct tagobrelin_server *server, uint8_t
                            &server->link, server->out, sizeof server->out);
 }
 
-/* The six events. Each returns how many bytes from the start of `out` are to be sent now, 0 for none, or a number below 0: then it
- * was refused and nothing changed. Only bus values and outcomes can be refused with tables that are in order. */
+/* The six events. Each returns how many bytes from the start of `out` are to be sent now, 0 for none, or a number below
+ * 0: then it was refused and nothing changed. Only bus values and outcomes can be refused with tables that are in order. */
 
 static inline int32_t tagobrelin_host_byte(struct tagobrelin_server *server, uint8_t byte)
 {
@@ -165,15 +167,16 @@ static inline int32_t tagobrelin_ack_wait_over(struct tagobrelin_server *server)
     return tagobrelin_event(server, TAGOBRELIN_ACK_WAIT_OVER, 0, 0, 0, NULL, 0);
 }
 
-/* An indication is sent, if one is due. Not while a request comes in: behind an indication it is dropped, and the host has to
- * repeat it. */
+/* An indication is sent, if one is due. Not while a request comes in: behind an indication it is dropped, and the host
+ * has to repeat it. */
 static inline int32_t tagobrelin_poll(struct tagobrelin_server *server)
 {
     return tagobrelin_event(server, TAGOBRELIN_POLL, 0, 0, 0, NULL, 0);
 }
 
 /* The bus gave this value, of as many bytes as the datapoint's type has. */
-static inline int32_t tagobrelin_bus_value(struct tagobrelin_server *server, uint16_t id, const uint8_t *value, size_t value_count)
+static inline int32_t tagobrelin_bus_value(struct tagobrelin_server *server, uint16_t id, const uint8_t *value,
+                                           size_t value_count)
 {
     return tagobrelin_event(server, TAGOBRELIN_BUS_VALUE, 0, id, 0, value, value_count);
 }
