@@ -1,5 +1,6 @@
 /* Instructions: run under callgrind, which counts inside the two calls alone and writes a part at each dump, named
  * "EVENT DATAPOINTS ITEMS SIZE HELD FUNCTION CALLS". The scripts count and count_test read them. Usage: count [ours]: the proved call alone. */
+#include <stdbool.h>
 #include <stdio.h>
 #include <string.h>
 #include <valgrind/callgrind.h>

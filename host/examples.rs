@@ -36,9 +36,9 @@ fn empty_link() -> Link {
     Link {
         receiver: [0; 260],
         received: 0,
-        dropping: false,
-        expected: true,
-        send: true,
+        dropping: 0,
+        expected: 1,
+        send: 1,
         outstanding: [0; 261],
         held: 0,
         resends: 0,
@@ -52,13 +52,13 @@ fn empty_server() -> Server {
 fn datapoint(id: u16, typecode: u8, state: u8, value: &[u8]) -> Datapoint {
     let mut all = [0; 14];
     all[..value.len()].copy_from_slice(value);
-    Datapoint { id, typecode, flags: 0x57, dpt: 0x01, state, value: all, mark: false }
+    Datapoint { id, typecode, flags: 0x57, dpt: 0x01, state, value: all, mark: 0 }
 }
 
 fn item(id: u16, writable: bool, data: &[u8]) -> Item {
     let mut all = [0; 16];
     all[..data.len()].copy_from_slice(data);
-    Item { id, size: data.len() as u8, writable, bytes: all }
+    Item { id, size: data.len() as u8, writable: u8::from(writable), bytes: all }
 }
 
 /// What holds after every call: a refused call alters nothing; an accepted one leaves tables and link that 1 and 2 do not
@@ -139,20 +139,20 @@ fn framed(control: u8, message: &[u8]) -> Vec<u8> {
 fn ask(server: &mut Server, message: &[u8]) -> Option<Vec<u8>> {
     let odd = server.link.expected;
     let send = server.link.send;
-    let sent = feed_whole(server, &framed(if odd { 0x73 } else { 0x53 }, message));
-    same("the expected bit flips", server.link.expected, !odd);
+    let sent = feed_whole(server, &framed(if odd == 1 { 0x73 } else { 0x53 }, message));
+    same("the expected bit flips", server.link.expected, 1 - odd);
     same("the E5 comes first", sent[0], 0xE5);
     if sent.len() == 1 {
         same("no answer: nothing outstanding", server.link.held, 0);
         return None;
     }
     let answer = sent[6..sent.len() - 2].to_vec();
-    same("the answer's frame", sent[1..].to_vec(), framed(if send { 0xF3 } else { 0xD3 }, &answer));
+    same("the answer's frame", sent[1..].to_vec(), framed(if send == 1 { 0xF3 } else { 0xD3 }, &answer));
     same("the answer is held", &server.link.outstanding[..usize::from(server.link.held)], &sent[1..]);
     same("with count 0", server.link.resends, 0);
     same("an acknowledgement sends nothing", feed(server, &[0xE5]), Vec::new());
     same("and clears", server.link.held, 0);
-    same("and flips the send bit", server.link.send, !send);
+    same("and flips the send bit", server.link.send, 1 - send);
     Some(answer)
 }
 
@@ -239,11 +239,11 @@ fn examples_of_01() {
     same("example 2, again", feed_whole(&mut server, &hex(ASK_ITEM_1)), vec![0xE5]);
     // "With 53 and 46 in place of 73 and 66, when even is expected and nothing outstanding: carried out."
     feed(&mut server, &[0xE5]);
-    truth("example 2, even is expected", !server.link.expected);
+    truth("example 2, even is expected", server.link.expected == 0);
     let sent = feed_whole(&mut server, &hex("68 07 07 68 53 F0 01 00 01 00 01 46 16"));
     same("example 2, even", sent, join(&[&[0xE5], &framed(0xD3, &hex("F0 81 00 01 00 01 00 01 06 00 00 C5 07 00 02"))]));
     let mut server = item_1();
-    server.link.expected = false;
+    server.link.expected = 0;
     let sent = feed_whole(&mut server, &hex("68 07 07 68 53 F0 01 00 01 00 01 46 16"));
     same("example 2, even, send bit odd", sent, join(&[&[0xE5], &hex(ITEM_1_ANSWER)]));
     // 3
@@ -312,29 +312,29 @@ fn examples_of_01() {
     // 9
     let mut server = empty_server();
     same("example 9, L = 0", feed(&mut server, &hex("68 00")), Vec::new());
-    truth("example 9, L = 0 is damage at that byte", server.link.dropping && server.link.received == 0);
+    truth("example 9, L = 0 is damage at that byte", server.link.dropping == 1 && server.link.received == 0);
     let mut server = empty_server();
     same("example 9, L = 1", feed_whole(&mut server, &hex("68 01 01 68 73 73 16")), vec![0xE5]);
-    truth("example 9, no answer", server.link.held == 0 && !server.link.expected);
+    truth("example 9, no answer", server.link.held == 0 && server.link.expected == 0);
     // 10: the answer is lost under an even send bit, so that the F3 shows.
     let mut server = item_1();
-    server.link.send = false;
+    server.link.send = 0;
     let lost = feed_whole(&mut server, &hex(ASK_ITEM_1));
     same("example 10, the lost answer has D3", lost[5], 0xD3);
-    truth("example 10, outstanding", server.link.held != 0 && !server.link.expected);
+    truth("example 10, outstanding", server.link.held != 0 && server.link.expected == 0);
     same("example 10, reset", feed_whole(&mut server, &hex("10 40 40 16")), vec![0xE5]);
     same("example 10, link", server.link.clone(), empty_link());
     same("example 10, next", feed_whole(&mut server, &hex(ASK_ITEM_1)), join(&[&[0xE5], &hex(ITEM_1_ANSWER)]));
     // 11
     let mut server = item_1();
-    server.link.expected = false;
-    server.link.send = false;
+    server.link.expected = 0;
+    server.link.send = 0;
     same("example 11", feed(&mut server, &hex("10 40")), Vec::new());
-    truth("example 11, not yet", !server.link.dropping && server.link.received == 2);
+    truth("example 11, not yet", server.link.dropping == 0 && server.link.received == 2);
     same("example 11", feed(&mut server, &hex("41")), Vec::new());
-    truth("example 11, damage at that byte", server.link.dropping && server.link.received == 0);
+    truth("example 11, damage at that byte", server.link.dropping == 1 && server.link.received == 0);
     same("example 11, the rest", feed(&mut server, &hex("16 10 40 40 16 E5 68 01 01 68 53 53 16")), Vec::new());
-    truth("example 11, dropped", server.link.dropping && !server.link.expected && !server.link.send);
+    truth("example 11, dropped", server.link.dropping == 1 && server.link.expected == 0 && server.link.send == 0);
     same("example 11, idle mark", event(&mut server, Event::IdleMark), Vec::new());
     same("example 11, reset after the mark", feed_whole(&mut server, &hex("10 40 40 16")), vec![0xE5]);
 }
@@ -345,8 +345,8 @@ fn exchange_of_000() {
     let mut server = empty_server();
     server.items.push(item(3, false, &[0x10]));
     server.items.push(item(8, false, &hex("00 C5 08 02 00 00")));
-    server.link.expected = false;
-    server.link.send = false;
+    server.link.expected = 0;
+    server.link.send = 0;
     same("000 4.1, reset", feed_whole(&mut server, &hex("10 40 40 16")), hex("E5"));
     same(
         "000 4.1, firmware version",
@@ -394,7 +394,7 @@ fn messages_without_answer() {
         let before = server.clone();
         same("no answer", ask(&mut server, &hex(message)), None);
         let mut want = before.link.clone();
-        want.expected = false;
+        want.expected = 0;
         same("no answer: only the expected bit is altered", server.link, want);
         truth("no answer: tables", server.datapoints == before.datapoints && server.items == before.items);
     }
@@ -581,7 +581,7 @@ fn commands() {
                 if !with_value && (command == 1 || command == 3) {
                     continue;
                 }
-                for mark in [false, true] {
+                for mark in [0, 1] {
                     let mut server = empty_server();
                     server.datapoints = vec![datapoint(1, 8, state, &[1, 2]), datapoint(2, 8, state, &[1, 2])];
                     server.datapoints[0].mark = mark;
@@ -676,10 +676,10 @@ fn gets() {
     is_error("2, filter 1 passes nothing", &mut server, &get_values(10, 15, 1), 10, 2);
     is_error("2, values absent", &mut server, &get_values(25, 5, 0), 25, 2);
     // "An answer leaves the marks."
-    server.datapoints[15].mark = true;
+    server.datapoints[15].mark = 1;
     server.datapoints[15].state = 0x18;
     ask(&mut server, &get_values(30, 1, 0));
-    truth("the mark stays", server.datapoints[15].mark && server.datapoints[15].state == 0x10);
+    truth("the mark stays", server.datapoints[15].mark == 1 && server.datapoints[15].state == 0x10);
     // A description or an error answer carries no value: bit 3 stays.
     server.datapoints[15].state = 0x18;
     ask(&mut server, &get(3, 30, 1));
@@ -756,7 +756,7 @@ fn limits_254_and_255() {
     same("a message of 254 bytes", message.len(), 254);
     is_error("L = 255 (its last entry has a wrong length)", &mut server, &message, 27, 9);
     let odd = server.link.expected;
-    let frame = framed(if odd { 0x73 } else { 0x53 }, &message);
+    let frame = framed(if odd == 1 { 0x73 } else { 0x53 }, &message);
     same("a frame of 261 bytes", frame.len(), 261);
     server.datapoints[13] = datapoint(27, 13, 0x01, &[]);
     same("L = 255, 260 bytes", feed(&mut server, &frame[..260]), Vec::new());
@@ -786,13 +786,13 @@ fn waiting_server() -> Server {
     let mut server = item_1();
     server.datapoints.push(datapoint(5, 7, 0x00, &[0]));
     feed(&mut server, &hex(ASK_ITEM_1));
-    truth("outstanding", server.link.held == 22 && !server.link.expected && server.link.send);
+    truth("outstanding", server.link.held == 22 && server.link.expected == 0 && server.link.send == 1);
     server
 }
 
 fn acknowledgements() {
     // "with nothing outstanding it is ignored"
-    for send in [false, true] {
+    for send in [0, 1] {
         let mut server = item_1();
         server.link.send = send;
         let before = server.clone();
@@ -805,21 +805,21 @@ fn acknowledgements() {
         server.link.resends = resends;
         same("E5", feed(&mut server, &[0xE5]), Vec::new());
         let mut want = empty_link();
-        want.expected = false;
-        want.send = false;
+        want.expected = 0;
+        want.send = 0;
         same("E5 clears", server.link, want);
     }
     // "E5 is an acknowledgement at a frame start only; in mid-frame it is a byte like any other"
     let mut server = waiting_server();
     same("E5 as C", feed(&mut server, &hex("10 E5 E5 16")), Vec::new());
     same("E5 in a frame", feed(&mut server, &framed(0xE5, &[0xE5; 5])), Vec::new());
-    truth("still outstanding", server.link.held == 22 && server.link.send);
+    truth("still outstanding", server.link.held == 22 && server.link.send == 1);
     // "while dropping it is dropped"
     same("damage and E5", feed(&mut server, &hex("00 E5 E5")), Vec::new());
-    truth("still outstanding", server.link.held == 22 && server.link.send && server.link.dropping);
+    truth("still outstanding", server.link.held == 22 && server.link.send == 1 && server.link.dropping == 1);
     event(&mut server, Event::IdleMark);
     feed(&mut server, &[0xE5]);
-    truth("E5 after the mark", server.link.held == 0 && !server.link.send);
+    truth("E5 after the mark", server.link.held == 0 && server.link.send == 0);
 }
 
 fn fixed_frames() {
@@ -840,8 +840,8 @@ fn fixed_frames() {
         same("a reset right after", feed_whole(&mut server, &hex("10 40 40 16")), vec![0xE5]);
     }
     // A reset makes both bits odd, from every pair.
-    for expected in [false, true] {
-        for send in [false, true] {
+    for expected in [0, 1] {
+        for send in [0, 1] {
             let mut server = item_1();
             server.link.expected = expected;
             server.link.send = send;
@@ -853,13 +853,13 @@ fn fixed_frames() {
 
 fn controls_and_repeats() {
     for control in 0..=0xFF_u8 {
-        for expected in [false, true] {
+        for expected in [0, 1] {
             for outstanding in [false, true] {
                 let mut server = if outstanding { waiting_server() } else { item_1() };
                 server.link.expected = expected;
                 let before = server.clone();
                 let sent = feed_whole(&mut server, &framed(control, &hex("F0 01 00 01 00 01")));
-                let odd = control == 0x73;
+                let odd = u8::from(control == 0x73);
                 if control != 0x73 && control != 0x53 {
                     same("another control byte", sent, Vec::new());
                     same("is ignored", server, before);
@@ -932,14 +932,14 @@ fn damage() {
                 let before = server.clone();
                 for place in 0..bytes.len() {
                     same("damage sends nothing", feed(&mut server, &bytes[place..=place]), Vec::new());
-                    same("damage is found at that byte", server.link.dropping, place >= found);
+                    same("damage is found at that byte", server.link.dropping, u8::from(place >= found));
                     let gathered = if place >= found { 0 } else { place + 1 };
                     same("what is gathered", usize::from(server.link.received), gathered);
                 }
                 // The rest is dropped, whatever it spells.
                 same("dropped", feed(&mut server, &hex("10 40 40 16 E5")), Vec::new());
                 let mut want = before.clone();
-                want.link.dropping = true;
+                want.link.dropping = 1;
                 same("damage alters nothing else", &server, &want);
                 same("idle mark", event(&mut server, Event::IdleMark), Vec::new());
                 same("the mark ends the dropping", &server, &before);
@@ -954,7 +954,7 @@ fn damage() {
     outer[last] ^= 1;
     same("a frame in a damaged frame", feed(&mut server, &outer), Vec::new());
     same("and after it", feed(&mut server, &inner), Vec::new());
-    truth("bit kept", server.link.expected && server.link.dropping);
+    truth("bit kept", server.link.expected == 1 && server.link.dropping == 1);
     event(&mut server, Event::IdleMark);
     same("after the mark", feed(&mut server, &inner), join(&[&[0xE5], &hex(ITEM_1_ANSWER)]));
     // "An idle mark in mid-frame drops what was gathered."
@@ -973,9 +973,9 @@ fn damage() {
     for start in ["68 07 68", "68 07 E5", "68 07 07 10", "10 40 68", "10 40 E5", "10 40 40 10", "68 01 01 68 73 E5"] {
         let mut server = waiting_server();
         feed(&mut server, &hex(start));
-        truth("dropped", server.link.dropping && server.link.received == 0 && server.link.held == 22);
+        truth("dropped", server.link.dropping == 1 && server.link.received == 0 && server.link.held == 22);
         same("starts nothing", feed(&mut server, &hex("07 07 68 53 F0 01 00 01 00 01 46 16 40 40 16")), Vec::new());
-        truth("dropped", server.link.dropping && server.link.received == 0 && server.link.held == 22);
+        truth("dropped", server.link.dropping == 1 && server.link.received == 0 && server.link.held == 22);
     }
 }
 
@@ -1000,13 +1000,13 @@ fn e5_led_damage() {
                 }
                 for bytes in variants {
                     let mut server = if outstanding { waiting_server() } else { item_1() };
-                    server.link.expected = control == 0x73;
+                    server.link.expected = u8::from(control == 0x73);
                     let mut want = server.clone();
                     feed(&mut want, &[0xE5]);
-                    want.link.dropping = true;
+                    want.link.dropping = 1;
                     same("E5-led damage sends nothing", feed(&mut server, &bytes), Vec::new());
                     same("and is at most an acknowledgement", &server, &want);
-                    same("the acknowledgement", server.link.send, !outstanding);
+                    same("the acknowledgement", server.link.send, u8::from(!outstanding));
                 }
             }
         }
@@ -1028,8 +1028,8 @@ fn e5_led_damage() {
 }
 
 fn ack_waits() {
-    for send in [true, false] {
-        for expected in [true, false] {
+    for send in [1, 0] {
+        for expected in [1, 0] {
             let mut server = item_1();
             server.datapoints.push(datapoint(5, 7, 0x18, &[0x42]));
             server.link.send = send;
@@ -1053,14 +1053,14 @@ fn ack_waits() {
             want.link.outstanding = [0; 261];
             want.link.held = 0;
             want.link.resends = 0;
-            want.link.send = true;
+            want.link.send = 1;
             same("fourth wait: frame, count and send bit only", &server, &want);
             same("fifth wait: nothing", event(&mut server, Event::AckWaitOver), Vec::new());
             same("fifth wait: nothing", &server, &want);
             // The E5 for the reset indication finds nothing outstanding (once the receiver is at a frame start).
             event(&mut server, Event::IdleMark);
             feed(&mut server, &[0xE5]);
-            truth("E5 ignored", server.link.send && server.link.held == 0);
+            truth("E5 ignored", server.link.send == 1 && server.link.held == 0);
             // The next frame of the server starts with count 0 and F3.
             let sent = event(&mut server, Event::Poll);
             same("next frame", (sent[4], server.link.resends), (0xF3, 0));
@@ -1082,7 +1082,7 @@ fn ack_waits() {
 fn bus_events() {
     // "Bus value: value replaced, bits 4 and 3 set, bit 2 cleared, report mark set, also if the value is equal"
     for state in 0..32_u8 {
-        for mark in [false, true] {
+        for mark in [0, 1] {
             for new in [&[1, 2, 3], &[9, 8, 7]] {
                 let mut server = waiting_server();
                 server.datapoints.push(datapoint(6, 9, state, &[1, 2, 3]));
@@ -1092,7 +1092,7 @@ fn bus_events() {
                 bus(&mut server, 6, new);
                 want.datapoints[1].value[..3].copy_from_slice(new);
                 want.datapoints[1].state = (state % 4) + 0x18;
-                want.datapoints[1].mark = true;
+                want.datapoints[1].mark = 1;
                 same("bus value", &server, &want);
             }
             for (outcome, status) in [(Outcome::Sent, 0), (Outcome::Failed, 1), (Outcome::InProgress, 2)] {
@@ -1152,7 +1152,7 @@ fn polls() {
     same("no mark", &server, &small_server());
     same("empty table", event(&mut empty_server(), Event::Poll), Vec::new());
     let mut server = waiting_server();
-    server.datapoints[0].mark = true;
+    server.datapoints[0].mark = 1;
     let before = server.clone();
     same("outstanding", event(&mut server, Event::Poll), Vec::new());
     same("outstanding", &server, &before);
@@ -1176,7 +1176,7 @@ fn polls() {
     }
     // A mark whose bit 3 a get has cleared is still carried, with the state as it is; config flags are not looked at.
     let mut server = small_server();
-    server.datapoints[15].mark = true;
+    server.datapoints[15].mark = 1;
     server.datapoints[15].state = 0x01;
     let sent = event(&mut server, Event::Poll);
     same("state as it is", sent, framed(0xF3, &hex("F0 C1 00 1E 00 01 00 1E 01 01 AB")));
@@ -1184,7 +1184,7 @@ fn polls() {
     let mut server = empty_server();
     for at in 0..130 {
         server.datapoints.push(datapoint(500 + 3 * at, 7, 0x08, &[at as u8]));
-        server.datapoints[usize::from(at)].mark = at >= 10;
+        server.datapoints[usize::from(at)].mark = u8::from(at >= 10);
     }
     let mut send = true;
     for (first, count) in [(10_u16, 49_u16), (59, 49), (108, 22)] {
@@ -1197,7 +1197,7 @@ fn polls() {
         same("a poll of many", sent, framed(if send { 0xF3 } else { 0xD3 }, &want));
         for at in 0..130_u16 {
             let record = &server.datapoints[usize::from(at)];
-            same("marks", record.mark, at >= first + count);
+            same("marks", record.mark, u8::from(at >= first + count));
             same("bit 3", record.state, if at >= 10 && at < first + count { 0x00 } else { 0x08 });
         }
         same("wait", event(&mut server, Event::Poll), Vec::new());
@@ -1215,13 +1215,13 @@ fn polls() {
         server.datapoints.push(datapoint(14, fourteenth, 0x18, &[]));
         server.datapoints.push(datapoint(15, 0, 0x18, &[1]));
         for record in &mut server.datapoints {
-            record.mark = true;
+            record.mark = 1;
         }
         let sent = event(&mut server, Event::Poll);
         same("carried", usize::from(sent[9]) * 256 + usize::from(sent[10]), carried);
         same("size", sent.len(), if carried == 14 { 261 } else { 261 - 14 });
         for at in 0..15 {
-            same("marks and bit 3", server.datapoints[at].mark, at >= carried);
+            same("marks and bit 3", server.datapoints[at].mark, u8::from(at >= carried));
             same("marks and bit 3", server.datapoints[at].state, if at >= carried { 0x18 } else { 0x10 });
         }
         feed(&mut server, &[0xE5]);
@@ -1236,11 +1236,11 @@ fn polls() {
     server.datapoints.push(datapoint(14, 11, 0x18, &[]));
     server.datapoints.push(datapoint(15, 7, 0x18, &[1]));
     for record in &mut server.datapoints {
-        record.mark = true;
+        record.mark = 1;
     }
     let sent = event(&mut server, Event::Poll);
     same("250 of 255", (sent.len(), sent[10]), (250 + 7, 14));
-    truth("the 15th waits", server.datapoints[14].mark && !server.datapoints[13].mark);
+    truth("the 15th waits", server.datapoints[14].mark == 1 && server.datapoints[13].mark == 0);
     // "item 14 does not move the 254, item 17 does not stop the poll"
     let mut other = small_server();
     other.items = vec![item(14, true, &[0, 9]), item(17, true, &[1])];
@@ -1303,6 +1303,14 @@ fn refusals() {
         ("last byte after the item", |s| s.items[1].bytes[15] = 1),
         ("65 items", |s| s.items = (1..=65).map(|id| item(id, true, &[0])).collect()),
         ("256 parameter bytes", |s| s.parameters = vec![0; 256]),
+        ("a mark of 2", |s| s.datapoints[0].mark = 2),
+        ("a mark of 3, type 14", |s| s.datapoints[14].mark = 3),
+        ("a mark of 80", |s| s.datapoints[15].mark = 0x80),
+        ("a mark of FF", |s| s.datapoints[7].mark = 0xFF),
+        ("a writable of 2", |s| s.items[0].writable = 2),
+        ("a writable of 3", |s| s.items[1].writable = 3),
+        ("a writable of 80", |s| s.items[2].writable = 0x80),
+        ("a writable of FF", |s| s.items[1].writable = 0xFF),
     ];
     let links: Vec<(&str, Change)> = vec![
         ("received 261", |s| s.link.received = 261),
@@ -1310,6 +1318,18 @@ fn refusals() {
         ("held 262", |s| s.link.held = 262),
         ("held 65535", |s| s.link.held = 65535),
         ("count without a frame", |s| s.link.resends = 1),
+        ("dropping 2", |s| s.link.dropping = 2),
+        ("dropping 3", |s| s.link.dropping = 3),
+        ("dropping 80", |s| s.link.dropping = 0x80),
+        ("dropping FF", |s| s.link.dropping = 0xFF),
+        ("expected 2", |s| s.link.expected = 2),
+        ("expected 3", |s| s.link.expected = 3),
+        ("expected 80", |s| s.link.expected = 0x80),
+        ("expected FF", |s| s.link.expected = 0xFF),
+        ("send 2", |s| s.link.send = 2),
+        ("send 3", |s| s.link.send = 3),
+        ("send 80", |s| s.link.send = 0x80),
+        ("send FF", |s| s.link.send = 0xFF),
         ("receiver's unused byte", |s| s.link.receiver[0] = 0x68),
         ("receiver's last unused byte", |s| s.link.receiver[259] = 1),
         ("outstanding's unused byte", |s| s.link.outstanding[0] = 0x68),
@@ -1328,15 +1348,15 @@ fn refusals() {
         ("receiver holds 10 40 40 17", |s| gathered(s, "10 40 40 17")),
         ("receiver drops and holds", |s| {
             gathered(s, "68");
-            s.link.dropping = true
+            s.link.dropping = 1
         }),
         ("receiver drops, unused byte", |s| {
-            s.link.dropping = true;
+            s.link.dropping = 1;
             s.link.receiver[3] = 1
         }),
         ("outstanding: wrong bit", |s| held(s, &framed(0xD3, &[1]))),
         ("outstanding: wrong bit, even", |s| {
-            s.link.send = false;
+            s.link.send = 0;
             held(s, &framed(0xF3, &[1]))
         }),
         ("outstanding: host's control", |s| held(s, &framed(0x73, &[1]))),
@@ -1415,7 +1435,7 @@ fn refusals() {
         }),
         ("7-bit value 7F", |s| s.datapoints[6].value[0] = 0x7F),
         ("14 bytes", |s| s.datapoints[14].value = [255; 14]),
-        ("dropping", |s| s.link.dropping = true),
+        ("dropping", |s| s.link.dropping = 1),
         ("10", |s| gathered(s, "10")),
         ("10 00", |s| gathered(s, "10 00")),
         ("10 00 00", |s| gathered(s, "10 00 00")),
@@ -1426,7 +1446,7 @@ fn refusals() {
         ("68 01 01 68 00 00", |s| gathered(s, "68 01 01 68 00 00")),
         ("L = 1 outstanding", |s| held(s, &framed(0xF3, &[]))),
         ("L = 1 outstanding, even", |s| {
-            s.link.send = false;
+            s.link.send = 0;
             held(s, &framed(0xD3, &[]))
         }),
         ("L = 255 outstanding, count 3", |s| {
@@ -1573,7 +1593,7 @@ fn random_server(numbers: &mut Numbers) -> Server {
             value[0] %= 2 << typecode;
         }
         let mut record = datapoint(id, typecode, numbers.below(32) as u8, &value);
-        record.mark = numbers.below(2) == 0;
+        record.mark = numbers.below(2) as u8;
         server.datapoints.push(record);
     }
     id = 0;
@@ -1585,8 +1605,8 @@ fn random_server(numbers: &mut Numbers) -> Server {
     }
     let length = numbers.below(256);
     server.parameters = (0..length).map(|_| numbers.byte()).collect();
-    server.link.expected = numbers.below(2) == 0;
-    server.link.send = numbers.below(2) == 0;
+    server.link.expected = numbers.below(2) as u8;
+    server.link.send = numbers.below(2) as u8;
     server
 }
 
@@ -1641,7 +1661,7 @@ fn walks_at_random() {
                 0 => {
                     let before = server.clone();
                     same("idle mark", event(&mut server, Event::IdleMark), Vec::new());
-                    truth("frame start", server.link.received == 0 && !server.link.dropping);
+                    truth("frame start", server.link.received == 0 && server.link.dropping == 0);
                     let mut after = server.clone();
                     after.link.receiver = before.link.receiver;
                     after.link.received = before.link.received;
@@ -1657,7 +1677,7 @@ fn walks_at_random() {
                 2 => {
                     let before = server.clone();
                     let sent = event(&mut server, Event::Poll);
-                    let marks = before.datapoints.iter().any(|record| record.mark);
+                    let marks = before.datapoints.iter().any(|record| record.mark == 1);
                     truth("sent or not", sent.is_empty() != (before.link.held == 0 && marks));
                     truth("receiver", server.link.received == before.link.received);
                 }
@@ -1682,7 +1702,7 @@ fn walks_at_random() {
                 }
                 _ => {
                     let message = random_message(&mut numbers, &server);
-                    let odd = (numbers.below(5) == 0) != server.link.expected;
+                    let odd = (numbers.below(5) == 0) != (server.link.expected == 1);
                     let mut frame = framed(if odd { 0x73 } else { 0x53 }, &message);
                     if numbers.below(10) == 0 {
                         let at = numbers.below(frame.len() as u64) as usize;
@@ -1712,7 +1732,7 @@ fn any_fields_at_random() {
                 0 => server.link.received = number,
                 1 => server.link.held = number,
                 2 => server.link.resends = byte,
-                3 => server.link.dropping = true,
+                3 => server.link.dropping = 1,
                 4 => server.link.receiver[numbers.below(4) as usize] = [0x68, 0x10, byte][numbers.below(3) as usize],
                 5 => server.link.outstanding[numbers.below(8) as usize] = byte,
                 6 => {

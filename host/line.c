@@ -1,10 +1,12 @@
-#define _DEFAULT_SOURCE /* for the speeds above 38400 */
+#define _DEFAULT_SOURCE /* for the speeds above 38400, and flock */
 #include "line.h"
 
 #include <errno.h>
 #include <fcntl.h>
 #include <stdio.h>
 #include <string.h>
+#include <sys/file.h>
+#include <sys/ioctl.h>
 #include <unistd.h>
 
 static bool find_speed(unsigned long baud, speed_t *speed)
@@ -19,6 +21,25 @@ static bool find_speed(unsigned long baud, speed_t *speed)
             return true;
         }
     return false;
+}
+
+bool is_baud(unsigned long baud)
+{
+    speed_t speed;
+    return find_speed(baud, &speed);
+}
+
+static bool cannot_use(const char *path)
+{
+    bool is_locked = errno == EBUSY || errno == EWOULDBLOCK;
+    fprintf(stderr, "serve: %s: %s\n", path, is_locked ? "in use by another program" : strerror(errno));
+    return false;
+}
+
+/* A lock for programs that look for it, and one that the kernel keeps for all but the super-user. */
+static bool lock_line(const struct line *line)
+{
+    return flock(line->tty, LOCK_EX | LOCK_NB) == 0 && ioctl(line->tty, TIOCEXCL) == 0;
 }
 
 /* Raw, and a byte with a parity or framing error is left out: then its frame is damaged and is not acknowledged. */
@@ -48,17 +69,18 @@ bool open_line(struct line *line, const char *path, unsigned long baud, enum par
     speed_t speed;
     struct termios is;
     line->path = path;
-    if (!find_speed(baud, &speed)) {
-        fprintf(stderr, "serve: %lu baud is none of 1200, 2400, 4800, 9600, 19200, 38400, 57600, 115200\n", baud);
+    if (!find_speed(baud, &speed))
         return false;
-    }
     line->tty = open(path, O_RDWR | O_NOCTTY | O_NONBLOCK);
-    if (line->tty < 0) {
-        fprintf(stderr, "serve: %s: %s\n", path, strerror(errno));
-        return false;
-    }
+    if (line->tty < 0)
+        return cannot_use(path);
     if (tcgetattr(line->tty, &line->before) != 0) {
         fprintf(stderr, "serve: %s is not a tty\n", path);
+        close(line->tty);
+        return false;
+    }
+    if (!lock_line(line)) {
+        cannot_use(path);
         close(line->tty);
         return false;
     }
@@ -77,5 +99,6 @@ bool open_line(struct line *line, const char *path, unsigned long baud, enum par
 void close_line(struct line *line)
 {
     tcsetattr(line->tty, TCSANOW, &line->before);
+    ioctl(line->tty, TIOCNXCL);
     close(line->tty);
 }

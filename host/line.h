@@ -1,4 +1,4 @@
-/* The serial line: a tty in raw mode, put back as it was in the end. */
+/* The serial line: a tty in raw mode, locked, and put back as it was in the end. */
 #ifndef LINE_H
 #define LINE_H
 
@@ -13,7 +13,12 @@ struct line {
     struct termios before;
 };
 
-/* Opens the tty: 8 data bits, 1 stop bit, and these. If it cannot, it tells why on standard error and returns false. */
+/* The baud rates that there are. */
+#define BAUDS "1200, 2400, 4800, 9600, 19200, 38400, 57600, 115200"
+bool is_baud(unsigned long baud);
+
+/* Opens the tty for this program alone: 8 data bits, 1 stop bit, and these. If it cannot, it tells why on standard error
+ * and returns false. */
 bool open_line(struct line *line, const char *path, unsigned long baud, enum parity parity);
 
 /* Puts the tty's settings back and closes it. */

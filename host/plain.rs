@@ -19,15 +19,15 @@ pub struct Datapoint {
     pub dpt: u8,
     pub state: u8,
     pub value: [u8; 14],
-    pub mark: bool,
+    pub mark: u8, // 0 or 1
 }
 
 /// (01) "items | 0 to 64 | ID, length 1 to 16, writable or not, data"
 #[derive(Clone, PartialEq, Debug)]
 pub struct Item {
     pub id: u16,
-    pub size: u8, // the length
-    pub writable: bool,
+    pub size: u8,     // the length
+    pub writable: u8, // 0 or 1
     pub bytes: [u8; 16],
 }
 
@@ -37,9 +37,9 @@ pub struct Item {
 pub struct Link {
     pub receiver: [u8; 260],
     pub received: u16,
-    pub dropping: bool,
-    pub expected: bool, // true where odd
-    pub send: bool,     // true where odd
+    pub dropping: u8, // 0 or 1
+    pub expected: u8, // 1 where odd, 0 where even
+    pub send: u8,     // 1 where odd, 0 where even
     pub outstanding: [u8; 261],
     pub held: u16, // 0: nothing outstanding
     pub resends: u8,
@@ -169,7 +169,8 @@ fn refusal(server: &Server, event: &Event, value: &[u8], room: usize) -> Option<
 /// (01) "A table is well formed when it has no more entries than above, IDs are 1 or more and strictly rise, type codes are
 /// 0 to 14, state bits 7 to 5 are 0, item lengths are in range, and value bits and bytes beyond the type's size or the
 /// item's length are 0."
-/// (R) "DPT and config flags may hold any byte. State bits 4 to 0 may hold any combination. Mark and writable are two-valued."
+/// (R) "DPT and config flags may hold any byte. State bits 4 to 0 may hold any combination." A mark and a writable are the byte
+/// 0 or 1, as are dropping, expected and send of the link record: a record with another byte is not well formed, or not in range.
 fn datapoints_well_formed(datapoints: &[Datapoint]) -> bool {
     // "no more entries than above"
     if datapoints.len() > 1000 {
@@ -195,8 +196,15 @@ fn datapoints_well_formed(datapoints: &[Datapoint]) -> bool {
         if has_unused_bits_set(datapoint.typecode, &datapoint.value[..size]) || !all_zero(&datapoint.value[size..]) {
             return false;
         }
+        if !is_0_or_1(datapoint.mark) {
+            return false;
+        }
     }
     true
+}
+
+fn is_0_or_1(byte: u8) -> bool {
+    byte == 0 || byte == 1
 }
 
 fn items_well_formed(items: &[Item]) -> bool {
@@ -219,6 +227,9 @@ fn items_well_formed(items: &[Item]) -> bool {
         if !all_zero(&item.bytes[usize::from(item.size)..]) {
             return false;
         }
+        if !is_0_or_1(item.writable) {
+            return false;
+        }
     }
     true
 }
@@ -239,9 +250,12 @@ fn link_in_range(link: &Link) -> bool {
     if received > 260 || held > 261 {
         return false;
     }
+    if !is_0_or_1(link.dropping) || !is_0_or_1(link.expected) || !is_0_or_1(link.send) {
+        return false;
+    }
     // "the receiver bytes are a beginning, not the whole, of some sound frame, or none while the receiver drops"
     let receiver_in_range =
-        if link.dropping { received == 0 } else { form_of(&link.receiver[..received]) == Form::Beginning };
+        if link.dropping == 1 { received == 0 } else { form_of(&link.receiver[..received]) == Form::Beginning };
     // "either nothing is outstanding and the count is 0, or a whole server data frame is, under the send bit, with a count
     // of 0 to 3"
     // (R) "A whole server data frame": any sound data frame whose control is F3 or D3 as the send bit says, whatever its
@@ -362,8 +376,8 @@ fn checksum(control_and_data: &[u8]) -> u8 {
 }
 
 /// (01) "from server: F3 or D3"; (000) "0xF3 for odd frames and 0xD3 for even frames"
-fn server_control(odd: bool) -> u8 {
-    if odd {
+fn server_control(send: u8) -> u8 {
+    if send == 1 {
         0xF3
     } else {
         0xD3
@@ -374,7 +388,7 @@ fn server_control(odd: bool) -> u8 {
 fn to_frame_start(link: &mut Link) {
     link.receiver = [0; 260];
     link.received = 0;
-    link.dropping = false;
+    link.dropping = 0;
 }
 
 /// (01) "one that is cleared or dropped leaves count 0 and none of its bytes"
@@ -387,7 +401,7 @@ fn clear_outstanding(link: &mut Link) {
 /// One host byte: the bytes sent for it and the message handed up, if any.
 fn receive(link: &mut Link, byte: u8) -> (Vec<u8>, Option<Vec<u8>>) {
     // (01) "the rest is dropped up to the next idle mark"; (R) "while dropping [E5] is dropped"
-    if link.dropping {
+    if link.dropping == 1 {
         return (Vec::new(), None);
     }
     let mut gathered = link.receiver[..usize::from(link.received)].to_vec();
@@ -402,7 +416,7 @@ fn receive(link: &mut Link, byte: u8) -> (Vec<u8>, Option<Vec<u8>>) {
         // (R) "The byte at which damage is found is dropped with the rest and starts nothing, not even if it is 68 or E5."
         Form::Damage => {
             to_frame_start(link);
-            link.dropping = true;
+            link.dropping = 1;
             (Vec::new(), None)
         }
         Form::Acknowledgement => {
@@ -425,7 +439,7 @@ fn receive(link: &mut Link, byte: u8) -> (Vec<u8>, Option<Vec<u8>>) {
 fn acknowledgement(link: &mut Link) {
     if link.held != 0 {
         clear_outstanding(link);
-        link.send = !link.send;
+        link.send = 1 - link.send;
     }
 }
 
@@ -433,8 +447,8 @@ fn acknowledgement(link: &mut Link) {
 /// Other C: whole frame ignored, unanswered."
 fn fixed_frame(link: &mut Link, c: u8) -> Vec<u8> {
     if c == 0x40 {
-        link.expected = true;
-        link.send = true;
+        link.expected = 1;
+        link.send = 1;
         clear_outstanding(link);
         vec![0xE5]
     } else {
@@ -446,8 +460,8 @@ fn fixed_frame(link: &mut Link, c: u8) -> Vec<u8> {
 fn data_frame(link: &mut Link, control: u8, message: Vec<u8>) -> (Vec<u8>, Option<Vec<u8>>) {
     // (01) "Control from host: 73 (count bit odd) or 53 (even)"
     let odd = match control {
-        0x73 => true,
-        0x53 => false,
+        0x73 => 1,
+        0x53 => 0,
         // (01) "A sound frame with another control byte is ignored, unanswered."
         _ => return (Vec::new(), None),
     };
@@ -455,7 +469,7 @@ fn data_frame(link: &mut Link, control: u8, message: Vec<u8>) -> (Vec<u8>, Optio
         if link.held == 0 {
             // (01) "Expected count bit, nothing outstanding: E5, bit flips, message carried out, answer framed right after
             // the E5 and held as outstanding."
-            link.expected = !link.expected;
+            link.expected = 1 - link.expected;
             (vec![0xE5], Some(message))
         } else {
             // (01) "Expected bit, something outstanding: dropped, unanswered, bit kept (build)."
@@ -498,7 +512,7 @@ fn ack_wait_over(link: &mut Link) -> Vec<u8> {
         return link.outstanding[..usize::from(link.held)].to_vec();
     }
     clear_outstanding(link);
-    link.send = true;
+    link.send = 1;
     vec![0x10, 0xC0, 0xC0, 0x16]
 }
 
@@ -731,7 +745,7 @@ fn check_item_entry(items: &[Item], entry: &ItemEntry) -> Result<(), Bad> {
         return Err((entry.id, 7));
     };
     // "4 | set entry: item not writable | that entry's"
-    if !items[at].writable {
+    if items[at].writable == 0 {
         return Err((entry.id, 4));
     }
     // "9 | item length not the table's [...] | that entry's"
@@ -916,7 +930,7 @@ fn poll(server: &mut Server) -> Vec<u8> {
     let mut carried = Vec::new();
     let mut size = 6;
     for datapoint in &server.datapoints {
-        if datapoint.mark {
+        if datapoint.mark == 1 {
             let entry = value_entry(datapoint);
             if size + entry.bytes.len() > MESSAGE_AT_MOST {
                 break;
@@ -935,7 +949,7 @@ fn poll(server: &mut Server) -> Vec<u8> {
     }
     for entry in &carried {
         if let Some(at) = find_datapoint(&server.datapoints, entry.id) {
-            server.datapoints[at].mark = false;
+            server.datapoints[at].mark = 0;
         }
     }
     clear_updated(&mut server.datapoints, &carried);
@@ -949,7 +963,7 @@ fn bus_value(server: &mut Server, id: u16, value: &[u8]) {
         datapoint.value[..value.len()].copy_from_slice(value);
         datapoint.state |= 0b0001_1000;
         datapoint.state &= 0b1111_1011;
-        datapoint.mark = true;
+        datapoint.mark = 1;
     }
 }
 

@@ -1,3 +1,4 @@
+#include <stdbool.h>
 #include <string.h>
 
 #include "plays.h"
@@ -49,7 +50,7 @@ void make_tables(size_t datapoints, size_t items)
         struct tagobrelin_item *t = &lent.items[i];
         t->id = (uint16_t)(i + 1);
         t->size = (uint8_t)(1 + random_below(16));
-        t->writable = true;
+        t->writable = 1;
         for (size_t k = 0; k < t->size; k++)
             t->bytes[k] = (uint8_t)random_below(256);
     }
@@ -217,7 +218,7 @@ int32_t play(const struct play *p, call_function *f)
     int32_t answer = 0;
     memcpy(&lent.link, &p->link, sizeof lent.link);
     for (size_t i = 0; i < p->mark_count; i++)
-        lent.datapoints[p->marks[i]].mark = true;
+        lent.datapoints[p->marks[i]].mark = 1;
     for (size_t i = 0; i < p->step_count; i++)
         answer = f(p->steps[i].event, p->steps[i].byte, p->steps[i].id, 2, p->value, p->value_count, lent.datapoints, datapoint_count, lent.items,
                    item_count, lent.parameters, sizeof lent.parameters, &lent.link, lent.out, sizeof lent.out);

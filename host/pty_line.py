@@ -1,8 +1,10 @@
-"""What the tests of host/serve share: a line of two ptys that keeps a trace and can lose bytes, the program on it, and checks.
+"""What the tests on a line share: two ptys with a trace, which can lose bytes and be as slow as a serial line; the
+program on it; checks.
 
 The server's program has one pty, the host the other. Bytes go over in both directions, and are put together to FT1.2 units as their
 sender meant them: an acknowledgement E5, a fixed frame, a data frame."""
 
+import math
 import os
 import select
 import subprocess
@@ -51,9 +53,14 @@ class Unit:
 
 
 class Line:
-    """Two ptys and what goes over between them."""
+    """Two ptys and what goes over between them: at once, or in the time that it takes at a baud rate. Then bytes arrive
+    in lots, as drivers hand them over: so many at a time, or what there is whenever the latency timer has run down."""
 
-    def __init__(self):
+    def __init__(self, baud=None, lot=4096, latency=None):
+        self.baud, self.lot, self.latency = baud, lot, latency
+        self.free = {'server': 0.0, 'host': 0.0}  # when this side has sent all that it has begun to send
+        self.waiting = {'server': [], 'host': []}  # what the other side has not yet got: when it will, and the bytes
+        self.late = 0.0  # how much later than due some bytes went over: a busy machine makes pauses of its own
         self.masters, self.slaves, self.paths = {}, {}, {}
         for side in ('server', 'host'):
             # the slave stays open here, so that the pty outlives the program that uses it
@@ -71,15 +78,35 @@ class Line:
 
     def relay(self):
         while self.is_running:
-            ready = select.select(list(self.masters.values()), [], [], 0.1)[0]
+            dues = [lots[0][0] - time.monotonic() for lots in self.waiting.values() if lots]
+            ready = select.select(list(self.masters.values()), [], [], max(0, min(dues + [0.1])))[0]
             for side, other in (('server', 'host'), ('host', 'server')):
+                lots = self.waiting[side]
                 if self.masters[side] in ready:
-                    data = os.read(self.masters[side], 4096)
-                    with self.changed:
-                        passed = bytes(b for b in data if self.takes(side, b))
-                        self.changed.notify_all()
-                    if passed:
-                        os.write(self.masters[other], passed)
+                    lots += self.lots_of(side, os.read(self.masters[side], 4096))
+                while lots and lots[0][0] <= time.monotonic():
+                    due, data = lots.pop(0)
+                    self.late = max(self.late, time.monotonic() - due) if self.baud else 0.0
+                    self.deliver(side, other, data)
+
+    def lots_of(self, side, data):
+        """These bytes as they arrive: when, and which."""
+        if self.baud is None:
+            return [(0, data)]
+        lots = []
+        for at in range(0, len(data), self.lot):
+            lot = data[at:at + self.lot]
+            self.free[side] = max(self.free[side], time.monotonic()) + len(lot) * 11 / self.baud
+            due = math.ceil(self.free[side] / self.latency) * self.latency if self.latency else self.free[side]
+            lots.append((due, lot))
+        return lots
+
+    def deliver(self, side, other, data):
+        with self.changed:
+            passed = bytes(b for b in data if self.takes(side, b))
+            self.changed.notify_all()
+        if passed:
+            os.write(self.masters[other], passed)
 
     def takes(self, side, byte):
         """Notes a byte; returns whether it goes over."""
@@ -187,16 +214,23 @@ class Checks:
         sys.exit(1 if self.failed else 0)
 
 
+def give_up(text):
+    print('FAILED: ' + text)
+    print('0 ok, 1 failed')
+    sys.exit(1)
+
+
+def found_archive(words):
+    """The archive that the command line names, or the one that rt makes."""
+    if words:
+        return words[0]
+    made = subprocess.run([os.path.join(HERE, 'archive')], stdout=subprocess.PIPE, text=True)
+    return made.stdout.strip() if made.returncode == 0 else give_up('the archive is made')
+
+
 def built_serve(folder, words):
-    """Compiles the program into the folder, over the archive that the command line names or the one that rt makes; returns its path."""
-    archive = words[0] if words else os.path.join(HERE, '..', 'target', 'staticlib', 'libtagobrelin.a')
-    if not os.path.exists(archive):
-        print('FAILED: there is no %s; `rt staticlib tagobrelin` makes it' % os.path.normpath(archive))
-        print('0 ok, 1 failed')
-        sys.exit(1)
+    """Compiles the program into the folder, over the archive; returns its path."""
     program = os.path.join(folder, 'serve')
-    if subprocess.run([os.path.join(HERE, 'build_serve'), archive, program]).returncode != 0:
-        print('FAILED: host/serve.c compiles')
-        print('0 ok, 1 failed')
-        sys.exit(1)
+    if subprocess.run([os.path.join(HERE, 'build_serve'), found_archive(words), program]).returncode != 0:
+        give_up('host/serve.c compiles')
     return program

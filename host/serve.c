@@ -1,5 +1,5 @@
 /* Serves the library's tables to a host on a serial line: host bytes, idle marks, acknowledgement waits and polls, one call each.
- * Bus values and outcomes can be typed on standard input. `serve` without arguments tells how it is called. */
+ * Bus values and outcomes can be typed on standard input. `serve -h` tells how it is called. */
 #define _POSIX_C_SOURCE 200809L
 #include <errno.h>
 #include <fcntl.h>
@@ -12,6 +12,7 @@
 #include <unistd.h>
 
 #include "line.h"
+#include "meaning.h"
 #include "table_file.h"
 #include "tagobrelin.h"
 #include "words.h"
@@ -21,22 +22,26 @@
 #define SECOND (1000 * MILLISECOND)
 #define NEVER INT64_MAX
 
-/* The standard's gap: a line that is silent for 33 bit times is idle. */
-enum { GAP_BITS = 33 };
-
-static struct tables tables, told; /* what the library is lent, and what of it was last shown */
-static struct tagobrelin_link link_record;
+static struct tables tables, told; /* what the server holds, and what of it was last shown */
+static struct tagobrelin_server server;
 static struct line line;
+
+static const char *const parities[] = {[NO_PARITY] = "none", [EVEN_PARITY] = "even", [ODD_PARITY] = "odd"};
 
 /* what the options set */
 static unsigned long baud = 19200;
 static enum parity parity = EVEN_PARITY;
 static int64_t gap, ack_wait = 100 * MILLISECOND, poll_period = 20 * MILLISECOND;
+static bool is_verbose;
 
 static int64_t line_free;        /* when all that was handed to the tty will have gone over the line */
 static int64_t idle_due = NEVER; /* when the line has been silent for the gap, if no byte comes */
 static int64_t ack_due = NEVER;  /* when the outstanding frame's acknowledgement is overdue */
 static int64_t poll_due;
+
+static uint8_t heard[261]; /* the bytes from the host since its last whole frame, to be shown; the longest frame has 261 */
+static size_t heard_count;
+static unsigned long cut_count; /* frames that were cut by an idle mark */
 
 static volatile sig_atomic_t stopped;
 static sigset_t while_waiting; /* signals come only while the loop waits */
@@ -102,33 +107,31 @@ static bool send_bytes(const uint8_t *bytes, size_t count)
     return true;
 }
 
-/* One event: calls the library, sends what it says, and keeps the acknowledgement's time, which runs from the end of the outstanding
- * frame on the line. Returns the library's number. */
-static int32_t call(uint8_t event, uint8_t byte, uint16_t id, uint8_t outcome, const uint8_t *value, size_t value_count)
+/* Sends what an event left to be sent, and keeps the acknowledgement's time, which runs from the end of the outstanding
+ * frame on the line: what is sent is such a frame where it is more than an acknowledgement. Returns the event's number. */
+static int32_t follow(int32_t number)
 {
-    static uint8_t out[TAGOBRELIN_ROOM];
-    bool waited = link_record.held > 0;
-    int32_t number = tagobrelin_call(event, byte, id, outcome, value, value_count, tables.datapoints, tables.datapoint_count, tables.items,
-                                     tables.item_count, tables.parameters, tables.parameter_count, &link_record, out, sizeof out);
-    if (number > 0 && !send_bytes(out, (size_t)number))
-        exit(EXIT_FAILURE);
-    if (link_record.held == 0)
+    if (number > 0) {
+        if (is_verbose)
+            show_sent(stdout, "   server : ", server.out, (size_t)number);
+        if (!send_bytes(server.out, (size_t)number))
+            exit(EXIT_FAILURE);
+    }
+    if (!tagobrelin_is_outstanding(&server))
         ack_due = NEVER;
-    else if (!waited || event == TAGOBRELIN_ACK_WAIT_OVER)
+    else if (number > 1)
         ack_due = line_free + ack_wait;
     return number;
 }
 
-/* An event that is never refused with tables and a link record that nobody else writes to. */
-static int32_t happens(uint8_t event, uint8_t byte)
+/* The same for an event that is never refused with tables and a link that nobody else writes to. */
+static int32_t follow_surely(int32_t number)
 {
-    static const uint8_t no_value[1];
-    int32_t number = call(event, byte, 0, 0, no_value, 0);
     if (number < 0) {
-        fprintf(stderr, "serve: the library refused event %d with %d\n", event, (int)number);
+        fprintf(stderr, "serve: the library refused an event with %d\n", (int)number);
         exit(EXIT_FAILURE);
     }
-    return number;
+    return follow(number);
 }
 
 static void show_bytes(const uint8_t *bytes, size_t count)
@@ -155,14 +158,32 @@ static void show_changes(void)
             show_bytes(is->bytes, is->size);
         }
     }
-    fflush(stdout);
     told = tables;
 }
 
-/* Bytes from the host. Only an answer, more than an acknowledgement, can have changed a table. */
+/* Shows what came from the host, as far as it was not shown, and forgets it. */
+static void show_heard(void)
+{
+    if (is_verbose && heard_count > 0)
+        show_frame(stdout, "   host   : ", heard, heard_count);
+    heard_count = 0;
+}
+
+/* A byte from the host. Only an answer, more than an acknowledgement, can have changed a table. */
+static void hear_byte(uint8_t byte)
+{
+    int32_t number = tagobrelin_host_byte(&server, byte);
+    if (heard_count < sizeof heard)
+        heard[heard_count++] = byte;
+    if (!tagobrelin_is_receiving(&server) && !tagobrelin_is_dropping(&server))
+        show_heard();
+    if (follow_surely(number) > 1)
+        show_changes();
+}
+
 static void hear(void)
 {
-    uint8_t bytes[256];
+    uint8_t bytes[4096]; /* all that a tty keeps: what came is heard before a wait is over */
     ssize_t count = read(line.tty, bytes, sizeof bytes);
     if (count < 0 && (errno == EAGAIN || errno == EINTR))
         return;
@@ -172,75 +193,110 @@ static void hear(void)
     }
     idle_due = now() + gap;
     for (ssize_t i = 0; i < count; i++)
-        if (happens(TAGOBRELIN_HOST_BYTE, bytes[i]) > 1)
-            show_changes();
+        hear_byte(bytes[i]);
+}
+
+/* The line was silent for the gap. Frames that it cuts are told at the third, and then at ten times as many: a host that
+ * breaks off is rare, and a driver that makes pauses cuts many. */
+static void hear_silence(void)
+{
+    static unsigned long tell_at = 3;
+    bool is_within = heard_count > 0;
+    if (tagobrelin_is_receiving(&server) && ++cut_count == tell_at) {
+        fprintf(stderr, "serve: %lu frames from the host were cut by an idle mark: ", cut_count);
+        fprintf(stderr, "if the driver of %s makes pauses, choose a longer -g than %g\n", line.path, (double)gap / MILLISECOND);
+        tell_at *= 10;
+    }
+    show_heard();
+    if (is_verbose && is_within)
+        puts("   line   : silent, an idle mark");
+    follow_surely(tagobrelin_idle_mark(&server));
+}
+
+static void obey_value(struct words *words)
+{
+    unsigned long id;
+    uint8_t value[14];
+    size_t count;
+    if (!read_number(words, "ID", 0, 65535, &id) || !read_bytes(words, value, sizeof value, &count))
+        return;
+    if (follow(tagobrelin_bus_value(&server, (uint16_t)id, value, count)) < 0)
+        wrong(words, "refused: no datapoint has this ID, or the value is not one of its type");
+}
+
+static void obey_outcome(struct words *words)
+{
+    static const char *const outcomes[] = {[TAGOBRELIN_SENT] = "sent", [TAGOBRELIN_FAILED] = "failed", [TAGOBRELIN_IN_PROGRESS] = "in-progress"};
+    unsigned long id;
+    uint8_t outcome = 0;
+    if (!read_number(words, "ID", 0, 65535, &id))
+        return;
+    const char *name = next_word(words);
+    while (outcome < 3 && (name == NULL || strcmp(name, outcomes[outcome]) != 0))
+        outcome++;
+    if (outcome == 3)
+        wrong(words, "behind the ID stands none of sent, failed, in-progress");
+    else if (read_end(words) && follow(tagobrelin_outcome(&server, (uint16_t)id, outcome)) < 0)
+        wrong(words, "refused: no datapoint has this ID");
 }
 
 /* value ID BYTES, or outcome ID sent|failed|in-progress */
 static void obey(struct words *words)
 {
-    static const char *const outcomes[] = {[TAGOBRELIN_SENT] = "sent", [TAGOBRELIN_FAILED] = "failed", [TAGOBRELIN_IN_PROGRESS] = "in-progress"};
-    const char *verb = next_word(words), *name;
-    unsigned long id;
-    uint8_t value[14], outcome = 0;
-    size_t count = 0;
-    bool is_value = verb != NULL && strcmp(verb, "value") == 0;
+    const char *verb = next_word(words);
     if (verb == NULL)
         return;
-    if (!is_value && strcmp(verb, "outcome") != 0) {
-        wrong(words, "'%s' is none of: value ID BYTES, outcome ID sent|failed|in-progress", verb);
-        return;
-    }
-    if (!read_number(words, "ID", 0, 65535, &id))
-        return;
-    if (is_value) {
-        if (!read_bytes(words, value, sizeof value, &count))
-            return;
-    } else {
-        name = next_word(words);
-        while (outcome < 3 && (name == NULL || strcmp(name, outcomes[outcome]) != 0))
-            outcome++;
-        if (outcome == 3) {
-            wrong(words, "behind the ID stands none of sent, failed, in-progress");
-            return;
-        }
-    }
-    if (call(is_value ? TAGOBRELIN_BUS_VALUE : TAGOBRELIN_OUTCOME, 0, (uint16_t)id, outcome, value, count) < 0)
-        wrong(words, "refused: no datapoint has this ID, or the value is not one of its type");
+    if (strcmp(verb, "value") == 0)
+        obey_value(words);
+    else if (strcmp(verb, "outcome") == 0)
+        obey_outcome(words);
     else
-        show_changes();
+        wrong(words, "'%s' is none of: value ID BYTES, outcome ID sent|failed|in-progress", verb);
+    show_changes();
 }
 
-/* What is typed. Returns false at its end. */
+/* The line that is being typed. */
+static struct {
+    char text[256];
+    size_t count; /* of all its characters, also those that have no room */
+} typed;
+
+/* The line is over. One that is too long or holds a NUL is refused whole. */
+static void take_line(void)
+{
+    struct words words = {.source = "standard input", .rest = typed.text};
+    if (typed.count >= sizeof typed.text) {
+        wrong(&words, "a line of %zu characters: there is room for %zu", typed.count, sizeof typed.text - 1);
+    } else if (memchr(typed.text, '\0', typed.count) != NULL) {
+        wrong(&words, "a line holds a NUL");
+    } else {
+        typed.text[typed.count] = '\0';
+        obey(&words);
+    }
+    typed.count = 0;
+}
+
+/* What is typed; its last line also without a newline. Returns false at its end. */
 static bool listen_to_input(void)
 {
-    static char text[256];
-    static size_t filled;
-    struct words words = {.source = "standard input"};
-    char *end;
-    ssize_t count = read(STDIN_FILENO, text + filled, sizeof text - 1 - filled);
-    if (count <= 0)
-        return count < 0 && (errno == EINTR || errno == EAGAIN);
-    filled += (size_t)count;
-    text[filled] = '\0';
-    while ((end = memchr(text, '\n', filled)) != NULL) {
-        *end = '\0';
-        words.rest = text;
-        obey(&words);
-        filled -= (size_t)(end + 1 - text);
-        memmove(text, end + 1, filled);
-    }
-    if (filled == sizeof text - 1) {
-        wrong(&words, "a line is longer than %zu characters", sizeof text - 2);
-        filled = 0;
-    }
-    return true;
+    char bytes[256];
+    ssize_t count = read(STDIN_FILENO, bytes, sizeof bytes);
+    if (count < 0 && (errno == EINTR || errno == EAGAIN))
+        return true;
+    for (ssize_t i = 0; i < count; i++)
+        if (bytes[i] == '\n')
+            take_line();
+        else if (++typed.count < sizeof typed.text)
+            typed.text[typed.count - 1] = bytes[i];
+    if (count <= 0 && typed.count > 0)
+        take_line();
+    return count > 0;
 }
 
 /* Whether the host is between two frames. In mid-frame no indication is sent, since the frame would be dropped for it. */
 static bool is_between_frames(void)
 {
-    return link_record.received == 0 && !link_record.dropping;
+    return !tagobrelin_is_receiving(&server) && !tagobrelin_is_dropping(&server);
 }
 
 static void serve(void)
@@ -248,7 +304,7 @@ static void serve(void)
     bool is_typed = true;
     while (!stopped) {
         fd_set readable;
-        int64_t due = idle_due;
+        int64_t time = now(), due = idle_due;
         if (is_between_frames() && poll_due < due)
             due = poll_due;
         if (ack_due < due)
@@ -264,22 +320,23 @@ static void serve(void)
         }
         if (ready == 0)
             FD_ZERO(&readable);
-        /* Bytes that are there come before what is due: where this program was late they may have come in time. */
+        /* A wait is over by the time before this look at the line: where this is late, bytes may have come in time. */
         if (FD_ISSET(line.tty, &readable)) {
             hear();
-        } else if (now() >= idle_due) {
+        } else if (time >= idle_due) {
             idle_due = NEVER;
-            happens(TAGOBRELIN_IDLE_MARK, 0);
+            hear_silence();
         }
-        if (now() >= ack_due)
-            happens(TAGOBRELIN_ACK_WAIT_OVER, 0);
+        if (time >= ack_due)
+            follow_surely(tagobrelin_ack_wait_over(&server));
         if (FD_ISSET(STDIN_FILENO, &readable))
             is_typed = listen_to_input();
-        if (is_between_frames() && now() >= poll_due) {
-            if (happens(TAGOBRELIN_POLL, 0) > 0)
+        if (is_between_frames() && time >= poll_due) {
+            if (follow_surely(tagobrelin_poll(&server)) > 0)
                 show_changes();
-            poll_due = now() + poll_period;
+            poll_due = time + poll_period;
         }
+        fflush(stdout);
     }
 }
 
@@ -318,19 +375,28 @@ static void catch_signals(void)
         sigdelset(&while_waiting, numbers[i]);
 }
 
-static void tell_usage(void)
+static void tell_usage(FILE *to)
 {
-    fputs("usage: serve [-b BAUD] [-p even|odd|none] [-g MS] [-a MS] [-i MS] TTY TABLES\n"
+    fputs("usage: serve [-hv] [-b BAUD] [-p even|odd|none] [-g MS] [-a MS] [-i MS] TTY TABLES\n"
           "  TTY     the serial line to the host\n"
           "  TABLES  a text file with datapoints, items and parameter bytes; host/tables.txt is one\n"
           "  -b      baud: 19200 if not given\n"
           "  -p      parity: even if not given\n"
-          "  -g      milliseconds of silence that are an idle mark: 33 bit times if not given. A driver that hands over bytes\n"
-          "          in lots (a FIFO, USB) makes pauses of its own: then choose more than they last\n"
+          "  -g      milliseconds of silence that are an idle mark. If not given 20, and more below 12650 baud, so that the\n"
+          "          pauses of a FIFO and of a USB adapter (16 ms) are none. It costs: behind damage all is dropped up to an\n"
+          "          idle mark, so a frame that the host repeats sooner is lost too. The standard's gap is 33 bit times, 2 ms\n"
+          "          at 19200 baud: for a driver that hands over each byte at once, and for more than 19200 baud\n"
           "  -a      milliseconds to wait for the acknowledgement of a frame, from its end on: 100 if not given\n"
           "  -i      milliseconds between polls for an indication: 20 if not given\n"
+          "  -v      shows each frame in both directions, with its meaning\n"
+          "  -h      shows this\n"
           "Typed lines are bus events: value ID BYTES; outcome ID sent|failed|in-progress. Ctrl-C ends the program.\n",
-          stderr);
+          to);
+}
+
+static void refuse_call(void)
+{
+    tell_usage(stderr);
     exit(2);
 }
 
@@ -338,28 +404,43 @@ static unsigned long number_option(const char *option, char *text, unsigned long
 {
     struct words words = {.source = option, .rest = text};
     unsigned long number;
-    if (!read_number(&words, "number", 1, most, &number))
+    if (!read_number(&words, "number", 1, most, &number) || !read_end(&words))
         exit(2);
     return number;
+}
+
+static enum parity parity_option(const char *text)
+{
+    for (enum parity each = NO_PARITY; each <= ODD_PARITY; each++)
+        if (strcmp(text, parities[each]) == 0)
+            return each;
+    fprintf(stderr, "serve: -p: '%s' is none of even, odd, none\n", text);
+    exit(2);
+}
+
+/* Longer than the pauses that drivers make in a frame: a 16550 hands over 16 bytes at most at a time, or what there is
+ * when 4 byte times were silent; a USB adapter hands over what came within 16 ms. And at 19200 baud shorter than the wait
+ * of 510 bit times after which a host repeats. */
+static int64_t default_gap(void)
+{
+    int64_t fifo = bit_times(TAGOBRELIN_GAP_BITS + 20 * TAGOBRELIN_BYTE_BITS), usb = 20 * MILLISECOND;
+    return fifo > usb ? fifo : usb;
 }
 
 static void read_options(int count, char **texts)
 {
     int option;
-    while ((option = getopt(count, texts, "b:p:g:a:i:")) >= 0)
+    while ((option = getopt(count, texts, "b:p:g:a:i:vh")) >= 0)
         switch (option) {
         case 'b':
             baud = number_option("-b", optarg, 115200);
+            if (!is_baud(baud)) {
+                fprintf(stderr, "serve: -b: %lu is none of " BAUDS "\n", baud);
+                exit(2);
+            }
             break;
         case 'p':
-            if (strcmp(optarg, "even") == 0)
-                parity = EVEN_PARITY;
-            else if (strcmp(optarg, "odd") == 0)
-                parity = ODD_PARITY;
-            else if (strcmp(optarg, "none") == 0)
-                parity = NO_PARITY;
-            else
-                tell_usage();
+            parity = parity_option(optarg);
             break;
         case 'g':
             gap = (int64_t)number_option("-g", optarg, 60000) * MILLISECOND;
@@ -370,18 +451,23 @@ static void read_options(int count, char **texts)
         case 'i':
             poll_period = (int64_t)number_option("-i", optarg, 60000) * MILLISECOND;
             break;
+        case 'v':
+            is_verbose = true;
+            break;
+        case 'h':
+            tell_usage(stdout);
+            exit(EXIT_SUCCESS);
         default:
-            tell_usage();
+            refuse_call();
         }
     if (count - optind != 2)
-        tell_usage();
+        refuse_call();
     if (gap == 0)
-        gap = bit_times(GAP_BITS);
+        gap = default_gap();
 }
 
 int main(int count, char **texts)
 {
-    static const char *const parities[] = {[NO_PARITY] = "no", [EVEN_PARITY] = "even", [ODD_PARITY] = "odd"};
     take_standard_places();
     read_options(count, texts);
     if (!read_tables(texts[optind + 1], &tables))
@@ -390,11 +476,13 @@ int main(int count, char **texts)
     if (!open_line(&line, texts[optind], baud, parity))
         return EXIT_FAILURE;
     atexit(close_at_exit);
-    tagobrelin_fresh_link(&link_record);
+    lend_tables(&tables, &server);
+    tagobrelin_start(&server);
     told = tables;
     poll_due = now();
+    setvbuf(stdout, NULL, _IOFBF, 1 << 16); /* what is shown leaves at the end of a round: no frame waits for it */
     printf("serving %zu datapoints, %zu items and %zu parameter bytes on %s: %lu baud, %s parity\n", tables.datapoint_count, tables.item_count,
-           tables.parameter_count, line.path, baud, parities[parity]);
+           tables.parameter_count, line.path, baud, parity == NO_PARITY ? "no" : parities[parity]);
     fflush(stdout);
     serve();
     return EXIT_SUCCESS;

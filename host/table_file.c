@@ -5,6 +5,7 @@
 #include <stdio.h>
 #include <stdlib.h>
 #include <string.h>
+#include <sys/types.h>
 
 #include "words.h"
 
@@ -16,15 +17,23 @@ size_t value_size(uint8_t typecode)
     return sizes[typecode];
 }
 
+void lend_tables(struct tables *tables, struct tagobrelin_server *server)
+{
+    server->datapoints = tables->datapoints;
+    server->datapoint_count = tables->datapoint_count;
+    server->items = tables->items;
+    server->item_count = tables->item_count;
+    server->parameters = tables->parameters;
+    server->parameter_count = tables->parameter_count;
+}
+
 /* The library alone judges what is well formed: it refuses any event with tables that are not. */
 static bool is_accepted(struct tables *tables)
 {
-    static struct tagobrelin_link link;
-    static uint8_t out[TAGOBRELIN_ROOM];
-    static const uint8_t no_value[1];
-    tagobrelin_fresh_link(&link);
-    return tagobrelin_call(TAGOBRELIN_IDLE_MARK, 0, 0, 0, no_value, 0, tables->datapoints, tables->datapoint_count, tables->items, tables->item_count,
-                           tables->parameters, tables->parameter_count, &link, out, sizeof out) == 0;
+    static struct tagobrelin_server server;
+    lend_tables(tables, &server);
+    tagobrelin_start(&server);
+    return tagobrelin_idle_mark(&server) == 0;
 }
 
 /* datapoint ID type CODE flags BYTE dpt BYTE state BYTE value BYTES */
@@ -115,14 +124,15 @@ bool read_tables(const char *path, struct tables *tables)
     struct words words = {.source = path};
     char *line = NULL;
     size_t room = 0;
+    ssize_t count;
     bool is_read = true;
     FILE *file = fopen(path, "r");
     if (file == NULL)
         return wrong(&words, "%s", strerror(errno));
-    while (is_read && getline(&line, &room, file) >= 0) {
+    while (is_read && (count = getline(&line, &room, file)) >= 0) {
         words.line++;
         words.rest = line;
-        is_read = read_entry(&words, tables);
+        is_read = strlen(line) == (size_t)count ? read_entry(&words, tables) : wrong(&words, "the line holds a NUL");
     }
     if (is_read && ferror(file)) {
         words.line = 0;

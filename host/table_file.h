@@ -18,6 +18,9 @@ struct tables {
 /* How many bytes a value of this type code has, for codes up to 14. */
 size_t value_size(uint8_t typecode);
 
+/* Makes these the server's tables. */
+void lend_tables(struct tables *tables, struct tagobrelin_server *server);
+
 /* Fills the tables, which are empty before. If it cannot, it tells why on standard error, with the line, and returns false. */
 bool read_tables(const char *path, struct tables *tables);
 

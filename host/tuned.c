@@ -4,6 +4,7 @@
  * How it is made quick: tables and link record are read by words of eight bytes against masks; the order of the IDs, the unused
  * bytes and the checksums are tested without a jump that could be mispredicted; answers are built where they have to be held, in the
  * outstanding frame's memory, in one pass, and copied out once; a search has no jump on IDs, and each entry is looked up once. */
+#include <stdbool.h>
 #include <string.h>
 
 #include "tuned.h"
@@ -37,6 +38,13 @@ static inline uint32_t half_word(const void *at)
     return w;
 }
 
+static inline uint32_t two_bytes_as_they_lie(const void *at)
+{
+    uint16_t w;
+    memcpy(&w, at, sizeof w);
+    return w;
+}
+
 static inline void put_word(void *at, uint64_t w)
 {
     memcpy(at, &w, sizeof w);
@@ -55,19 +63,21 @@ static inline void put_two_bytes(uint8_t *at, uint32_t n)
 
 /* ---- the tables */
 
-/* by type code: the bits of a record's bytes 4 to 11 and 12 to 19 that have to be 0 (bits 7 to 5 of the state among them) */
-static const uint64_t unused_low[15] = {0xfffffffffffee000, 0xfffffffffffce000, 0xfffffffffff8e000, 0xfffffffffff0e000, 0xffffffffffe0e000, 0xffffffffffc0e000,
-                                        0xffffffffff80e000, 0xffffffffff00e000, 0xffffffff0000e000, 0xffffff000000e000, 0xffff00000000e000, 0x000000000000e000,
-                                        0x000000000000e000, 0x000000000000e000, 0x000000000000e000};
-static const uint64_t unused_high[15] = {~0ull, ~0ull, ~0ull, ~0ull, ~0ull, ~0ull, ~0ull, ~0ull, ~0ull, ~0ull, ~0ull, ~0ull, ~0ull << 16, ~0ull << 32, 0};
+/* by type code: the bits of a record's bytes 5 to 12 and 13 to 20 that have to be 0; those of the state and of the mark are among them */
+static const uint64_t unused_low[15] = {0xfffffffffffffee0, 0xfffffffffffffce0, 0xfffffffffffff8e0, 0xfffffffffffff0e0, 0xffffffffffffe0e0,
+                                        0xffffffffffffc0e0, 0xffffffffffff80e0, 0xffffffffffff00e0, 0xffffffffff0000e0, 0xffffffff000000e0,
+                                        0xffffff00000000e0, 0xff000000000000e0, 0x00000000000000e0, 0x00000000000000e0, 0x00000000000000e0};
+static const uint64_t unused_high[15] = {0xfeffffffffffffff, 0xfeffffffffffffff, 0xfeffffffffffffff, 0xfeffffffffffffff, 0xfeffffffffffffff,
+                                         0xfeffffffffffffff, 0xfeffffffffffffff, 0xfeffffffffffffff, 0xfeffffffffffffff, 0xfeffffffffffffff,
+                                         0xfeffffffffffffff, 0xfeffffffffffffff, 0xfeffffffffffff00, 0xfeffffffff000000, 0xfe00000000000000};
 
 /* by type code: a value's bytes, and the bits of its first byte that have to be 0 */
 static const uint8_t size_of[15] = {1, 1, 1, 1, 1, 1, 1, 1, 2, 3, 4, 6, 8, 10, 14};
 static const uint8_t first_byte_unused[15] = {0xfe, 0xfc, 0xf8, 0xf0, 0xe0, 0xc0, 0x80};
 
-/* by size: the bits of 16 bytes that have to be 0 */
-static const uint64_t item_low[17] = {~0ull, ~0ull << 8, ~0ull << 16, ~0ull << 24, ~0ull << 32, ~0ull << 40, ~0ull << 48, ~0ull << 56};
-static const uint64_t item_high[17] = {~0ull, ~0ull, ~0ull, ~0ull, ~0ull, ~0ull, ~0ull, ~0ull, ~0ull, ~0ull << 8, ~0ull << 16, ~0ull << 24,
+/* by size: the bits of 16 bytes that have to be 0; a size beyond has an entry too, since it is judged later than looked up */
+static const uint64_t item_low[256] = {~0ull, ~0ull << 8, ~0ull << 16, ~0ull << 24, ~0ull << 32, ~0ull << 40, ~0ull << 48, ~0ull << 56};
+static const uint64_t item_high[256] = {~0ull, ~0ull, ~0ull, ~0ull, ~0ull, ~0ull, ~0ull, ~0ull, ~0ull, ~0ull << 8, ~0ull << 16, ~0ull << 24,
                                        ~0ull << 32, ~0ull << 40, ~0ull << 48, ~0ull << 56, 0};
 
 /* One record: unused bits are gathered in `bad`; the top bit of `rises` stays set while each ID is above the one before it. */
@@ -76,7 +86,7 @@ static const uint64_t item_high[17] = {~0ull, ~0ull, ~0ull, ~0ull, ~0ull, ~0ull,
         uint32_t t = (d)->typecode, id = (d)->id;                                                        \
         if (RARELY(t > 14))                                                                              \
             return false;                                                                                \
-        bad |= (word(&(d)->dpt) & unused_low[t]) | (word(&(d)->value[6]) & unused_high[t]);              \
+        bad |= (word(&(d)->state) & unused_low[t]) | (word(&(d)->value[7]) & unused_high[t]);            \
         rises &= last - id;                                                                              \
         last = id;                                                                                       \
     } while (0)
@@ -98,11 +108,11 @@ static inline bool datapoints_are_well_formed(const datapoint *d, size_t n)
     return bad == 0 && rises != 0;
 }
 
+/* size and writable as one number, less 1: at most bits 8 and 3 to 0 where the size is 1 to 16 and writable 0 or 1 */
 #define LOOK_AT_ITEM(i)                                                                                  \
     do {                                                                                                 \
         uint32_t size = (i)->size, id = (i)->id;                                                         \
-        if (RARELY(size - 1 > 15))                                                                       \
-            return false;                                                                                \
+        sizes |= two_bytes_as_they_lie(&(i)->size) - 1;                                                  \
         bad |= (word((i)->bytes) & item_low[size]) | (word((i)->bytes + 8) & item_high[size]);           \
         rises &= last - id;                                                                              \
         last = id;                                                                                       \
@@ -110,7 +120,7 @@ static inline bool datapoints_are_well_formed(const datapoint *d, size_t n)
 
 static inline bool items_are_well_formed(const item *i, size_t n)
 {
-    uint32_t last = 0, rises = 1u << 31;
+    uint32_t last = 0, rises = 1u << 31, sizes = 0;
     uint64_t bad = 0;
     if (RARELY(n > 64))
         return false;
@@ -122,7 +132,7 @@ static inline bool items_are_well_formed(const item *i, size_t n)
     }
     for (; n; n--, i++)
         LOOK_AT_ITEM(i);
-    return bad == 0 && rises != 0;
+    return bad == 0 && rises != 0 && (sizes & 0xfef0) == 0;
 }
 
 /* how many datapoints have a lower ID */
@@ -209,7 +219,7 @@ static inline bool is_beginning(const uint8_t *g, size_t n)
     return n == count + 5 && g[n - 1] == checksum(g + 4, count);
 }
 
-static inline uint8_t server_control(bool odd)
+static inline uint8_t server_control(uint8_t odd)
 {
     return (uint8_t)(0xd3 | odd << 5);
 }
@@ -228,6 +238,8 @@ static inline bool link_is_in_range(const link_record *link)
 {
     size_t n = link->received, held = link->held;
     if (RARELY(n > sizeof link->receiver) || RARELY(held > sizeof link->outstanding))
+        return false;
+    if (RARELY(half_word(&link->dropping) & 0x00fefefe)) /* dropping, expected or send is not 0 or 1 */
         return false;
     if (RARELY(!is_zero(link->receiver + n, sizeof link->receiver - n)))
         return false;
@@ -537,7 +549,7 @@ static size_t carry_out(datapoint *datapoints, size_t datapoint_count, item *ite
 static int32_t damaged(link_record *link)
 {
     empty_receiver(link);
-    link->dropping = true;
+    link->dropping = 1;
     return 0;
 }
 
@@ -551,7 +563,7 @@ static int32_t on_edge_byte(uint8_t byte, datapoint *datapoints, size_t datapoin
         if (byte == 0xe5) {
             if (link->held) {
                 clear_outstanding(link);
-                link->send = !link->send;
+                link->send ^= 1;
             }
             return 0;
         }
@@ -568,7 +580,7 @@ static int32_t on_edge_byte(uint8_t byte, datapoint *datapoints, size_t datapoin
             if (!reset)
                 return 0;
             clear_outstanding(link);
-            link->expected = link->send = true;
+            link->expected = link->send = 1;
             out[0] = 0xe5;
             return 1;
         }
@@ -586,7 +598,7 @@ static int32_t on_edge_byte(uint8_t byte, datapoint *datapoints, size_t datapoin
             uint8_t control = g[4], wanted = (uint8_t)(0x53 | link->expected << 5);
             if (control == wanted && link->held == 0) {
                 size_t end = carry_out(datapoints, datapoint_count, items, item_count, parameters, parameter_count, g + MESSAGE, count - 1, link->outstanding);
-                link->expected = !link->expected;
+                link->expected ^= 1;
                 empty_receiver(link);
                 out[0] = 0xe5;
                 return end ? 1 + send(link, out + 1, end) : 1;
@@ -638,7 +650,7 @@ static int32_t on_poll(datapoint *d, size_t n, link_record *link, uint8_t *out)
                 break;
             at = put_value(f, at, d, size);
             d->state &= (uint8_t)~8;
-            d->mark = false;
+            d->mark = 0;
             count++;
         }
         d++;
@@ -660,7 +672,7 @@ static int32_t on_ack_wait_over(link_record *link, uint8_t *out)
         return link->held;
     }
     clear_outstanding(link);
-    link->send = true;
+    link->send = 1;
     memcpy(out, reset, sizeof reset);
     return sizeof reset;
 }
@@ -676,7 +688,7 @@ static int32_t on_bus_value(uint32_t id, const uint8_t *value, size_t value_coun
     /* the bytes behind the value are 0 already */
     memcpy(d->value, value, value_count);
     d->state = (d->state & 0xe3) | 0x18;
-    d->mark = true;
+    d->mark = 1;
     return 0;
 }
 
@@ -706,7 +718,7 @@ int32_t tuned_call(uint8_t event, uint8_t byte, uint16_t id, uint8_t outcome, co
         return on_host_byte(byte, datapoints, datapoint_count, items, item_count, parameters, parameter_count, link, out);
     case TAGOBRELIN_IDLE_MARK:
         empty_receiver(link);
-        link->dropping = false;
+        link->dropping = 0;
         return 0;
     case TAGOBRELIN_ACK_WAIT_OVER:
         return on_ack_wait_over(link, out);

@@ -1,5 +1,6 @@
 /* Holds tuned.c against the archive: random tables, link records and events; after each call both have given the same answer and left the same
  * bytes, padding included. Usage: tuned_test [CALLS [SEED]]. Prints how often each answer was met; the exit status tells whether all were the same. */
+#include <stdbool.h>
 #include <stdio.h>
 #include <stdlib.h>
 #include <string.h>
@@ -223,12 +224,39 @@ static uint8_t random_event(void)
     return (uint8_t)(1 + random_below(6));
 }
 
+/* a byte that has to be 0 or 1 is neither: some mark, writable, dropping, expected or send */
+static void alter_0_or_1(void)
+{
+    static const uint8_t others[] = {2, 3, 0x80, 0xff};
+    uint8_t other = others[random_below(4)];
+    size_t k;
+    switch (random_below(5)) {
+    case 0:
+        k = random_below((uint32_t)datapoint_count + 1); /* also behind the last: nobody looks there */
+        ours.datapoints[k].mark = tuned.datapoints[k].mark = other;
+        break;
+    case 1:
+        k = random_below((uint32_t)item_count + 1);
+        ours.items[k].writable = tuned.items[k].writable = other;
+        break;
+    case 2:
+        ours.link.dropping = tuned.link.dropping = other;
+        break;
+    case 3:
+        ours.link.expected = tuned.link.expected = other;
+        break;
+    default:
+        ours.link.send = tuned.link.send = other;
+    }
+}
+
 /* some byte of the tables or of the link record is altered, or a count, for a call or a few */
 static void broken(void)
 {
     size_t d = datapoint_count, i = item_count, p = parameter_count, r = room, k = 1 + random_below(3);
+    bool alone = false;
     memcpy(&saved, &ours, sizeof ours);
-    switch (random_below(8)) {
+    switch (random_below(9)) {
     case 0:
         datapoint_count = 1001;
         break;
@@ -247,26 +275,26 @@ static void broken(void)
     case 5:
         ours.link.held = tuned.link.held = (uint16_t)random_below(one_in(2) ? 300 : 65536);
         break;
+    case 6:
+        alter_0_or_1();
+        alone = random_below(4) > 0;
+        break;
     default:
         break;
     }
-    while (k--) {
+    while (!alone && k--) {
         uint8_t *a, *b, mask = (uint8_t)(1 << random_below(8));
         size_t at, in = random_below(3);
         if (in == 0 && d) {
-            at = random_below((uint32_t)d) * sizeof *ours.datapoints + random_below(20);
+            at = random_below((uint32_t)d) * sizeof *ours.datapoints + random_below(21);
             a = (uint8_t *)ours.datapoints + at;
             b = (uint8_t *)tuned.datapoints + at;
         } else if (in == 1 && i) {
             at = random_below((uint32_t)i) * sizeof *ours.items + random_below(20);
-            if (at % 20 == 3)
-                mask = 1;
             a = (uint8_t *)ours.items + at;
             b = (uint8_t *)tuned.items + at;
         } else {
             at = random_below(529);
-            if (at >= 262 && at <= 264)
-                mask = 1;
             a = (uint8_t *)&ours.link + at;
             b = (uint8_t *)&tuned.link + at;
         }

@@ -72,3 +72,9 @@ bool read_bytes(struct words *words, uint8_t *bytes, size_t most, size_t *count)
     }
     return true;
 }
+
+bool read_end(struct words *words)
+{
+    const char *word = next_word(words);
+    return word == NULL || wrong(words, "'%s' stands where the line should end", word);
+}

@@ -28,4 +28,7 @@ bool read_number(struct words *words, const char *what, unsigned long least, uns
 /* The words up to the end are bytes of two hexadecimal digits: `most` of them at most. */
 bool read_bytes(struct words *words, uint8_t *bytes, size_t most, size_t *count);
 
+/* There is no further word. */
+bool read_end(struct words *words);
+
 #endif

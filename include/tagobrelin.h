@@ -1,24 +1,32 @@
-/* Tagobrelin in C: what libtagobrelin.a exports.
+/* Tagobrelin in C: what libtagobrelin.a exports, and over it the face that a program uses: struct tagobrelin_server and
+ * one function an event, at the end of this file.
  *
- * Both functions are proved to do what crates/tagobrelin/src/exported.rt promises, for every content of the memory that they
- * are lent. They keep no state of their own, use no heap, and need memcpy and memset of the C library. The proof speaks of a
- * caller that keeps the rules below: nothing checks a C caller.
+ * The archive's two functions, tagobrelin_call and tagobrelin_fresh_link, are proved to do what
+ * crates/tagobrelin/src/exported.rt promises, for every content of the memory that they are lent. They keep no state of
+ * their own, use no heap, and need memcpy and memset of the C library. The proof speaks of a caller that keeps the rules
+ * below: nothing checks a C caller.
  *
  * A caller guarantees, at each call:
- *   - No pointer is null, not even one whose count is 0: pass the address of any byte then.
+ *   - No pointer is null, not even one whose count is 0: pass the address of any byte then. (The face does.)
  *   - Behind each pointer lies as much memory as its count says, and the counts are elements, not bytes.
  *   - Datapoints, items and the link record lie at even addresses. (As C objects of these types they do.)
- *   - No two of these runs of memory overlap, but for value and parameters, which are only read; and nobody else writes to any of
- *     them while the call runs.
- *   - A bool is the byte 0 or 1. (C keeps that where a bool is assigned; memory read from a store is the caller's to look at.)
- * The contents may otherwise be anything: what is not in order is refused by number, and then no byte of anything is changed.
+ *   - No two of these runs of memory overlap, but for value and parameters, which are only read; and nobody else writes
+ *     to any of them while the call runs. So two calls for one server are never made at the same time, also not one of
+ *     them in an interrupt or another thread; for two servers that share no memory they may be.
+ * The contents may be anything: what is not in order is refused by number, and then no byte of anything is changed.
  */
 #ifndef TAGOBRELIN_H
 #define TAGOBRELIN_H
 
-#include <stdbool.h>
 #include <stddef.h>
 #include <stdint.h>
+
+/* By semver.org, for the face at the end of this file. What it stands on, tagobrelin_call and the records' layout, may
+ * change in a minor version: header and archive are always taken together. CHANGELOG.md tells what changed. */
+#define TAGOBRELIN_VERSION_MAJOR 1
+#define TAGOBRELIN_VERSION_MINOR 0
+#define TAGOBRELIN_VERSION_PATCH 0
+#define TAGOBRELIN_VERSION "1.0.0"
 
 #ifdef __cplusplus
 extern "C" {
@@ -32,24 +40,24 @@ struct tagobrelin_datapoint {
     uint8_t dpt;       /* datapoint type: any byte */
     uint8_t state;     /* bit 4 valid, 3 updated from bus, 2 data request, 1-0 transmission status; bits 7 to 5 are 0 */
     uint8_t value[14]; /* big-endian, from the first byte on; bits and bytes beyond the type's size are 0 */
-    bool mark;         /* the value came from the bus and waits for an indication */
+    uint8_t mark;      /* 1: the value came from the bus and waits for an indication; else 0 */
 };
 
 /* One server item. A table has 0 to 64 of them, their IDs 1 or more and strictly rising. */
 struct tagobrelin_item {
     uint16_t id;
     uint8_t size;      /* 1 to 16 */
-    bool writable;
+    uint8_t writable;  /* 1: a host may set it; else 0 */
     uint8_t bytes[16]; /* those beyond the size are 0 */
 };
 
-/* The link record: made by tagobrelin_fresh_link, and from then on changed by tagobrelin_call alone. A bit is true where it is odd. */
+/* The link record: made by tagobrelin_fresh_link, and from then on changed by tagobrelin_call alone. */
 struct tagobrelin_link {
     uint8_t receiver[260];    /* the bytes of the frame that is being received, and 0 behind them */
     uint16_t received;        /* how many they are */
-    bool dropping;            /* the receiver drops what comes, up to the next idle mark */
-    bool expected;            /* the count bit of the next request that is carried out */
-    bool send;                /* the count bit of the next frame that is sent, or of the outstanding one */
+    uint8_t dropping;         /* 1: the receiver drops what comes, up to the next idle mark; else 0 */
+    uint8_t expected;         /* the count bit of the next request that is carried out: 1 odd, 0 even */
+    uint8_t send;             /* the count bit of the next frame that is sent, or of the outstanding one, likewise */
     uint8_t outstanding[261]; /* the frame that waits for its acknowledgement, and 0 behind it */
     uint16_t held;            /* how many bytes it has: 0 where nothing is outstanding */
     uint8_t resends;          /* how often it was sent again: 0 to 3 */
@@ -72,22 +80,23 @@ enum {
     TAGOBRELIN_IN_PROGRESS = 2
 };
 
-/* What tagobrelin_call returns: 0 to 262, how many bytes from the start of `out` are to be sent to the host; or one of these.
- * Several at once: the first that applies, in the order TAGOBRELIN_NO_EVENT, -1, -2, -3, -4. */
+/* What tagobrelin_call returns: 0 to 262, how many bytes from the start of `out` are to be sent to the host; or one of
+ * these. Several at once: the first that applies, in the order TAGOBRELIN_NO_EVENT, -1, -2, -3, -4. */
 enum {
-    TAGOBRELIN_BAD_TABLE = -1,     /* a table is not well formed, or has more entries than above, or there are more than 255 parameter bytes */
-    TAGOBRELIN_BAD_LINK = -2,      /* the link record is not in range: it was not made by tagobrelin_fresh_link, or somebody wrote to it */
+    TAGOBRELIN_BAD_TABLE = -1,     /* a table is not well formed, or too long; or more than 255 parameter bytes */
+    TAGOBRELIN_BAD_LINK = -2,      /* the link record is not in range: not made by tagobrelin_fresh_link, or altered */
     TAGOBRELIN_NO_ROOM = -3,       /* `out` has room for less than TAGOBRELIN_ROOM bytes */
-    TAGOBRELIN_BAD_BUS_EVENT = -4, /* no datapoint has this ID; or the value's length is not its type's, or unused bits are set */
+    TAGOBRELIN_BAD_BUS_EVENT = -4, /* the ID is absent, the value's length is not its type's, or unused bits are set */
     TAGOBRELIN_NO_EVENT = -100     /* the event is not 1 to 6, or it is 6 and the outcome is not 0 to 2 */
 };
 
 /* The most that one call sends, and the room that each call wants. */
 enum { TAGOBRELIN_ROOM = 262 };
 
-/* One event. `byte`, `id`, `outcome` and `value` are read where the event has them, and may be anything where it has not.
- * A number below 0: no byte of anything lent was changed. Else the first bytes of `out`, as many as the number says, are to be
- * sent, the bytes behind them are as they were, and tables and link record are such that the next call does not refuse them. */
+/* One event. `byte`, `id`, `outcome` and `value` are read where the event has them, and may be anything where it has
+ * not. A number below 0: no byte of anything lent was changed. Else the first bytes of `out`, as many as the number
+ * says, are to be sent, the bytes behind them are as they were, and tables and link record are such that the next call
+ * does not refuse them. */
 int32_t tagobrelin_call(uint8_t event, uint8_t byte, uint16_t id, uint8_t outcome,
                         const uint8_t *value, size_t value_count,
                         struct tagobrelin_datapoint *datapoints, size_t datapoint_count,
@@ -96,20 +105,129 @@ int32_t tagobrelin_call(uint8_t event, uint8_t byte, uint16_t id, uint8_t outcom
                         struct tagobrelin_link *link,
                         uint8_t *out, size_t room);
 
-/* Makes the link record that a reset leaves: the receiver at a frame start, both bits odd, nothing outstanding. Before it
- * the record's bools are 0 or 1, as at every call: static memory is, and other memory is zeroed first. */
+/* Makes the link record that a reset leaves, whatever stood there: the receiver at a frame start, both bits odd,
+ * nothing outstanding. */
 void tagobrelin_fresh_link(struct tagobrelin_link *link);
+
+/* ---- The face. Later versions add members and functions and take none away.
+ *
+ * A server: the tables that it holds, its end of the line, and what it sends. It is static or zeroed before its members
+ * are set, by name: a member that a later version adds is 0 then, which means none. */
+struct tagobrelin_server {
+    struct tagobrelin_datapoint *datapoints; /* each table may be null where its count is 0, and only there */
+    size_t datapoint_count;
+    struct tagobrelin_item *items;
+    size_t item_count;
+    uint8_t *parameters; /* only read today; not const, so that a later version can let the host set them */
+    size_t parameter_count;
+    struct tagobrelin_link link;  /* made by tagobrelin_start; nobody else writes to it, or has to read it */
+    uint8_t out[TAGOBRELIN_ROOM]; /* what the last event left to be sent */
+};
+
+/* Before the first event: the link as a reset leaves it. The tables stay. */
+static inline void tagobrelin_start(struct tagobrelin_server *server)
+{
+    tagobrelin_fresh_link(&server->link);
+}
+
+/* One event by its number. The functions below are for use; this is what they have in common. */
+static inline int32_t tagobrelin_event(struct tagobrelin_server *server, uint8_t event, uint8_t byte, uint16_t id,
+                                       uint8_t outcome, const uint8_t *value, size_t value_count)
+{
+    /* Something that exists stands where there is no element. */
+    struct tagobrelin_datapoint no_datapoint;
+    struct tagobrelin_item no_item;
+    if ((!server->datapoints && server->datapoint_count > 0) || (!server->items && server->item_count > 0) ||
+        (!server->parameters && server->parameter_count > 0))
+        return TAGOBRELIN_BAD_TABLE;
+    return tagobrelin_call(event, byte, id, outcome, value ? value : server->out, value ? value_count : 0,
+                           server->datapoints ? server->datapoints : &no_datapoint, server->datapoint_count,
+                           server->items ? server->items : &no_item, server->item_count,
+                           server->parameters ? server->parameters : server->out, server->parameter_count,
+                           &server->link, server->out, sizeof server->out);
+}
+
+/* The six events. Each returns how many bytes from the start of `out` are to be sent now, 0 for none, or a number below
+ * 0: then it was refused and nothing changed. Only bus values and outcomes can be refused with tables that are in order. */
+
+static inline int32_t tagobrelin_host_byte(struct tagobrelin_server *server, uint8_t byte)
+{
+    return tagobrelin_event(server, TAGOBRELIN_HOST_BYTE, byte, 0, 0, NULL, 0);
+}
+
+/* The line was silent for TAGOBRELIN_GAP_BITS. */
+static inline int32_t tagobrelin_idle_mark(struct tagobrelin_server *server)
+{
+    return tagobrelin_event(server, TAGOBRELIN_IDLE_MARK, 0, 0, 0, NULL, 0);
+}
+
+/* A frame is outstanding, and TAGOBRELIN_ACK_WAIT_BITS are over since its last bit was on the line. */
+static inline int32_t tagobrelin_ack_wait_over(struct tagobrelin_server *server)
+{
+    return tagobrelin_event(server, TAGOBRELIN_ACK_WAIT_OVER, 0, 0, 0, NULL, 0);
+}
+
+/* An indication is sent, if one is due. Not while a request comes in: behind an indication it is dropped, and the host
+ * has to repeat it. */
+static inline int32_t tagobrelin_poll(struct tagobrelin_server *server)
+{
+    return tagobrelin_event(server, TAGOBRELIN_POLL, 0, 0, 0, NULL, 0);
+}
+
+/* The bus gave this value, of as many bytes as the datapoint's type has. */
+static inline int32_t tagobrelin_bus_value(struct tagobrelin_server *server, uint16_t id, const uint8_t *value,
+                                           size_t value_count)
+{
+    return tagobrelin_event(server, TAGOBRELIN_BUS_VALUE, 0, id, 0, value, value_count);
+}
+
+/* A transmission came to TAGOBRELIN_SENT, TAGOBRELIN_FAILED or TAGOBRELIN_IN_PROGRESS. */
+static inline int32_t tagobrelin_outcome(struct tagobrelin_server *server, uint16_t id, uint8_t outcome)
+{
+    return tagobrelin_event(server, TAGOBRELIN_OUTCOME, 0, id, outcome, NULL, 0);
+}
+
+/* 1 where a frame is outstanding: sent, and not acknowledged yet. */
+static inline int tagobrelin_is_outstanding(const struct tagobrelin_server *server)
+{
+    return server->link.held > 0;
+}
+
+/* 1 where a frame from the host has begun and is not whole yet. */
+static inline int tagobrelin_is_receiving(const struct tagobrelin_server *server)
+{
+    return server->link.received > 0;
+}
+
+/* 1 where what comes is dropped, behind damage and up to the next idle mark. */
+static inline int tagobrelin_is_dropping(const struct tagobrelin_server *server)
+{
+    return server->link.dropping != 0;
+}
+
+/* Times on the line, in bit times. */
+enum {
+    TAGOBRELIN_BYTE_BITS = 11,     /* one byte: start bit, 8 data bits, even parity, stop bit */
+    TAGOBRELIN_GAP_BITS = 33,      /* the silence that is an idle mark */
+    TAGOBRELIN_ACK_WAIT_BITS = 510 /* the wait for an acknowledgement, from the frame's last bit on */
+};
+
+/* So many bit times in microseconds at this baud rate, rounded up. */
+#define TAGOBRELIN_MICROSECONDS(bits, baud) (((uint64_t)(bits) * 1000000u + (uint64_t)(baud) - 1u) / (uint64_t)(baud))
 
 #ifdef __cplusplus
 }
 #define TAGOBRELIN_ASSERT(fact) static_assert(fact, #fact)
-#else
+#elif defined __STDC_VERSION__ && __STDC_VERSION__ >= 201112L
 #define TAGOBRELIN_ASSERT(fact) _Static_assert(fact, #fact)
+#else /* C99 has no such assertion: a type, another for each line, that cannot be where the fact is none */
+#define TAGOBRELIN_ASSERT(fact) TAGOBRELIN_ASSERT_AT(fact, __LINE__)
+#define TAGOBRELIN_ASSERT_AT(fact, line) TAGOBRELIN_ASSERTED(fact, line)
+#define TAGOBRELIN_ASSERTED(fact, line) typedef char tagobrelin_asserted_##line[(fact) ? 1 : -1]
 #endif
 
 /* The layout that the archive was compiled for. */
 #define TAGOBRELIN_AT(type, field, at) TAGOBRELIN_ASSERT(offsetof(struct tagobrelin_##type, field) == at)
-TAGOBRELIN_ASSERT(sizeof(bool) == 1);
 TAGOBRELIN_ASSERT(sizeof(size_t) == 8);
 TAGOBRELIN_ASSERT(sizeof(struct tagobrelin_datapoint) == 22);
 TAGOBRELIN_AT(datapoint, id, 0);
@@ -135,5 +253,7 @@ TAGOBRELIN_AT(link, held, 526);
 TAGOBRELIN_AT(link, resends, 528);
 #undef TAGOBRELIN_AT
 #undef TAGOBRELIN_ASSERT
+#undef TAGOBRELIN_ASSERT_AT
+#undef TAGOBRELIN_ASSERTED
 
 #endif

@@ -46,6 +46,7 @@ const CLAUSES: &[Clause] = &[
     clause(-1, "1: state bit 7", |case, random| state_bit(case, random, 7)),
     clause(-1, "1: unused bits of a value", value_bits),
     clause(-1, "1: bytes behind a value", value_bytes),
+    clause(-1, "1: a mark that is neither 0 nor 1", mark),
     clause(-1, "1: item ID 0", item_id_0),
     clause(-1, "1: item IDs equal", item_ids_equal),
     clause(-1, "1: item IDs fall", item_ids_fall),
@@ -53,6 +54,7 @@ const CLAUSES: &[Clause] = &[
     clause(-1, "1: item length 17", |case, random| item_size(case, random, 17)),
     clause(-1, "1: item length above 17", item_size_above),
     clause(-1, "1: bytes behind an item", item_bytes),
+    clause(-1, "1: a writable that is neither 0 nor 1", writable),
     clause(-2, "2: received is 261", received_261),
     clause(-2, "2: received above 261", received_above),
     clause(-2, "2: received: first byte", |case, random| received(case, random, "first")),
@@ -74,6 +76,9 @@ const CLAUSES: &[Clause] = &[
     clause(-2, "2: bytes behind the received", receiver_bytes),
     clause(-2, "2: dropping with bytes", dropping_with_bytes),
     clause(-2, "2: dropping, bytes behind", dropping_bytes_behind),
+    clause(-2, "2: dropping is neither 0 nor 1", |case, random| link_bit(case, random, |link| &mut link.dropping)),
+    clause(-2, "2: expected is neither 0 nor 1", |case, random| link_bit(case, random, |link| &mut link.expected)),
+    clause(-2, "2: send is neither 0 nor 1", |case, random| link_bit(case, random, |link| &mut link.send)),
     clause(-2, "2: held is 262", held_262),
     clause(-2, "2: held above 262", held_above),
     clause(-2, "2: outstanding: first byte", |case, random| outstanding(case, random, "first")),
@@ -171,7 +176,7 @@ const EDGES: &[(&str, Breaks)] = &[
     ("received 260", |case, random| {
         let message = random.bytes(254);
         let frame = frames::data(random.byte(), &message);
-        case.server.link.dropping = false;
+        case.server.link.dropping = 0;
         frames::set_receiver(&mut case.server.link, &frame[..260]);
         Some(())
     }),
@@ -194,7 +199,7 @@ const EDGES: &[(&str, Breaks)] = &[
     ("dropping, something outstanding", |case, random| {
         hold(case, random);
         frames::set_receiver(&mut case.server.link, &[]);
-        case.server.link.dropping = true;
+        case.server.link.dropping = 1;
         Some(())
     }),
     ("room 262", |case, _| room(case, 262)),
@@ -495,11 +500,28 @@ fn item_bytes(case: &mut Case, random: &mut Random) -> Option<()> {
     Some(())
 }
 
+fn mark(case: &mut Case, random: &mut Random) -> Option<()> {
+    let at = any(random, case.server.datapoints.len())?;
+    case.server.datapoints[at].mark = random.no_bit();
+    Some(())
+}
+
+fn writable(case: &mut Case, random: &mut Random) -> Option<()> {
+    let at = any(random, case.server.items.len())?;
+    case.server.items[at].writable = random.no_bit();
+    Some(())
+}
+
 // --------------------------------------------------------------------------------------------------------- link record
+
+fn link_bit(case: &mut Case, random: &mut Random, field: fn(&mut Link) -> &mut u8) -> Option<()> {
+    *field(&mut case.server.link) = random.no_bit();
+    Some(())
+}
 
 /// Bytes as the receiver has them, whatever they are.
 fn receive(case: &mut Case, bytes: &[u8]) -> Option<()> {
-    case.server.link.dropping = false;
+    case.server.link.dropping = 0;
     frames::set_receiver(&mut case.server.link, bytes);
     Some(())
 }
@@ -603,13 +625,13 @@ fn dropping_with_bytes(case: &mut Case, random: &mut Random) -> Option<()> {
         return None;
     }
     receive(case, &bytes);
-    case.server.link.dropping = true;
+    case.server.link.dropping = 1;
     Some(())
 }
 
 fn dropping_bytes_behind(case: &mut Case, random: &mut Random) -> Option<()> {
     receive(case, &[]);
-    case.server.link.dropping = true;
+    case.server.link.dropping = 1;
     case.server.link.receiver[random.edgy(0, 259)] = random.some_byte();
     Some(())
 }
@@ -667,8 +689,8 @@ fn outstanding(case: &mut Case, random: &mut Random, what: &str) -> Option<()> {
         "E5" => bytes = vec![0xE5],
         _ => {
             let control = match what {
-                "host" => frames::host_control(random.coin()),
-                "send" => frames::server_control(!link.send),
+                "host" => frames::host_control(random.bit()),
+                "send" => frames::server_control(1 - link.send),
                 _ => loop {
                     let control = random.byte();
                     if ![0x73, 0x53, 0xF3, 0xD3].contains(&control) {

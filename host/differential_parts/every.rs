@@ -12,7 +12,7 @@ pub fn lists() -> Vec<(&'static str, Vec<&'static str>)> {
     vec![(NAME, EVERY.iter().map(|(label, _)| *label).collect())]
 }
 
-const EVERY: [(&str, fn(&mut Bench)); 20] = [
+const EVERY: [(&str, fn(&mut Bench)); 21] = [
     ("room 0 to 263, each event", rooms),
     ("event 0 to 255, outcome 0 to 255", events),
     ("host byte at each place of a frame", bytes_in_frames),
@@ -33,6 +33,7 @@ const EVERY: [(&str, fn(&mut Bench)); 20] = [
     ("each bit of a datapoint", datapoint_bits),
     ("each bit of an item", item_bits),
     ("each bit and count of a link record", link_bits),
+    ("each byte that has to be 0 or 1, each event", zeros_and_ones),
 ];
 
 /// All of them, each on small tables of its own.
@@ -54,14 +55,14 @@ fn small(bench: &mut Bench) -> Server {
             let mut value = [0; 14];
             value[..SIZES[usize::from(typecode)]].copy_from_slice(&tables::value(random, typecode));
             let (flags, dpt, state) = (random.byte(), random.byte(), random.byte() & 0x1F);
-            Datapoint { id: 10 + u16::from(typecode) * 3, typecode, flags, dpt, state, value, mark: random.coin() }
+            Datapoint { id: 10 + u16::from(typecode) * 3, typecode, flags, dpt, state, value, mark: random.bit() }
         })
         .collect();
     let items = (1..=16)
         .map(|size| {
             let mut bytes = [0; 16];
             random.fill(&mut bytes[..size]);
-            Item { id: 5 + 2 * size as u16, size: size as u8, writable: size % 3 != 0, bytes }
+            Item { id: 5 + 2 * size as u16, size: size as u8, writable: u8::from(size % 3 != 0), bytes }
         })
         .collect();
     Server { datapoints, items, parameters: random.bytes(20), link: frames::fresh() }
@@ -82,8 +83,8 @@ fn byte(byte: u8) -> Call {
 fn ask(bench: &mut Bench, before: &Server, message: &[u8]) -> Result<Vec<u8>, i32> {
     let mut server = before.clone();
     server.link = frames::fresh();
-    server.link.expected = bench.random.coin();
-    server.link.send = bench.random.coin();
+    server.link.expected = bench.random.bit();
+    server.link.send = bench.random.bit();
     let frame = frames::data(frames::host_control(server.link.expected), message);
     frames::set_receiver(&mut server.link, &frame[..frame.len() - 1]);
     once(bench, &server, byte(0x16))
@@ -151,7 +152,7 @@ fn bytes_in_frames(bench: &mut Bench) {
         }
     }
     before.link = frames::fresh();
-    before.link.dropping = true;
+    before.link.dropping = 1;
     hold(bench, &mut before);
     for given in 0..=255 {
         let _ = once(bench, &before, byte(given));
@@ -163,8 +164,8 @@ fn controls(bench: &mut Bench) {
     for control in 0..=255 {
         for kind in 0..8 {
             before.link = frames::fresh();
-            before.link.expected = kind & 1 != 0;
-            before.link.send = kind & 2 != 0;
+            before.link.expected = kind & 1;
+            before.link.send = kind >> 1 & 1;
             if kind & 4 != 0 {
                 hold(bench, &mut before);
             }
@@ -180,8 +181,8 @@ fn fixed_frames(bench: &mut Bench) {
     for c in 0..=255 {
         for kind in 0..8 {
             before.link = frames::fresh();
-            before.link.expected = kind & 1 != 0;
-            before.link.send = kind & 2 != 0;
+            before.link.expected = kind & 1;
+            before.link.send = kind >> 1 & 1;
             if kind & 4 != 0 {
                 hold(bench, &mut before);
             }
@@ -323,7 +324,7 @@ fn states(bench: &mut Bench) {
     for kind in 0..64 {
         for datapoint in &mut before.datapoints {
             datapoint.state = kind & 0x1F;
-            datapoint.mark = kind >= 32;
+            datapoint.mark = kind >> 5;
         }
         before.link = frames::fresh();
         for command in 0..=5 {
@@ -394,7 +395,7 @@ fn entry_counts(bench: &mut Bench) {
         for at in 0..datapoints {
             before.datapoints[at].typecode = 7;
             before.datapoints[at].value = [0; 14];
-            before.datapoints[at].mark = true;
+            before.datapoints[at].mark = 1;
         }
         for sub in [1, 3, 5, 7] {
             for start in [0, 1] {
@@ -519,6 +520,39 @@ fn link_bits(bench: &mut Bench) {
             frames::set_receiver(&mut server.link, &frame[..frame.len().min(5)]);
             server.link.received = number;
             let _ = once(bench, &server, IDLE);
+        }
+    }
+}
+
+/// Mark and writable of each record, dropping, expected and send, nothing outstanding and something.
+fn zeros_and_ones(bench: &mut Bench) {
+    type Field = fn(&mut Server, usize) -> &mut u8;
+    let mut before = bench.server.clone();
+    let fields: [(i32, usize, Field); 5] = [
+        (-1, before.datapoints.len(), |server, at| &mut server.datapoints[at].mark),
+        (-1, before.items.len(), |server, at| &mut server.items[at].writable),
+        (-2, 1, |server, _| &mut server.link.dropping),
+        (-2, 1, |server, _| &mut server.link.expected),
+        (-2, 1, |server, _| &mut server.link.send),
+    ];
+    for held in [false, true] {
+        if held {
+            hold(bench, &mut before);
+        }
+        for (number, count, field) in fields {
+            for at in 0..count {
+                for given in 0..=255 {
+                    let mut server = before.clone();
+                    *field(&mut server, at) = given;
+                    for event in 1..=6 {
+                        let call = Call { event, byte: 0xE5, id: 10, outcome: 1, value: vec![1], room: 262 };
+                        let answer = once(bench, &server, call);
+                        if given > 1 && answer != Err(number) {
+                            bench.missed("a byte that is neither 0 nor 1 is refused", &answer);
+                        }
+                    }
+                }
+            }
         }
     }
 }

@@ -23,16 +23,16 @@ pub fn fixed(c: u8) -> Vec<u8> {
 
 pub const RESET: u8 = 0x40;
 
-pub fn host_control(odd: bool) -> u8 {
-    if odd {
+pub fn host_control(expected: u8) -> u8 {
+    if expected == 1 {
         0x73
     } else {
         0x53
     }
 }
 
-pub fn server_control(odd: bool) -> u8 {
-    if odd {
+pub fn server_control(send: u8) -> u8 {
+    if send == 1 {
         0xF3
     } else {
         0xD3
@@ -88,9 +88,9 @@ pub fn fresh() -> Link {
     Link {
         receiver: [0; 260],
         received: 0,
-        dropping: false,
-        expected: true,
-        send: true,
+        dropping: 0,
+        expected: 1,
+        send: 1,
         outstanding: [0; 261],
         held: 0,
         resends: 0,
@@ -118,7 +118,7 @@ pub fn beginning(random: &mut Random) -> Vec<u8> {
 }
 
 /// A server data frame under this bit.
-pub fn server_frame(random: &mut Random, send: bool) -> Vec<u8> {
+pub fn server_frame(random: &mut Random, send: u8) -> Vec<u8> {
     let length = some_length(random);
     let message = some_bytes(random, length);
     data(server_control(send), &message)
@@ -127,10 +127,10 @@ pub fn server_frame(random: &mut Random, send: bool) -> Vec<u8> {
 /// Any record that is in range, also those that no run of events leaves.
 pub fn link(random: &mut Random) -> Link {
     let mut link = fresh();
-    link.expected = random.coin();
-    link.send = random.coin();
+    link.expected = random.bit();
+    link.send = random.bit();
     if random.one_in(6) {
-        link.dropping = true;
+        link.dropping = 1;
     } else if random.coin() {
         set_receiver(&mut link, &beginning(random));
     }

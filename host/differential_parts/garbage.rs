@@ -1,4 +1,4 @@
-//! Link records and tables of any bytes (bools 0 or 1), and of nearly the right ones.
+//! Link records and tables of any bytes, and of nearly the right ones.
 
 use crate::bench::Bench;
 use crate::frames;
@@ -91,8 +91,8 @@ fn link(random: &mut Random, kind: &str) -> Link {
             let counts = (random.below(8), random.below(12));
             frames::set_receiver(&mut link, &few(random, counts.0));
             frames::set_outstanding(&mut link, &few(random, counts.1));
-            link.dropping = random.one_in(4);
-            link.send = random.coin();
+            link.dropping = u8::from(random.one_in(4));
+            link.send = random.bit();
             link.resends = random.below(5) as u8;
         }
         _ => {
@@ -104,16 +104,16 @@ fn link(random: &mut Random, kind: &str) -> Link {
     link
 }
 
-fn any_link(random: &mut Random) -> Link {
+pub fn any_link(random: &mut Random) -> Link {
     let mut link = frames::fresh();
     random.fill(&mut link.receiver);
     random.fill(&mut link.outstanding);
     link.received = random.number();
     link.held = random.number();
     link.resends = random.byte();
-    link.dropping = random.coin();
-    link.expected = random.coin();
-    link.send = random.coin();
+    link.dropping = random.byte_like(&[0, 1, 1]);
+    link.expected = random.byte_like(&[0, 1, 1]);
+    link.send = random.byte_like(&[0, 1, 1]);
     link
 }
 
@@ -136,9 +136,9 @@ fn spoil_link(random: &mut Random, link: &mut Link) {
         1 => link.receiver[random.below(8)] = random.byte(),
         9 => link.outstanding[random.below(8)] = random.byte(),
         2 => link.received = near(random, link.received),
-        3 => link.dropping = !link.dropping,
-        4 => link.expected = !link.expected,
-        5 => link.send = !link.send,
+        3 => link.dropping = random.byte_like(&[0, 1]),
+        4 => link.expected = random.byte_like(&[0, 1]),
+        5 => link.send = random.byte_like(&[0, 1]),
         6 => link.outstanding[random.below(261)] = random.byte(),
         7 => link.held = near(random, link.held),
         _ => link.resends = random.byte_like(&[0, 1, 3, 4]),
@@ -159,7 +159,7 @@ fn any_tables(bench: &mut Bench) {
                 dpt: random.byte(),
                 state: random.byte(),
                 value,
-                mark: random.coin(),
+                mark: random.byte_like(&[0, 1, 1]),
             }
         })
         .collect();
@@ -167,7 +167,7 @@ fn any_tables(bench: &mut Bench) {
         .map(|_| {
             let mut bytes = [0; 16];
             random.fill(&mut bytes);
-            Item { id: random.number(), size: random.byte() % 20, writable: random.coin(), bytes }
+            Item { id: random.number(), size: random.byte() % 20, writable: random.byte_like(&[0, 1, 1]), bytes }
         })
         .collect();
 }
@@ -185,7 +185,7 @@ fn nearly_tables(bench: &mut Bench) {
                 2 => datapoint.state ^= 1 << random.below(8),
                 3 => datapoint.value[random.below(14)] = random.byte(),
                 4 => datapoint.value[0] ^= 1 << random.below(8),
-                _ => datapoint.mark = !datapoint.mark,
+                _ => datapoint.mark = random.byte_like(&[0, 1]),
             }
         } else if !server.items.is_empty() {
             let at = random.below(server.items.len());
@@ -194,7 +194,7 @@ fn nearly_tables(bench: &mut Bench) {
                 0 => item.id = near(random, item.id),
                 1 => item.size = random.below(20) as u8,
                 2 => item.bytes[random.below(16)] = random.byte(),
-                _ => item.writable = !item.writable,
+                _ => item.writable = random.byte_like(&[0, 1]),
             }
         }
     }

@@ -137,7 +137,7 @@ impl Lent {
         self.memory[self.value..self.value + call.value.len()].copy_from_slice(&call.value);
         self.before[..self.end].copy_from_slice(&self.memory[..self.end]);
         let memory = self.memory.as_mut_ptr();
-        // Each part lies within the memory, apart from the others; records stand at even addresses; bools are 0 or 1.
+        // Each part lies within the memory, apart from the others; records stand at even addresses.
         unsafe {
             tagobrelin_call(
                 call.event,
@@ -307,22 +307,22 @@ fn put_datapoint(record: &mut [u8], datapoint: &Datapoint) {
     record[4] = datapoint.dpt;
     record[5] = datapoint.state;
     record[6..20].copy_from_slice(&datapoint.value);
-    record[20] = u8::from(datapoint.mark);
+    record[20] = datapoint.mark;
 }
 
 fn put_item(record: &mut [u8], item: &Item) {
     record[0..2].copy_from_slice(&item.id.to_ne_bytes());
     record[2] = item.size;
-    record[3] = u8::from(item.writable);
+    record[3] = item.writable;
     record[4..20].copy_from_slice(&item.bytes);
 }
 
 fn put_link(record: &mut [u8], link: &Link) {
     record[0..260].copy_from_slice(&link.receiver);
     record[260..262].copy_from_slice(&link.received.to_ne_bytes());
-    record[262] = u8::from(link.dropping);
-    record[263] = u8::from(link.expected);
-    record[264] = u8::from(link.send);
+    record[262] = link.dropping;
+    record[263] = link.expected;
+    record[264] = link.send;
     record[265..526].copy_from_slice(&link.outstanding);
     record[526..528].copy_from_slice(&link.held.to_ne_bytes());
     record[528] = link.resends;

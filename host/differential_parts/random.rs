@@ -42,6 +42,20 @@ impl Random {
         self.one_in(2)
     }
 
+    /// 0 or 1.
+    pub fn bit(&mut self) -> u8 {
+        u8::from(self.coin())
+    }
+
+    /// A byte that is neither 0 nor 1.
+    pub fn no_bit(&mut self) -> u8 {
+        if self.one_in(5) {
+            self.between(2, 255) as u8
+        } else {
+            self.pick(&[2, 3, 0x80, 0xFF])
+        }
+    }
+
     pub fn byte(&mut self) -> u8 {
         (self.next() >> 56) as u8
     }

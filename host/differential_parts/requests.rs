@@ -546,8 +546,8 @@ fn some_good(random: &mut Random, sub: u8, good: impl Fn(&mut Random) -> Option<
 }
 
 fn set_items(random: &mut Random, server: &Server) -> Option<Request> {
-    let writable: Vec<usize> = (0..server.items.len()).filter(|at| server.items[*at].writable).collect();
-    let fixed: Vec<usize> = (0..server.items.len()).filter(|at| !server.items[*at].writable).collect();
+    let writable: Vec<usize> = (0..server.items.len()).filter(|at| server.items[*at].writable == 1).collect();
+    let fixed: Vec<usize> = (0..server.items.len()).filter(|at| server.items[*at].writable == 0).collect();
     if random.one_in(12) {
         let start = random.number();
         return made("set: 6, number 0", 6, start, head(2, start, 0));

@@ -193,7 +193,7 @@ const REQUESTS: [&str; 10] = [
 
 /// The sizes that the marked datapoints have in an indication.
 pub fn marked_sizes(server: &Server) -> Vec<usize> {
-    let marked = server.datapoints.iter().filter(|datapoint| datapoint.mark && datapoint.typecode < 15);
+    let marked = server.datapoints.iter().filter(|datapoint| datapoint.mark == 1 && datapoint.typecode < 15);
     marked.map(|datapoint| 4 + SIZES[usize::from(datapoint.typecode)]).collect()
 }
 
@@ -227,10 +227,10 @@ pub fn seen(counts: &mut Counts, before: &Link, marks: &[usize], call: &Call, an
 
 fn idle_mark(before: &Link) -> &'static str {
     match (before.dropping, before.received, before.receiver[0]) {
-        (true, _, _) => "idle mark while dropping",
-        (false, 0, _) => "idle mark at a frame start",
-        (false, _, 0x10) => "idle mark in a fixed frame",
-        (false, _, _) => "idle mark in a data frame",
+        (1, _, _) => "idle mark while dropping",
+        (_, 0, _) => "idle mark at a frame start",
+        (_, _, 0x10) => "idle mark in a fixed frame",
+        (_, _, _) => "idle mark in a data frame",
     }
 }
 
@@ -240,8 +240,8 @@ fn ack_wait(before: &Link) -> &'static str {
         (_, 0, _) => "ack wait, first resend",
         (_, 1, _) => "ack wait, second resend",
         (_, 2, _) => "ack wait, third resend",
-        (_, _, true) => "ack wait, dropped, send bit odd",
-        (_, _, false) => "ack wait, dropped, send bit even",
+        (_, _, 1) => "ack wait, dropped, send bit odd",
+        (_, _, _) => "ack wait, dropped, send bit even",
     }
 }
 
@@ -298,7 +298,7 @@ fn bus_value(counts: &mut Counts, before: &Link, call: &Call, after: &Server) {
 
 fn host_byte(counts: &mut Counts, before: &Link, byte: u8, sent: &[u8], after: &Server) {
     let hit = |counts: &mut Counts, label| counts.hit("host bytes", label);
-    if before.dropping {
+    if before.dropping == 1 {
         let label = match byte {
             0xE5 => "E5 while dropping",
             0x10 => "10 while dropping",
@@ -310,7 +310,7 @@ fn host_byte(counts: &mut Counts, before: &Link, byte: u8, sent: &[u8], after: &
     let gathered = usize::from(before.received);
     let first = if gathered == 0 { byte } else { before.receiver[0] };
     let length = usize::from(before.receiver[1]);
-    if after.link.dropping {
+    if after.link.dropping == 1 {
         let place = match (first, gathered) {
             (_, 0) => "the first byte",
             (0x10, 2) => "the second C",
@@ -326,8 +326,8 @@ fn host_byte(counts: &mut Counts, before: &Link, byte: u8, sent: &[u8], after: &
     if gathered == 0 && byte == 0xE5 {
         let label = match (before.held, before.send) {
             (0, _) => "E5, nothing outstanding",
-            (_, true) => "E5, something outstanding, send bit odd",
-            (_, false) => "E5, something outstanding, send bit even",
+            (_, 1) => "E5, something outstanding, send bit odd",
+            (_, _) => "E5, something outstanding, send bit even",
         };
         return hit(counts, label);
     }
@@ -356,19 +356,19 @@ fn fixed_frame(counts: &mut Counts, before: &Link) {
         return hit(counts, "fixed frame with another C");
     }
     if before.held == 0 {
-        if !before.expected {
+        if before.expected == 0 {
             hit(counts, "reset, nothing outstanding, expected even");
         }
-        if !before.send {
+        if before.send == 0 {
             hit(counts, "reset, nothing outstanding, send even");
         }
-        if before.expected && before.send {
+        if before.expected == 1 && before.send == 1 {
             hit(counts, "reset, nothing outstanding, bits odd odd");
         }
     } else {
         hit(
             counts,
-            if before.send {
+            if before.send == 1 {
                 "reset, something outstanding, send bit odd"
             } else {
                 "reset, something outstanding, send bit even"
@@ -391,17 +391,17 @@ fn data_frame(counts: &mut Counts, before: &Link, control_and_data: &[u8], sent:
     }
     let message = &control_and_data[1..];
     let odd = match control_and_data[0] {
-        0x73 => true,
-        0x53 => false,
+        0x73 => 1,
+        0x53 => 0,
         0xF3 | 0xD3 => return hit(counts, "data frame with a server's control byte"),
         _ => return hit(counts, "data frame with another control byte"),
     };
     let label = match (odd == before.expected, before.held) {
         (true, 0) if sent.len() > 1 => match (before.expected, before.send) {
-            (true, true) => "expected bit, carried out and answered, odd odd",
-            (true, false) => "expected bit, carried out and answered, odd even",
-            (false, true) => "expected bit, carried out and answered, even odd",
-            (false, false) => "expected bit, carried out and answered, even even",
+            (1, 1) => "expected bit, carried out and answered, odd odd",
+            (1, _) => "expected bit, carried out and answered, odd even",
+            (_, 1) => "expected bit, carried out and answered, even odd",
+            (_, _) => "expected bit, carried out and answered, even even",
         },
         (true, 0) if message.is_empty() => "expected bit, no answer: no message (L = 1)",
         (true, 0) if message.len() < 6 => "expected bit, no answer: 1 to 5 bytes",

@@ -79,7 +79,7 @@ pub fn datapoints(random: &mut Random, count: usize) -> Vec<Datapoint> {
                 dpt: random.byte(),
                 state: random.byte() & 0x1F,
                 value: all,
-                mark: random.below(10) < marks,
+                mark: u8::from(random.below(10) < marks),
             }
         })
         .collect()
@@ -94,7 +94,7 @@ pub fn items(random: &mut Random, count: usize) -> Vec<Item> {
             let size = random.between(1, longest);
             let mut bytes = [0; 16];
             random.fill(&mut bytes[..size]);
-            Item { id, size: size as u8, writable: random.below(4) < writable, bytes }
+            Item { id, size: size as u8, writable: u8::from(random.below(4) < writable), bytes }
         })
         .collect()
 }

@@ -47,6 +47,9 @@ pub fn episode(bench: &mut Bench) {
     bench.server = tables::server(&mut bench.random, link);
     bench.lend_anew();
     if bench.random.coin() {
+        // whatever stood there
+        bench.server.link = garbage::any_link(&mut bench.random);
+        bench.lend_link();
         bench.fresh_link();
     }
     let most = if bench.server.datapoints.len() > 150 { 150 } else { 900 };
@@ -79,7 +82,7 @@ fn step(bench: &mut Bench) {
 // ---------------------------------------------------------------------------------------------------------- deliveries
 
 fn at_start(bench: &Bench) -> bool {
-    bench.server.link.received == 0 && !bench.server.link.dropping
+    bench.server.link.received == 0 && bench.server.link.dropping == 0
 }
 
 /// Mostly lets the line fall silent before a frame, where it has to.
@@ -137,7 +140,7 @@ fn acknowledge(bench: &mut Bench) {
 
 fn frame_of(bench: &mut Bench, message: &[u8]) -> Vec<u8> {
     let other = bench.random.one_in(16);
-    frames::data(frames::host_control(bench.server.link.expected != other), message)
+    frames::data(frames::host_control(bench.server.link.expected ^ u8::from(other)), message)
 }
 
 fn ask(bench: &mut Bench) {
@@ -396,7 +399,7 @@ fn polls(bench: &mut Bench) {
         let marks = bench.random.pick(&[1, 5, 9, 10]);
         for datapoint in &mut bench.server.datapoints {
             if bench.random.below(10) < marks {
-                datapoint.mark = true;
+                datapoint.mark = 1;
             }
         }
         bench.lend();
@@ -428,7 +431,7 @@ fn bus_values(bench: &mut Bench) {
         if equal {
             bench.counts.hit("on the way", "bus value equal to the one there");
         }
-        if datapoint.mark {
+        if datapoint.mark == 1 {
             bench.counts.hit("on the way", "bus value, mark set already");
         }
         bench.bus_value(datapoint.id, value);
@@ -465,10 +468,10 @@ fn alter_tables(bench: &mut Bench) {
     let marks = bench.random.below(11);
     for datapoint in &mut bench.server.datapoints {
         datapoint.state = bench.random.byte() & 0x1F;
-        datapoint.mark = bench.random.below(10) < marks;
+        datapoint.mark = u8::from(bench.random.below(10) < marks);
     }
     for item in &mut bench.server.items {
-        item.writable = bench.random.coin();
+        item.writable = bench.random.bit();
     }
     bench.lend();
 }

@@ -1,0 +1,122 @@
+/* The face of tagobrelin.h, each function of it, compiled as C and as C++ by host/face_test. Tells what is wrong. */
+#include <stdio.h>
+#include <string.h>
+
+#include "tagobrelin.h"
+
+#define TEXT_OF(number) #number
+#define TEXT(number) TEXT_OF(number)
+#define VERSION_BY_NUMBERS \
+    TEXT(TAGOBRELIN_VERSION_MAJOR) "." TEXT(TAGOBRELIN_VERSION_MINOR) "." TEXT(TAGOBRELIN_VERSION_PATCH)
+#define EXPECT(fact) expect(fact, #fact, __LINE__)
+
+static struct tagobrelin_datapoint datapoints[1];
+static struct tagobrelin_item items[1];
+static uint8_t parameters[248];
+static struct tagobrelin_server server, empty;
+static int failed;
+
+static void expect(int fact, const char *text, int line)
+{
+    if (!fact) {
+        printf("    face_test.c:%d: %s\n", line, text);
+        failed = 1;
+    }
+}
+
+static void set_up(void)
+{
+    datapoints[0].id = 5;
+    items[0].id = 1;
+    items[0].size = 2;
+    items[0].bytes[0] = 0xC5;
+    server.datapoints = datapoints;
+    server.datapoint_count = 1;
+    server.items = items;
+    server.item_count = 1;
+    server.parameters = parameters;
+    server.parameter_count = sizeof parameters;
+    tagobrelin_start(&server);
+    tagobrelin_start(&empty);
+}
+
+/* what is answered to the last of these bytes from the host */
+static int32_t heard(struct tagobrelin_server *by, const char *bytes, size_t count)
+{
+    int32_t answer = 0;
+    size_t i;
+    for (i = 0; i < count; i++)
+        answer = tagobrelin_host_byte(by, (uint8_t)bytes[i]);
+    return answer;
+}
+
+#define HEARD(by, bytes) heard(by, bytes, sizeof bytes - 1)
+#define SENT(by, bytes) (memcmp((by)->out, bytes, sizeof bytes - 1) == 0)
+
+static void requests(void)
+{
+    EXPECT(!tagobrelin_is_outstanding(&server) && !tagobrelin_is_receiving(&server) &&
+           !tagobrelin_is_dropping(&server));
+    EXPECT(HEARD(&server, "\x68\x07") == 0 && tagobrelin_is_receiving(&server));
+    EXPECT(HEARD(&server, "\x07\x68\x73\xF0\x01\x00\x01\x00\x01\x66\x16") == 19 && !tagobrelin_is_receiving(&server));
+    EXPECT(SENT(&server, "\xE5\x68\x0C\x0C\x68\xF3\xF0\x81\x00\x01\x00\x01\x00\x01\x02\xC5\x00\x2E\x16"));
+    EXPECT(tagobrelin_is_outstanding(&server) == 1);
+    EXPECT(tagobrelin_ack_wait_over(&server) == 18 && tagobrelin_ack_wait_over(&server) == 18 &&
+           tagobrelin_ack_wait_over(&server) == 18);
+    EXPECT(tagobrelin_ack_wait_over(&server) == 4 && SENT(&server, "\x10\xC0\xC0\x16") &&
+           !tagobrelin_is_outstanding(&server));
+    EXPECT(HEARD(&server, "\x68\x07\x07\x68\x53\xF0\x07\x00\x01\x00\xF8\x43\x16") == TAGOBRELIN_ROOM &&
+           tagobrelin_is_outstanding(&server));
+    EXPECT(HEARD(&server, "\xE5") == 0 && !tagobrelin_is_outstanding(&server));
+    EXPECT(HEARD(&server, "\x68\x00") == 0 && tagobrelin_is_dropping(&server) &&
+           HEARD(&server, "\x10\x40\x40\x16") == 0);
+    EXPECT(tagobrelin_idle_mark(&server) == 0 && !tagobrelin_is_dropping(&server) &&
+           HEARD(&server, "\x10\x40\x40\x16") == 1);
+}
+
+static void bus_events(void)
+{
+    const uint8_t on[1] = {1};
+    EXPECT(tagobrelin_poll(&server) == 0);
+    EXPECT(tagobrelin_bus_value(&server, 5, on, 1) == 0 && datapoints[0].mark == 1 && datapoints[0].value[0] == 1);
+    EXPECT(tagobrelin_poll(&server) == 18 && tagobrelin_is_outstanding(&server) && datapoints[0].mark == 0);
+    EXPECT(SENT(&server, "\x68\x0C\x0C\x68\xF3\xF0\xC1\x00\x05\x00\x01\x00\x05\x18\x01\x01"));
+    EXPECT(tagobrelin_outcome(&server, 5, TAGOBRELIN_IN_PROGRESS) == 0 && datapoints[0].state == 0x12);
+    EXPECT(tagobrelin_outcome(&server, 5, 3) == TAGOBRELIN_NO_EVENT);
+    EXPECT(tagobrelin_bus_value(&server, 6, on, 1) == TAGOBRELIN_BAD_BUS_EVENT);
+    EXPECT(tagobrelin_bus_value(&server, 5, on, 0) == TAGOBRELIN_BAD_BUS_EVENT);
+    EXPECT(tagobrelin_bus_value(&server, 5, NULL, 1) == TAGOBRELIN_BAD_BUS_EVENT);
+}
+
+/* null pointers: no table at all is a server too, and a count without a table is refused */
+static void no_tables(void)
+{
+    EXPECT(HEARD(&empty, "\x68\x07\x07\x68\x73\xF0\x01\x00\x01\x00\x01\x66\x16") == 15 &&
+           tagobrelin_is_outstanding(&empty));
+    EXPECT(tagobrelin_ack_wait_over(&empty) == 14 && tagobrelin_idle_mark(&empty) == 0 && tagobrelin_poll(&empty) == 0);
+    EXPECT(tagobrelin_bus_value(&empty, 1, NULL, 0) == TAGOBRELIN_BAD_BUS_EVENT);
+    EXPECT(tagobrelin_outcome(&empty, 1, TAGOBRELIN_SENT) == TAGOBRELIN_BAD_BUS_EVENT);
+    empty.datapoint_count = 1;
+    EXPECT(tagobrelin_poll(&empty) == TAGOBRELIN_BAD_TABLE);
+    empty.datapoint_count = 0;
+    empty.item_count = 1;
+    EXPECT(tagobrelin_poll(&empty) == TAGOBRELIN_BAD_TABLE);
+    empty.item_count = 0;
+    empty.parameter_count = 1;
+    EXPECT(tagobrelin_poll(&empty) == TAGOBRELIN_BAD_TABLE);
+    empty.parameter_count = 0;
+    EXPECT(tagobrelin_poll(&empty) == 0);
+}
+
+int main(void)
+{
+    set_up();
+    requests();
+    bus_events();
+    no_tables();
+    EXPECT(TAGOBRELIN_MICROSECONDS(TAGOBRELIN_GAP_BITS, 19200) == 1719);
+    EXPECT(TAGOBRELIN_MICROSECONDS(TAGOBRELIN_ACK_WAIT_BITS, 19200) == 26563);
+    EXPECT(TAGOBRELIN_MICROSECONDS(261 * TAGOBRELIN_BYTE_BITS, 1200) == 2392500);
+    EXPECT(strcmp(TAGOBRELIN_VERSION, VERSION_BY_NUMBERS) == 0);
+    return failed;
+}
