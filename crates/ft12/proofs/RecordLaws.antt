@@ -1,8 +1,8 @@
 -- The link record: what it holds, and its range test decides the paper's words.
 use Prim.Native.Nat.{ℕ, _-_, _≤_}
-use mathlib.Core.Path.{_≡_, refl}
+use mathlib.Core.Path.{_≡_, refl, _∙_}
 use mathlib.Core.Logic.{_↔_}
-use mathlib.Core.Bool.{Bool, true, false, _&&_, and-false}
+use mathlib.Core.Bool.{Bool, true, false, _&&_, and-false, and-true}
 use mathlib.Core.List.{List, [], _∷_}
 use native.Mathlib.Omega.{arith}
 use lib.ListN.{length, take}
@@ -173,17 +173,20 @@ in-range-decided k bytes = (to, from)
         (join3 a b v (padded-decided 260 (k .received) (k .receiver) .1 (i .receiverPadded)) (padded-decided 261 (k .held) (k .outstanding) .1 (i .outstandingPadded)) bits)
         (both r o (receiver-decided l gathered-bytes .1 (i .receiverInRange)) (outstanding-decided l .1 (i .outstandingInRange)))
 
--- ---- the test as the code makes it: what is two-valued first, then the receiver, then the outstanding frame
-regroup : (v a b c d : Bool) → (v && (a && c && (b && d))) ≡ (a && b && v && (c && d))
-regroup true true true c d = refl
-regroup true true false c d = and-false c
-regroup true false b c d = refl
-regroup false true true c d = refl
-regroup false true false c d = refl
+-- ---- the test as the code makes it: the receiver, the outstanding frame, and then what is two-valued
+regroup : (v a b c d : Bool) → (a && c && (b && d) && v) ≡ (a && b && v && (c && d))
+regroup true a b c d = and-true (a && c && (b && d)) ∙ by a b
+  where
+    by : (x y : Bool) → (x && c && (y && d)) ≡ (x && y && true && (c && d))
+    by true true = refl
+    by true false = and-false c
+    by false y = refl
+regroup false true true c d = and-false (c && d)
+regroup false true false c d = and-false (c && false)
 regroup false false b c d = refl
 
 pub range-parts : (k : Link)
-    → (twoValued (k .dropping) (k .expected) (k .send) && (isPadded 260 (k .received) (k .receiver) && receiverOk (isYes (k .dropping)) (take (k .received) (k .receiver)) && (isPadded 261 (k .held) (k .outstanding) && outstandingOk (isYes (k .send)) (k .resends) (take (k .held) (k .outstanding))))) ≡ inRange k
+    → (isPadded 260 (k .received) (k .receiver) && receiverOk (isYes (k .dropping)) (take (k .received) (k .receiver)) && (isPadded 261 (k .held) (k .outstanding) && outstandingOk (isYes (k .send)) (k .resends) (take (k .held) (k .outstanding))) && twoValued (k .dropping) (k .expected) (k .send)) ≡ inRange k
 unfolding inRange memoryOk lineOk lineOf
 range-parts k =
     regroup (twoValued (k .dropping) (k .expected) (k .send)) (isPadded 260 (k .received) (k .receiver)) (isPadded 261 (k .held) (k .outstanding)) (receiverOk (isYes (k .dropping)) (take (k .received) (k .receiver)))

@@ -76,17 +76,17 @@ fn are_parts_in_range(
     held: u16,
     resends: u8,
 ) -> bool
-    ensures { λ r. ⌜ r ≡ (twoValued dropping expected send
-        && (isPadded 260 received (now (receiver .entry))
+    ensures { λ r. ⌜ r ≡ (isPadded 260 received (now (receiver .entry))
         && receiverOk (isYes dropping) (take received (now (receiver .entry)))
         && (isPadded 261 held (now (outstanding .entry))
-        && outstandingOk (isYes send) resends (take held (now (outstanding .entry)))))) ⌝ }
+        && outstandingOk (isYes send) resends (take held (now (outstanding .entry))))
+        && twoValued dropping expected send) ⌝ }
 {
-    if is_two_valued(dropping, expected, send) {
-        let n = received as usize;
-        if is_receiver_ok(receiver, n, dropping == 1) {
-            let k = held as usize;
-            return is_outstanding_ok(outstanding, k, send == 1, resends);
+    let n = received as usize;
+    if is_receiver_ok(receiver, n, dropping == 1) {
+        let k = held as usize;
+        if is_outstanding_ok(outstanding, k, send == 1, resends) {
+            return is_two_valued(dropping, expected, send);
         }
     }
     false
