@@ -156,7 +156,7 @@ def nothing(c):
 
 # as which rule each behaves
 LIKE = {
-    lends(2): 'lendsS lends lends-as-shr lends-as-ref lends-message',
+    lends(2): 'lendsS lends lends-as-shr lends-as-ref hands-message',
     lends(1): 'lends-part shares-part lends-array shares-array lends-prefix shares-prefix',
     back_of(2): 'shr-back ref-back-as message-back part-unshared array-unshared prefix-unshared closed-slice shut-slice back-at puts-at',
     back_of(3): 'backsS backs part-back array-back prefix-back',
@@ -172,7 +172,7 @@ LIKE = {
 }
 RULES = {name: rule for rule, names in LIKE.items() for name in names.split()}
 # how many of a rule's last arguments are walks
-WALKS = {name: 1 for name in '''allocs-all lendsS lends lends-as-shr lends-as-ref lends-message lends-part shares-part lends-array shares-array lends-prefix shares-prefix
+WALKS = {name: 1 for name in '''allocs-all lendsS lends lends-as-shr lends-as-ref hands-message lends-part shares-part lends-array shares-array lends-prefix shares-prefix
     backsS array-back prefix-back opened-slice looked-slice opened looked-part takes-at cell-of part-local
     calls-any calls-plain calls-mut calls-mutS calls-as-shrS calls-shrS calls-mutR calls-shrR calls-shrS-mutS calls-shrS-shrS calls-mutS-shrS'''.split()}
 WALKS.update({'leaves-early': 2, 'tests': 2, 'both': 2, 'cases': 2, 'by-event': 6})

@@ -35,41 +35,41 @@ use Rattle.baos.proofs.KeepLaws
 use Rattle.calls.specs.declared.reply.Reply.the-variants.{Accepted}
 use Rattle.calls.specs.Reply.{replyNumbers}
 use Rattle.calls.specs.Call.{saying, handedUp, onMoved, accepted}
-use Rattle.calls.specs.Promise.{Leaves, acknowledgementOf, messageEnd}
+use Rattle.calls.specs.Promise.{Leaves, acknowledgementOf, requestL}
 use Rattle.calls.proofs.OutputLaws.{put-front, put-over}
 
 -- ---- a byte that ends no request
-unrequested : (h : Heard) (b : ℕ) (k : Link) (out : List ℕ) (t : Tables) → messageEnd h ≡ 0
+unrequested : (h : Heard) (b : ℕ) (k : Link) (out : List ℕ) (t : Tables) → ((n : ℕ) → h ≡ Request n → 1 ≤ n) → requestL h ≡ 0
     → Leaves (accepted out (onMoved (onHeard h b (lineOf k)) t)) (Accepted (length (acknowledgementOf h))) t (linkOf (unread h (lineOf k .gathered) (onHeard h b (lineOf k) .line))) (put out 0 (acknowledgementOf h))
-unfolding accepted onMoved handedUp onHeard unread acknowledgementOf messageEnd
-unrequested Gathered b k out t e = record { reply = refl; tables = refl; link = refl; output = put-front out [] }
-unrequested Dropped b k out t e = record { reply = refl; tables = refl; link = refl; output = put-front out [] }
-unrequested Ignored b k out t e = record { reply = refl; tables = refl; link = refl; output = put-front out [] }
-unrequested Acknowledged b k out t e = record { reply = refl; tables = refl; link = refl; output = put-front out [] }
-unrequested Reset b k out t e = record { reply = refl; tables = refl; link = refl; output = put-front out acknowledgement }
-unrequested Repeat b k out t e = record { reply = refl; tables = refl; link = refl; output = put-front out acknowledgement }
-unrequested (Request n) b k out t e = absurd (omega (arith, e))
+unfolding accepted onMoved handedUp onHeard unread acknowledgementOf requestL
+unrequested Gathered b k out t one e = record { reply = refl; tables = refl; link = refl; output = put-front out [] }
+unrequested Dropped b k out t one e = record { reply = refl; tables = refl; link = refl; output = put-front out [] }
+unrequested Ignored b k out t one e = record { reply = refl; tables = refl; link = refl; output = put-front out [] }
+unrequested Acknowledged b k out t one e = record { reply = refl; tables = refl; link = refl; output = put-front out [] }
+unrequested Reset b k out t one e = record { reply = refl; tables = refl; link = refl; output = put-front out acknowledgement }
+unrequested Repeat b k out t one e = record { reply = refl; tables = refl; link = refl; output = put-front out acknowledgement }
+unrequested (Request n) b k out t one e = absurd (omega (arith, one n refl))
 
-pub no-request : (b : ℕ) (k : Link) (out : List ℕ) (t : Tables) → messageEnd (heardAt b (lineOf k)) ≡ 0
+pub no-request : (b : ℕ) (k : Link) (out : List ℕ) (t : Tables) → T (inRange k) → requestL (heardAt b (lineOf k)) ≡ 0
     → Leaves (accepted out (onMoved (onHostByte b (lineOf k)) t)) (Accepted (length (acknowledgementOf (heardAt b (lineOf k))))) t (afterHostByte b k) (put out 0 (acknowledgementOf (heardAt b (lineOf k))))
 unfolding afterHostByte onHostByte
-no-request b k out t z = unrequested (heardAt b (lineOf k)) b k out t z
+no-request b k out t r z = unrequested (heardAt b (lineOf k)) b k out t (λ n h. RequestLaws.request-at k b n r h .one) z
 
 -- ---- a request
 pub record Asked (h : Heard) : Type 0 where
   pub size : ℕ
   pub is : h ≡ Request size
-  pub end : messageEnd h ≡ size + 4
+  pub l : requestL h ≡ size
 
-asked : (h : Heard) → (messageEnd h ≡ 0 → ⊥) → Asked h
-unfolding messageEnd
+asked : (h : Heard) → (requestL h ≡ 0 → ⊥) → Asked h
+unfolding requestL
 asked Gathered z = absurd (z refl)
 asked Dropped z = absurd (z refl)
 asked Ignored z = absurd (z refl)
 asked Acknowledged z = absurd (z refl)
 asked Reset z = absurd (z refl)
 asked Repeat z = absurd (z refl)
-asked (Request n) z = record { size = n; is = refl; end = refl }
+asked (Request n) z = record { size = n; is = refl; l = refl }
 
 -- carrying out leaves the parameters
 pub carried-parameters : (t : Tables) (m : List ℕ) → carriedOut t m .after .parameters ≡ t .parameters
@@ -96,6 +96,15 @@ carried-parameters t m = go (unanswered m) refl
 asked-receiver : (k : Link) (b n : ℕ) → T (inRange k) → heardAt b (lineOf k) ≡ Request n → afterHostByte b k .receiver ≡ k .receiver
 unfolding afterHostByte unread gathering linkOf
 asked-receiver k b n r h = rw h (sym (gathered-stays k r))
+
+-- what clearing it leaves
+cleared : (k : Link) (b n : ℕ) → heardAt b (lineOf k) ≡ Request n → linkOf (atStart (lineOf (afterHostByte b k))) ≡ linkOf (onHostByte b (lineOf k) .line)
+unfolding onIdleMark
+cleared k b n h = RequestLaws.request-cleared k b n h
+
+pub cleared-range : (k : Link) → T (inRange k) → T (inRange (linkOf (atStart (lineOf k))))
+unfolding onIdleMark
+cleared-range k r = RequestLaws.idle-mark-range k r
 
 -- nothing is outstanding then
 asked-free : (b n : ℕ) (l : Line) → heardAt b l ≡ Request n → isEmpty (l .outstanding) ≡ true → isEmpty (onHostByte b l .line .outstanding) ≡ true
@@ -138,12 +147,12 @@ taken-nothing m l e = rw e
 
 -- ---- what the walk of a request goes through: the record and the buffer after each of its calls
 module _ (b : ℕ) (k : Link) (out : List ℕ) (ds : List Datapoint) (is : List Item) (ps : List ℕ) where
-  -- where the message ends, and the message
-  abbrev pub endAt : ℕ
-  endAt = messageEnd (heardAt b (lineOf k))
+  -- the request's L, and its message
+  abbrev pub lAt : ℕ
+  lAt = requestL (heardAt b (lineOf k))
 
   abbrev pub asks : List ℕ
-  asks = take (endAt - 5) (drop 5 (afterHostByte b k .receiver))
+  asks = take (lAt - 1) (drop 5 (afterHostByte b k .receiver))
 
   -- what carrying it out comes to
   abbrev pub carries : Served
@@ -151,7 +160,7 @@ module _ (b : ℕ) (k : Link) (out : List ℕ) (ds : List Datapoint) (is : List 
 
   -- the record cleared
   abbrev pub clearedLink : Link
-  clearedLink = linkOf (onIdleMark (lineOf (afterHostByte b k)) .line)
+  clearedLink = linkOf (atStart (lineOf (afterHostByte b k)))
 
   -- the buffer acknowledged, and answered
   abbrev pub acknowledgedOut : List ℕ
@@ -196,19 +205,19 @@ module _ (b : ℕ) (k : Link) (out : List ℕ) (ds : List Datapoint) (is : List 
     read-back : readBack ≡ carries .says
     read-back = put-read acknowledgedOut 6 6 (6 + length (carries .says) - 6) [] (carries .says) (omega (arith, acknowledged-room, says-short)) (omega arith) (omega arith)
 
-    module _ (r : T (inRange k)) (z : endAt ≡ 0 → ⊥) where
+    module _ (r : T (inRange k)) (z : lAt ≡ 0 → ⊥) where
       q : Asked (heardAt b (lineOf k))
       q = asked (heardAt b (lineOf k)) z
 
       at : RequestLaws.RequestAt k b (q .size)
       at = RequestLaws.request-at k b (q .size) r (q .is)
 
-      pub request-bounds : (5 ≤ endAt) × (endAt ≤ 260)
-      request-bounds = (omega (arith, q .end, at .one), omega (arith, q .end, at .within))
+      pub some-l : 1 ≤ lAt
+      some-l = omega (arith, q .l, at .one)
 
       -- L, at most 255, counts the control byte and the message
       asks-short : length asks ≤ 254
-      asks-short = omega (arith, length-take (endAt - 5) (drop 5 (afterHostByte b k .receiver)), q .end, at .small)
+      asks-short = omega (arith, length-take (lAt - 1) (drop 5 (afterHostByte b k .receiver)), q .l, at .small)
 
       -- what carrying out asks
       pub carry-needs : T (wellFormed (tablesOf ds is ps))
@@ -220,11 +229,11 @@ module _ (b : ℕ) (k : Link) (out : List ℕ) (ds : List Datapoint) (is : List 
       -- the message is the one that the link hands up
       handed : onHostByte b (lineOf k) .up ≡ message asks
       handed =
-          let c : q .size - 1 ≡ endAt - 5 = omega (arith, q .end) in
+          let c : q .size - 1 ≡ lAt - 1 = omega (arith, q .l) in
           at .message-is ∙ (λ i. message (take (c i) (drop 5 (sym (asked-receiver k b (q .size) r (q .is)) i))))
 
       line₂ : lineOf clearedLink ≡ onHostByte b (lineOf k) .line
-      line₂ = ap lineOf (RequestLaws.request-cleared k b (q .size) (q .is)) ∙ lineOf-linkOf (onHostByte b (lineOf k) .line)
+      line₂ = ap lineOf (cleared k b (q .size) (q .is)) ∙ lineOf-linkOf (onHostByte b (lineOf k) .line)
 
       taken : takenBack ≡ onMessage (carries .says) (onHostByte b (lineOf k) .line)
       taken = λ i. onMessage (read-back i) (line₂ i)

@@ -56,12 +56,12 @@ acknowledgementOf Reset = acknowledgement
 acknowledgementOf Repeat = acknowledgement
 acknowledgementOf (Request n) = acknowledgement
 
--- where the request's message ends in the receiver: it begins at place 5 and has L - 1 bytes; 0 where there is none
-unfoldable pub messageEnd : Heard → ℕ
-messageEnd Gathered = 0
-messageEnd Dropped = 0
-messageEnd Ignored = 0
-messageEnd Acknowledged = 0
-messageEnd Reset = 0
-messageEnd Repeat = 0
-messageEnd (Request n) = n + 4
+-- the L of the request that it ended, 1 at least; 0 where it ended none
+unfoldable pub requestL : Heard → ℕ
+requestL Gathered = 0
+requestL Dropped = 0
+requestL Ignored = 0
+requestL Acknowledged = 0
+requestL Reset = 0
+requestL Repeat = 0
+requestL (Request n) = n

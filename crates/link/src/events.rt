@@ -5,7 +5,7 @@ ghost use Prim.Native.Nat.{_+_, _≤_};
 ghost use lib.ListN.{length, take, drop};
 ghost use lib.Dec.{T};
 ghost use Rattle.ft12.specs.Record.{lineOf, linkOf, inRange};
-ghost use Rattle.ft12.specs.Rules.{onIdleMark};
+ghost use Rattle.ft12.specs.Rules.{atStart, onIdleMark};
 ghost use Rattle.ft12.specs.Promise.{HostByteHeard, AckWaited, MessageTaken};
 use crate::parts::ack_wait_over_at;
 use crate::parts::host_byte_at;
@@ -14,8 +14,8 @@ use crate::parts::message_at;
 use ft12::record::Link;
 use ft12::rules::Heard;
 
-// A host byte. Where it ends a request, its message stands among the receiver's bytes, from place 5 on, L - 1 bytes
-// long, until `idle_mark` clears them.
+// A host byte. Where it ends a request, its message stands among the receiver's bytes, where `request_message` finds
+// it, until `clear_request`.
 pub fn host_byte(link: &mut Link, b: u8) -> Heard
     requires { ⌜ T (inRange (now link)) ⌝ }
     ensures { λ r. ⌜ HostByteHeard (now (link .entry)) b r (now (link .exit)) ⌝ }
@@ -48,6 +48,14 @@ pub fn idle_mark(link: &mut Link)
         &mut link.held,
         &mut link.resends,
     )
+}
+
+// A request was carried out: an idle mark's work takes its bytes from the receiver.
+pub fn clear_request(link: &mut Link)
+    requires { ⌜ T (inRange (now link)) ⌝ }
+    ensures { λ _. ⌜ now (link .exit) ≡ linkOf (atStart (lineOf (now (link .entry)))) ⌝ }
+{
+    idle_mark(link)
 }
 
 // Ack wait over: answers how many bytes of the buffer are to be sent.

@@ -3,3 +3,4 @@ pub mod case;
 pub mod events;
 pub mod parts;
 pub mod range;
+pub mod request;

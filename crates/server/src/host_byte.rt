@@ -8,16 +8,19 @@ ghost use Rattle.ft12.specs.Record.{lineOf, inRange};
 ghost use Rattle.ft12.specs.Rules.{onHostByte};
 ghost use Rattle.baos.specs.Table.{tablesOf, wellFormed};
 ghost use Rattle.calls.specs.Call.{accepted, onMoved};
-ghost use Rattle.calls.specs.Promise.{Leaves, acknowledgementOf, messageEnd};
+ghost use Rattle.calls.specs.Promise.{Leaves, acknowledgementOf, requestL};
 use baos::datapoint::Datapoint;
 use baos::item::Item;
 use calls::reply::Reply;
 use frames::frame::put_acknowledgement;
 use ft12::record::Link;
 use ft12::rules::Heard;
+use link::events::clear_request;
 use link::events::host_byte;
-use link::events::idle_mark;
 use link::events::take_message;
+use link::request::ANSWER_AT;
+use link::request::ANSWER_FRAME_AT;
+use link::request::request_message;
 use services::service::carry_out;
 
 // The acknowledgement, where one is due; answers how many bytes it has.
@@ -46,10 +49,9 @@ fn acknowledge(heard: Heard, out: &mut [u8]) -> usize
     }
 }
 
-// Where the request's message ends in the receiver: it begins at place 5 and has L - 1 bytes. 0 where there is no
-// request.
-fn message_end(heard: Heard) -> usize
-    ensures { λ r. ⌜ r ≡ messageEnd heard ⌝ }
+// The request's L, by which the link finds its message; 0 where there is no request.
+fn request_l(heard: Heard) -> u8
+    ensures { λ r. ⌜ r ≡ requestL heard ⌝ }
 {
     match heard {
         Heard::Gathered => 0,
@@ -58,7 +60,7 @@ fn message_end(heard: Heard) -> usize
         Heard::Acknowledged => 0,
         Heard::Reset => 0,
         Heard::Repeat => 0,
-        Heard::Request(n) => n as usize + 4,
+        Heard::Request(l) => l,
     }
 }
 
@@ -81,19 +83,13 @@ pub fn on_host_byte(
 {
     let heard = host_byte(link, b);
     let sent = acknowledge(heard, out);
-    let end = message_end(heard);
-    if end == 0 {
+    let l = request_l(heard);
+    if l == 0 {
         return Reply::Accepted(sent);
     }
-    let answered = carry_out(
-        datapoints,
-        items,
-        parameters,
-        &link.receiver[5..end],
-        out,
-        6,
-    );
-    idle_mark(link);
-    let framed = take_message(link, out, 1, answered - 6);
-    Reply::Accepted(framed + 1)
+    let message = request_message(&link.receiver, l);
+    let answered = carry_out(datapoints, items, parameters, message, out, ANSWER_AT);
+    clear_request(link);
+    let framed = take_message(link, out, ANSWER_FRAME_AT, answered - ANSWER_AT);
+    Reply::Accepted(framed + ANSWER_FRAME_AT)
 }

@@ -13,6 +13,8 @@ use baos::datapoint::Datapoint;
 use calls::reply::Reply;
 use ft12::record::Link;
 use link::events::take_message;
+use link::request::INDICATION_AT;
+use link::request::INDICATION_FRAME_AT;
 use services::indication::indicate;
 
 // A poll. With nothing outstanding, the indication is built in the output behind the room for its frame's head, and
@@ -27,7 +29,7 @@ pub fn on_poll(datapoints: &mut [Datapoint], link: &mut Link, out: &mut [u8]) ->
     if link.held != 0 {
         return Reply::Accepted(0);
     }
-    let end = indicate(datapoints, out, 5);
-    let framed = take_message(link, out, 0, end - 5);
+    let end = indicate(datapoints, out, INDICATION_AT);
+    let framed = take_message(link, out, INDICATION_FRAME_AT, end - INDICATION_AT);
     Reply::Accepted(framed)
 }

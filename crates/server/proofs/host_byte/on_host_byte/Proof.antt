@@ -1,4 +1,4 @@
--- A walk: the byte is heard and acknowledged; where it ends a request, its message is carried out where it stands, and the answer is taken back. Each exit is one law of HostByteLaws. Assumes nothing.
+-- A walk: the byte is heard and acknowledged; where it ends a request, its message is handed up where it stands and carried out, and the answer is taken back. Each exit is one law of HostByteLaws. Assumes nothing.
 use Rattle.walks.proofs.Data.{unitD, Good, typed, pinned}
 use Rattle.walks.proofs.Walk.{allocs-all, frees-all, Param, dataP, mutP, mutSliceP, shrSliceP, Ends, ends-in, Walk, meets-by, behind, starts, cell, room}
 use Rattle.walks.proofs.Branches.{leaves-early, no-T}
@@ -44,7 +44,7 @@ use Rattle.words.specs.Words.{put}
 use Rattle.ft12.specs.Record.{lineOf, linkOf, inRange}
 use Rattle.ft12.specs.Rules.{Moved, heardAt, afterHostByte}
 use Rattle.ft12.proofs.Types.{byteD, sizeD, linkD, heardD}
-use Rattle.ft12.proofs.RequestLaws.{host-byte-range, idle-mark-range}
+use Rattle.ft12.proofs.RequestLaws.{host-byte-range}
 use Rattle.baos.specs.declared.datapoint.Datapoint.{Datapoint}
 use Rattle.baos.specs.declared.item.Item.{Item}
 use Rattle.baos.specs.Table.{wellFormed, tablesOf as tablesWith}
@@ -55,28 +55,32 @@ use Rattle.calls.specs.Promise.{acknowledgementOf}
 use Rattle.calls.proofs.reply.Reply as R
 use Rattle.calls.proofs.reply.Reply.Laws as R′
 use Rattle.calls.proofs.Types.{replyD}
-use Rattle.calls.proofs.HostByteLaws.{no-request, taken-short, endAt, asks, carries, clearedLink, acknowledgedOut, answeredOut, readBack, takenBack, answered-room, carry-needs, request-bounds, request-answered}
-use Rattle.server.proofs.MessageParts.{lends-message, message-back}
+use Rattle.calls.proofs.HostByteLaws.{no-request, taken-short, lAt, asks, carries, clearedLink, cleared-range, acknowledgedOut, answeredOut, readBack, takenBack, answered-room, carry-needs, some-l, request-answered}
+use Rattle.server.proofs.MessageParts.{hands-message, message-back}
+use Rattle.link.proofs.events.clear_request as clear-request
+use Rattle.link.proofs.events.clear_request.Symbol as clear-request-def
+use Rattle.link.proofs.events.clear_request.Symbol.{name as #link·events·clear-request}
+use Rattle.link.proofs.events.clear_request.Met as clear-request-thm
 use Rattle.link.proofs.events.host_byte as host-byte
 use Rattle.link.proofs.events.host_byte.Symbol as host-byte-def
 use Rattle.link.proofs.events.host_byte.Symbol.{name as #link·events·host-byte}
 use Rattle.link.proofs.events.host_byte.Met as host-byte-thm
-use Rattle.link.proofs.events.idle_mark as idle-mark
-use Rattle.link.proofs.events.idle_mark.Symbol as idle-mark-def
-use Rattle.link.proofs.events.idle_mark.Symbol.{name as #link·events·idle-mark}
-use Rattle.link.proofs.events.idle_mark.Met as idle-mark-thm
 use Rattle.link.proofs.events.take_message as take-message
 use Rattle.link.proofs.events.take_message.Symbol as take-message-def
 use Rattle.link.proofs.events.take_message.Symbol.{name as #link·events·take-message}
 use Rattle.link.proofs.events.take_message.Met as take-message-thm
+use Rattle.link.proofs.request.request_message as request-message
+use Rattle.link.proofs.request.request_message.Symbol as request-message-def
+use Rattle.link.proofs.request.request_message.Symbol.{name as #link·request·request-message}
+use Rattle.link.proofs.request.request_message.Met as request-message-thm
 use Rattle.server.proofs.host_byte.acknowledge as acknowledge
 use Rattle.server.proofs.host_byte.acknowledge.Symbol as acknowledge-def
 use Rattle.server.proofs.host_byte.acknowledge.Symbol.{name as #server·host-byte·acknowledge}
 use Rattle.server.proofs.host_byte.acknowledge.Met as acknowledge-thm
-use Rattle.server.proofs.host_byte.message_end as message-end
-use Rattle.server.proofs.host_byte.message_end.Symbol as message-end-def
-use Rattle.server.proofs.host_byte.message_end.Symbol.{name as #server·host-byte·message-end}
-use Rattle.server.proofs.host_byte.message_end.Met as message-end-thm
+use Rattle.server.proofs.host_byte.request_l as request-l
+use Rattle.server.proofs.host_byte.request_l.Symbol as request-l-def
+use Rattle.server.proofs.host_byte.request_l.Symbol.{name as #server·host-byte·request-l}
+use Rattle.server.proofs.host_byte.request_l.Met as request-l-thm
 use Rattle.services.proofs.service.carry_out as carry-out
 use Rattle.services.proofs.service.carry_out.Symbol as carry-out-def
 use Rattle.services.proofs.service.carry_out.Symbol.{name as #services·service·carry-out}
@@ -107,26 +111,29 @@ six-ok = (refl, lit< tt)
 reply-good : (n : ℕ) → n < 2 ^ 64 → Good replyD (Accepted n)
 reply-good n h = EL.owes R.the-type R′.the-laws (Accepted n) ((refl, h), tt)
 
+abbrev C-clear-request : {M : Type 1} (𝓤 : URA M) (H : Heap 𝓤) (A : Atoms 𝓤) (mem : Memory → SProp 𝓤) (run : Routine → Fun 𝓤) → Contract 𝓤
+C-clear-request 𝓤 H A mem run = tripleOf 𝓤 H A clear-request.signature (clear-request.spec 𝓤 H A mem run)
+
 abbrev C-host-byte : {M : Type 1} (𝓤 : URA M) (H : Heap 𝓤) (A : Atoms 𝓤) (mem : Memory → SProp 𝓤) (run : Routine → Fun 𝓤) → Contract 𝓤
 C-host-byte 𝓤 H A mem run = tripleOf 𝓤 H A host-byte.signature (host-byte.spec 𝓤 H A mem run)
-
-abbrev C-idle-mark : {M : Type 1} (𝓤 : URA M) (H : Heap 𝓤) (A : Atoms 𝓤) (mem : Memory → SProp 𝓤) (run : Routine → Fun 𝓤) → Contract 𝓤
-C-idle-mark 𝓤 H A mem run = tripleOf 𝓤 H A idle-mark.signature (idle-mark.spec 𝓤 H A mem run)
 
 abbrev C-take-message : {M : Type 1} (𝓤 : URA M) (H : Heap 𝓤) (A : Atoms 𝓤) (mem : Memory → SProp 𝓤) (run : Routine → Fun 𝓤) → Contract 𝓤
 C-take-message 𝓤 H A mem run = tripleOf 𝓤 H A take-message.signature (take-message.spec 𝓤 H A mem run)
 
+abbrev C-request-message : {M : Type 1} (𝓤 : URA M) (H : Heap 𝓤) (A : Atoms 𝓤) (mem : Memory → SProp 𝓤) (run : Routine → Fun 𝓤) → Contract 𝓤
+C-request-message 𝓤 H A mem run = tripleOf 𝓤 H A request-message.signature (request-message.spec 𝓤 H A mem run)
+
 abbrev C-acknowledge : {M : Type 1} (𝓤 : URA M) (H : Heap 𝓤) (A : Atoms 𝓤) (mem : Memory → SProp 𝓤) (run : Routine → Fun 𝓤) → Contract 𝓤
 C-acknowledge 𝓤 H A mem run = tripleOf 𝓤 H A acknowledge.signature (acknowledge.spec 𝓤 H A mem run)
 
-abbrev C-message-end : {M : Type 1} (𝓤 : URA M) (H : Heap 𝓤) (A : Atoms 𝓤) (mem : Memory → SProp 𝓤) (run : Routine → Fun 𝓤) → Contract 𝓤
-C-message-end 𝓤 H A mem run = tripleOf 𝓤 H A message-end.signature (message-end.spec 𝓤 H A mem run)
+abbrev C-request-l : {M : Type 1} (𝓤 : URA M) (H : Heap 𝓤) (A : Atoms 𝓤) (mem : Memory → SProp 𝓤) (run : Routine → Fun 𝓤) → Contract 𝓤
+C-request-l 𝓤 H A mem run = tripleOf 𝓤 H A request-l.signature (request-l.spec 𝓤 H A mem run)
 
 abbrev C-carry-out : {M : Type 1} (𝓤 : URA M) (H : Heap 𝓤) (A : Atoms 𝓤) (mem : Memory → SProp 𝓤) (run : Routine → Fun 𝓤) → Contract 𝓤
 C-carry-out 𝓤 H A mem run = tripleOf 𝓤 H A carry-out.signature (carry-out.spec 𝓤 H A mem run)
 
 module _ {M : Type 1} (𝓤 : URA M) (H : Heap 𝓤) (A : Atoms 𝓤) (W : Given 𝓤 H A) (mem : Memory → SProp 𝓤) (run : Routine → Fun 𝓤) (𝓣 : Tables 𝓤 H)
-    (known-host-byte : Triple 𝓤 (𝓣 .C #link·events·host-byte) (C-host-byte 𝓤 H A mem run)) (known-idle-mark : Triple 𝓤 (𝓣 .C #link·events·idle-mark) (C-idle-mark 𝓤 H A mem run)) (known-take-message : Triple 𝓤 (𝓣 .C #link·events·take-message) (C-take-message 𝓤 H A mem run)) (known-acknowledge : Triple 𝓤 (𝓣 .C #server·host-byte·acknowledge) (C-acknowledge 𝓤 H A mem run)) (known-message-end : Triple 𝓤 (𝓣 .C #server·host-byte·message-end) (C-message-end 𝓤 H A mem run)) (known-carry-out : Triple 𝓤 (𝓣 .C #services·service·carry-out) (C-carry-out 𝓤 H A mem run))
+    (known-clear-request : Triple 𝓤 (𝓣 .C #link·events·clear-request) (C-clear-request 𝓤 H A mem run)) (known-host-byte : Triple 𝓤 (𝓣 .C #link·events·host-byte) (C-host-byte 𝓤 H A mem run)) (known-take-message : Triple 𝓤 (𝓣 .C #link·events·take-message) (C-take-message 𝓤 H A mem run)) (known-request-message : Triple 𝓤 (𝓣 .C #link·request·request-message) (C-request-message 𝓤 H A mem run)) (known-acknowledge : Triple 𝓤 (𝓣 .C #server·host-byte·acknowledge) (C-acknowledge 𝓤 H A mem run)) (known-request-l : Triple 𝓤 (𝓣 .C #server·host-byte·request-l) (C-request-l 𝓤 H A mem run)) (known-carry-out : Triple 𝓤 (𝓣 .C #services·service·carry-out) (C-carry-out 𝓤 H A mem run))
     (κ0 κ1 κ2 κ3 κ4 : Lft) (q0 q1 q2 q3 q4 : Share) (b : ℕ) (datapoints : RefT (List Datapoint)) (items : RefT (List Item)) (parameters : RefT (List ℕ)) (link : RefT Link) (out : RefT (List ℕ)) (b-ok : Good byteD b) (datapoints-room : Room (datapointD .row) (length (datapoints .now))) (items-room : Room (itemD .row) (length (items .now))) (parameters-room : Room (byteD .row) (length (parameters .now))) (out-room : Room (byteD .row) (length (out .now))) (lt : T (wellFormed (tablesWith (datapoints .now) (items .now) (parameters .now))) × T (inRange (link .now)) × (262 ≤ length (out .now))) where
   abbrev x : ℕ × (RefT (List Datapoint) × (RefT (List Item) × (RefT (List ℕ) × (RefT Link × (RefT (List ℕ) × Unit {0})))))
   x = (b, (datapoints, (items, (parameters, (link, (out, tt))))))
@@ -164,8 +171,8 @@ module _ {M : Type 1} (𝓤 : URA M) (H : Heap 𝓤) (A : Atoms 𝓤) (W : Given
   abbrev out₁ : List ℕ
   out₁ = acknowledgedOut b h (out .now) ds is ps′
 
-  abbrev e : ℕ
-  e = endAt b h (out .now) ds is ps′
+  abbrev n : ℕ
+  n = lAt b h (out .now) ds is ps′
 
   abbrev ms : List ℕ
   ms = asks b h (out .now) ds is ps′
@@ -200,11 +207,8 @@ module _ {M : Type 1} (𝓤 : URA M) (H : Heap 𝓤) (A : Atoms 𝓤) (W : Given
   abbrev out₃ : List ℕ
   out₃ = put out₂ 1 (taken .sent)
 
-  asked : T (not (eqb e 0)) → e ≡ 0 → ⊥
-  asked some = eqb-false e 0 (no-T (eqb e 0) some)
-
-  bounds : T (not (eqb e 0)) → (5 ≤ e) × (e ≤ 260)
-  bounds some = request-bounds b h (out .now) ds is ps′ (lt .2) (lt .1) (asked some)
+  asked : T (not (eqb n 0)) → n ≡ 0 → ⊥
+  asked some = eqb-false n 0 (no-T (eqb n 0) some)
 
   one-more : framed + 1 < 2 ^ 64
   one-more = omega (arith, taken-short (readBack b h (out .now) ds is ps′) (lineOf h₂))
@@ -215,59 +219,58 @@ module _ {M : Type 1} (𝓤 : URA M) (H : Heap 𝓤) (A : Atoms 𝓤) (W : Given
   walk : Walk 5 𝓤 H A W ps replyD (f.clauses 𝓤 H A mem run) 𝓣 code.function (κ0, (κ1, (κ2, (κ3, (κ4, tt))))) (q0, (q1, (q2, (q3, (q4, tt))))) x tt
   walk =
       starts 𝓤 H A W 5 ps (κ0, (κ1, (κ2, (κ3, (κ4, tt))))) (q0, (q1, (q2, (q3, (q4, tt))))) x ∵ enter ! (𝓣 .C) (𝓣 .Λ) code.function _ _ $ allocs-all ! (code.function .locals) (λ l. params1 ! $
-      pass1 ! (init ! 60 refl (typed 𝓤 H A byteD W b b-ok .0)) $
-      pass1 ! (init ! 58 refl (tt, (tt, (record { fits = datapoints-room .0 }, tt)))) $
-      pass1 ! (init ! 56 refl (tt, (tt, (record { fits = items-room .0 }, tt)))) $
-      pass1 ! (init ! 54 refl (tt, (tt, (record { fits = parameters-room .0 }, tt)))) $
-      pass1 ! (init ! 52 refl (tt, tt)) $
-      pass1 ! (init ! 50 refl (tt, (tt, (record { fits = out-room .0 }, tt)))) $
+      pass1 ! (init ! 56 refl (typed 𝓤 H A byteD W b b-ok .0)) $
+      pass1 ! (init ! 54 refl (tt, (tt, (record { fits = datapoints-room .0 }, tt)))) $
+      pass1 ! (init ! 52 refl (tt, (tt, (record { fits = items-room .0 }, tt)))) $
+      pass1 ! (init ! 50 refl (tt, (tt, (record { fits = parameters-room .0 }, tt)))) $
+      pass1 ! (init ! 48 refl (tt, tt)) $
+      pass1 ! (init ! 46 refl (tt, (tt, (record { fits = out-room .0 }, tt)))) $
       pass0 ! $
-      move ! (73 ∷ 67 ∷ 70 ∷ 64 ∷ 71 ∷ 65 ∷ 72 ∷ 66 ∷ 74 ∷ 68 ∷ []) $
+      move ! (69 ∷ 63 ∷ 66 ∷ 60 ∷ 67 ∷ 61 ∷ 68 ∷ 62 ∷ 70 ∷ 64 ∷ []) $
       -- the byte is heard
-      assigns ! (addr ! (from ! (hop ! (look ! 62 refl) (stop !)))) (from ! (stop !)) (init ! 48 refl (tt, tt)) $
+      assigns ! (addr ! (from ! (hop ! (look ! 58 refl) (stop !)))) (from ! (stop !)) (init ! 42 refl (tt, tt)) $
       calls-mut ! (fmOf 𝓤 H (W .laws) 𝓣) linkD (byteD ∷ []) heardD (host-byte.clauses 𝓤 H A mem run) known-host-byte (λ _. (b, tt)) (λ _ _. tt) (λ _. (b-ok, tt)) (λ _ _. factI 𝓤 _ (emp 𝓤) (lt .1)) h₁ heard (λ _ _ _ _. fact-use 𝓤 _ (id⊢ 𝓤 _) (λ z. factI 𝓤 _ _ (z .link, z .answer)))
-      (λ _ _ _. (and-then ! (load ! (from ! (stop !)) (look ! 48 refl)) (and-then ! (load ! (from ! (stop !)) (look ! 70 refl)) (no-more !)))) (λ is₁.
-      land ! (from ! (stop !)) (init ! 58 refl (typed 𝓤 H A heardD W heard is₁ .0)) $
+      (λ _ _ _. (and-then ! (load ! (from ! (stop !)) (look ! 42 refl)) (and-then ! (load ! (from ! (stop !)) (look ! 66 refl)) (no-more !)))) (λ is₁.
+      land ! (from ! (stop !)) (init ! 54 refl (typed 𝓤 H A heardD W heard is₁ .0)) $
       -- it is acknowledged
-      assigns ! (addr ! (from ! (fld ! refl (hop ! (look-in ! 60 (sub ! 0 refl (whole !))) (stop !))))) (from ! (stop !)) (init ! 46 refl (tt, tt)) $
-      assigns ! (agg ! (and-then ! (load ! (from ! (stop !)) (look ! 46 refl)) (and-then ! (load ! (from ! (fld ! refl (stop !))) (look-in ! 60 (sub ! 1 refl (whole !)))) (no-more !)))) (from ! (stop !)) (init ! 44 refl (tt, (tt, (record { fits = out-room .0 }, tt)))) $
+      assigns ! (addr ! (from ! (fld ! refl (hop ! (look-in ! 56 (sub ! 0 refl (whole !))) (stop !))))) (from ! (stop !)) (init ! 40 refl (tt, tt)) $
+      assigns ! (agg ! (and-then ! (load ! (from ! (stop !)) (look ! 40 refl)) (and-then ! (load ! (from ! (fld ! refl (stop !))) (look-in ! 56 (sub ! 1 refl (whole !)))) (no-more !)))) (from ! (stop !)) (init ! 38 refl (tt, (tt, (record { fits = out-room .0 }, tt)))) $
       move ! (8 ∷ 9 ∷ []) $
       lendsS ! tt byteD m (out .now) refl (λ ν₀ δ₀ rm₀.
       use0 W (‵ (heardD .row .own heard (heardD .val heard ∷ []))) (heardD .made 𝓤 H A W heard (heardD .val heard ∷ []) is₁) $
       move ! (1 ∷ 0 ∷ 2 ∷ []) $
       calls-any ! (fmOf 𝓤 H (W .laws) 𝓣) acknowledge.ended (acknowledge.clauses 𝓤 H A mem run) known-acknowledge (((ν₀ ∷ [], tt), (fullShare, tt), tt, (heard, (record { ptr = out .ptr; name = δ₀; now = out .now }, tt)), (heardD .val heard ∷ [], (sliceVal (out .ptr) m ∷ [], tt))), tt) (factI 𝓤 _ (emp 𝓤) (lt .2)) sizeD sent (λ ws. ws .1 .0 ≡ out₁)
       (λ v r ws is. fact-use 𝓤 _ (id⊢ 𝓤 _) (λ z. factI 𝓤 _ _ (z .0, pinned sizeD r sent v is (z .1))))
-      (and-then ! (load ! (from ! (stop !)) (look ! 58 refl)) (and-then ! (load ! (from ! (stop !)) (look ! 44 refl)) (no-more !))) (λ ws z isacknowledge.
+      (and-then ! (load ! (from ! (stop !)) (look ! 54 refl)) (and-then ! (load ! (from ! (stop !)) (look ! 38 refl)) (no-more !))) (λ ws z isacknowledge.
       move ! (0 ∷ 2 ∷ 3 ∷ []) $
       backsS ! tt byteD m (out .now) refl rm₀ (ws .1 .0) out₁ z (λ long₁.
       move ! (2 ∷ []) $
       toss ! $
-      land ! (from ! (stop !)) (init ! 56 refl (typed 𝓤 H A sizeD W sent isacknowledge .0)) $
-      -- where its message ends
-      calls-plain ! (fmOf 𝓤 H (W .laws) 𝓣) (heardD ∷ []) sizeD (message-end.clauses 𝓤 H A mem run) known-message-end (heard, tt) tt (is₁, tt) (id⊢ 𝓤 _) e (λ _ _. id⊢ 𝓤 _)
-      (λ _. (and-then ! (load ! (from ! (stop !)) (look ! 59 refl)) (no-more !))) (λ is₃.
-      land ! (from ! (stop !)) (init ! 54 refl (typed 𝓤 H A sizeD W e is₃ .0)) $
-      assigns ! (bin ! (load ! (from ! (stop !)) (look ! 54 refl)) (lit ! tt) tt) (from ! (stop !)) (init ! 42 refl (tt, tt)) $
-      leaves-early ! (load ! (from ! (stop !)) (look ! 42 refl)) (λ none.
-      assigns ! (agg ! (and-then ! (lit ! tt) (and-then ! (load ! (from ! (stop !)) (look ! 56 refl)) (no-more !)))) (from ! (stop !)) (init ! 72 refl (typed 𝓤 H A replyD W (Accepted sent) (reply-good sent (isacknowledge .1)) .0)) $
-      returns-within ! Done refl (look ! 72 refl) $ behind ! 10 $ frees-all ! (room ∷ room ∷ room ∷ room ∷ room ∷ room ∷ room ∷ room ∷ room ∷ room ∷ room ∷ room ∷ room ∷ room ∷ room ∷ room ∷ cell ∷ cell ∷ cell ∷ cell ∷ room ∷ room ∷ cell ∷ cell ∷ cell ∷ cell ∷ cell ∷ cell ∷ cell ∷ cell ∷ cell ∷ cell ∷ []) _ $
-      suffices ! _ (ends-in 5 𝓤 H A W ps replyD (f.clauses 𝓤 H A mem run) (κ0, (κ1, (κ2, (κ3, (κ4, tt))))) (q0, (q1, (q2, (q3, (q4, tt))))) x tt (Accepted sent) (tt, (ds, (is, (tt, (h₁, (out₁, tt)))))) (tt, (refl, (refl, (tt, (tt, (sym long₁, tt)))))) (reply-good sent (isacknowledge .1)) (factI 𝓤 _ (emp 𝓤) (no-request b h (out .now) (tablesWith ds is ps′) (eqb→eq e 0 none)))) $
+      land ! (from ! (stop !)) (init ! 52 refl (typed 𝓤 H A sizeD W sent isacknowledge .0)) $
+      -- whether it ended a request
+      calls-plain ! (fmOf 𝓤 H (W .laws) 𝓣) (heardD ∷ []) byteD (request-l.clauses 𝓤 H A mem run) known-request-l (heard, tt) tt (is₁, tt) (id⊢ 𝓤 _) n (λ _ _. id⊢ 𝓤 _)
+      (λ _. (and-then ! (load ! (from ! (stop !)) (look ! 55 refl)) (no-more !))) (λ is₃.
+      land ! (from ! (stop !)) (init ! 50 refl (typed 𝓤 H A byteD W n is₃ .0)) $
+      assigns ! (bin ! (load ! (from ! (stop !)) (look ! 50 refl)) (lit ! tt) tt) (from ! (stop !)) (init ! 36 refl (tt, tt)) $
+      leaves-early ! (load ! (from ! (stop !)) (look ! 36 refl)) (λ none.
+      assigns ! (agg ! (and-then ! (lit ! tt) (and-then ! (load ! (from ! (stop !)) (look ! 52 refl)) (no-more !)))) (from ! (stop !)) (init ! 68 refl (typed 𝓤 H A replyD W (Accepted sent) (reply-good sent (isacknowledge .1)) .0)) $
+      returns-within ! Done refl (look ! 68 refl) $ behind ! 10 $ frees-all ! (room ∷ room ∷ room ∷ room ∷ room ∷ room ∷ room ∷ room ∷ room ∷ room ∷ room ∷ room ∷ room ∷ cell ∷ cell ∷ cell ∷ cell ∷ room ∷ room ∷ room ∷ cell ∷ cell ∷ cell ∷ cell ∷ cell ∷ cell ∷ cell ∷ cell ∷ cell ∷ cell ∷ []) _ $
+      suffices ! _ (ends-in 5 𝓤 H A W ps replyD (f.clauses 𝓤 H A mem run) (κ0, (κ1, (κ2, (κ3, (κ4, tt))))) (q0, (q1, (q2, (q3, (q4, tt))))) x tt (Accepted sent) (tt, (ds, (is, (tt, (h₁, (out₁, tt)))))) (tt, (refl, (refl, (tt, (tt, (sym long₁, tt)))))) (reply-good sent (isacknowledge .1)) (factI 𝓤 _ (emp 𝓤) (no-request b h (out .now) (tablesWith ds is ps′) (lt .1) (eqb→eq n 0 none)))) $
       nothing ! $ nothing ! $ nothing ! $ nothing ! $ keep ! (10 ∷ 12 ∷ 14 ∷ 8 ∷ 6 ∷ 0 ∷ 1 ∷ 9 ∷ 11 ∷ 2 ∷ 7 ∷ 5 ∷ 3 ∷ []) $ group ! 6 $ frame ! $ done !
       ) (λ some.
-      -- its message is carried out where it stands
-      assigns ! (addr ! (from ! (fld ! refl (hop ! (look-in ! 68 (sub ! 0 refl (whole !))) (stop !))))) (from ! (stop !)) (init ! 40 refl (tt, tt)) $
-      assigns ! (agg ! (and-then ! (load ! (from ! (stop !)) (look ! 40 refl)) (and-then ! (load ! (from ! (fld ! refl (stop !))) (look-in ! 68 (sub ! 1 refl (whole !)))) (no-more !)))) (from ! (stop !)) (init ! 38 refl (tt, (tt, (record { fits = datapoints-room .0 }, tt)))) $
-      assigns ! (addr ! (from ! (fld ! refl (hop ! (look-in ! 66 (sub ! 0 refl (whole !))) (stop !))))) (from ! (stop !)) (init ! 36 refl (tt, tt)) $
-      assigns ! (agg ! (and-then ! (load ! (from ! (stop !)) (look ! 36 refl)) (and-then ! (load ! (from ! (fld ! refl (stop !))) (look-in ! 66 (sub ! 1 refl (whole !)))) (no-more !)))) (from ! (stop !)) (init ! 34 refl (tt, (tt, (record { fits = items-room .0 }, tt)))) $
-      assigns ! (addr ! (from ! (hop ! (look ! 62 refl) (fld ! refl (stop !))))) (from ! (stop !)) (init ! 32 refl (tt, tt)) $
-      assigns ! (bin ! (load ! (from ! (stop !)) (look ! 32 refl)) (lit ! tt) tt) (from ! (stop !)) (init ! 30 refl (tt, tt)) $
-      assigns ! (bin ! (load ! (from ! (stop !)) (look ! 54 refl)) (lit ! tt) (bounds some .0)) (from ! (stop !)) (init ! 28 refl (tt, record { fits = less e 5 (is₃ .1) })) $
-      assigns ! (addr ! (from ! (hop ! (look ! 30 refl) (stop !)))) (from ! (stop !)) (init ! 26 refl (tt, tt)) $
-      assigns ! (agg ! (and-then ! (load ! (from ! (stop !)) (look ! 26 refl)) (and-then ! (load ! (from ! (stop !)) (look ! 28 refl)) (no-more !)))) (from ! (stop !)) (init ! 24 refl (tt, (tt, (record { fits = less e 5 (is₃ .1) }, tt)))) $
-      assigns ! (addr ! (from ! (fld ! refl (hop ! (look-in ! 60 (sub ! 0 refl (whole !))) (stop !))))) (from ! (stop !)) (init ! 22 refl (tt, tt)) $
-      assigns ! (agg ! (and-then ! (load ! (from ! (stop !)) (look ! 22 refl)) (and-then ! (load ! (from ! (fld ! refl (stop !))) (look-in ! 60 (sub ! 1 refl (whole !)))) (no-more !)))) (from ! (stop !)) (init ! 20 refl (tt, (tt, (record { fits = out-room .0 }, tt)))) $
+      -- its message is handed up
+      assigns ! (addr ! (from ! (hop ! (look ! 58 refl) (fld ! refl (stop !))))) (from ! (stop !)) (init ! 34 refl (tt, tt)) $
       move ! (2 ∷ 3 ∷ []) $
-      lends-message ! tt h₁ 5 e lb lo (bounds some .0) (bounds some .1) (λ ν₃ δ₃ full.
+      hands-message ! (fmOf 𝓤 H (W .laws) 𝓣) (request-message.clauses 𝓤 H A mem run) known-request-message h₁ lb lo n (λ _ _. tt) is₃ (λ _ _. factI 𝓤 _ (emp 𝓤) (some-l b h (out .now) ds is ps′ (lt .2) (lt .1) (asked some))) ms (λ _ _ _ _. id⊢ 𝓤 _)
+      (λ _ _. (and-then ! (load ! (from ! (stop !)) (look ! 34 refl)) (and-then ! (load ! (from ! (stop !)) (look ! 50 refl)) (no-more !)))) (λ ν₃ p₃ δ₃ fits.
+      land ! (from ! (stop !)) (init ! 49 refl (tt, (tt, (record { fits = fits .0 .1 .0 }, tt)))) $
+      -- and carried out where it stands
+      assigns ! (addr ! (from ! (fld ! refl (hop ! (look-in ! 65 (sub ! 0 refl (whole !))) (stop !))))) (from ! (stop !)) (init ! 33 refl (tt, tt)) $
+      assigns ! (agg ! (and-then ! (load ! (from ! (stop !)) (look ! 33 refl)) (and-then ! (load ! (from ! (fld ! refl (stop !))) (look-in ! 65 (sub ! 1 refl (whole !)))) (no-more !)))) (from ! (stop !)) (init ! 31 refl (tt, (tt, (record { fits = datapoints-room .0 }, tt)))) $
+      assigns ! (addr ! (from ! (fld ! refl (hop ! (look-in ! 63 (sub ! 0 refl (whole !))) (stop !))))) (from ! (stop !)) (init ! 29 refl (tt, tt)) $
+      assigns ! (agg ! (and-then ! (load ! (from ! (stop !)) (look ! 29 refl)) (and-then ! (load ! (from ! (fld ! refl (stop !))) (look-in ! 63 (sub ! 1 refl (whole !)))) (no-more !)))) (from ! (stop !)) (init ! 27 refl (tt, (tt, (record { fits = items-room .0 }, tt)))) $
+      assigns ! (addr ! (from ! (fld ! refl (hop ! (look-in ! 57 (sub ! 0 refl (whole !))) (stop !))))) (from ! (stop !)) (init ! 25 refl (tt, tt)) $
+      assigns ! (agg ! (and-then ! (load ! (from ! (stop !)) (look ! 25 refl)) (and-then ! (load ! (from ! (fld ! refl (stop !))) (look-in ! 57 (sub ! 1 refl (whole !)))) (no-more !)))) (from ! (stop !)) (init ! 23 refl (tt, (tt, (record { fits = out-room .0 }, tt)))) $
       move ! (5 ∷ 6 ∷ []) $
       lendsS ! tt datapointD (length ds) ds refl (λ ν₁ δ₁ rm₁.
       move ! (8 ∷ 9 ∷ []) $
@@ -276,9 +279,9 @@ module _ {M : Type 1} (𝓤 : URA M) (H : Heap 𝓤) (A : Atoms 𝓤) (W : Given
       lendsS ! tt byteD m out₁ long₁ (λ ν₄ δ₄ rm₄.
       use0 W (‵ (sizeD .row .own 6 (sizeD .val 6 ∷ []))) (sizeD .made 𝓤 H A W 6 (sizeD .val 6 ∷ []) six-ok) $
       move ! (7 ∷ 4 ∷ 14 ∷ 10 ∷ 1 ∷ 8 ∷ 5 ∷ 13 ∷ 11 ∷ 2 ∷ 0 ∷ []) $
-      calls-any ! (fmOf 𝓤 H (W .laws) 𝓣) carry-out.ended (carry-out.clauses 𝓤 H A mem run) known-carry-out (((ν₁ ∷ [], (ν₂ ∷ [], (κ2, (ν₃ ∷ [], (ν₄ ∷ [], tt))))), (fullShare, (fullShare, (q2, (fullShare, (fullShare, tt))))), tt, (record { ptr = datapoints .ptr; name = δ₁; now = ds }, (record { ptr = items .ptr; name = δ₂; now = is }, (parameters, (record { ptr = (lb, 5 + (lo + 0)); name = δ₃; now = ms }, (record { ptr = out .ptr; name = δ₄; now = out₁ }, (6, tt)))))), (sliceVal (datapoints .ptr) (length ds) ∷ [], (sliceVal (items .ptr) (length is) ∷ [], (sliceVal (parameters .ptr) (length ps′) ∷ [], (sliceVal (lb, 5 + (lo + 0)) (e - 5) ∷ [], (sliceVal (out .ptr) m ∷ [], (sizeD .val 6 ∷ [], tt))))))), tt) (factI 𝓤 _ (emp 𝓤) (carry-needs b h (out .now) ds is ps′ (lt .2) (lt .1) (asked some) (lt .0))) sizeD answered (λ ws. (ws .0 ≡ ds′) × (ws .1 .0 ≡ is′) × (ws .1 .1 .1 .1 .0 ≡ out₂))
+      calls-any ! (fmOf 𝓤 H (W .laws) 𝓣) carry-out.ended (carry-out.clauses 𝓤 H A mem run) known-carry-out (((ν₁ ∷ [], (ν₂ ∷ [], (κ2, (ν₃ ∷ [], (ν₄ ∷ [], tt))))), (fullShare, (fullShare, (q2, (fullShare, (fullShare, tt))))), tt, (record { ptr = datapoints .ptr; name = δ₁; now = ds }, (record { ptr = items .ptr; name = δ₂; now = is }, (parameters, (record { ptr = p₃; name = δ₃; now = ms }, (record { ptr = out .ptr; name = δ₄; now = out₁ }, (6, tt)))))), (sliceVal (datapoints .ptr) (length ds) ∷ [], (sliceVal (items .ptr) (length is) ∷ [], (sliceVal (parameters .ptr) (length ps′) ∷ [], (sliceVal p₃ (length ms) ∷ [], (sliceVal (out .ptr) m ∷ [], (sizeD .val 6 ∷ [], tt))))))), tt) (factI 𝓤 _ (emp 𝓤) (carry-needs b h (out .now) ds is ps′ (lt .2) (lt .1) (asked some) (lt .0))) sizeD answered (λ ws. (ws .0 ≡ ds′) × (ws .1 .0 ≡ is′) × (ws .1 .1 .1 .1 .0 ≡ out₂))
       (λ v r ws is. fact-use 𝓤 _ (id⊢ 𝓤 _) (λ z. factI 𝓤 _ _ ((z .datapoints, z .items, z .buffer), pinned sizeD r answered v is (z .ends))))
-      (and-then ! (load ! (from ! (stop !)) (look ! 33 refl)) (and-then ! (load ! (from ! (stop !)) (look ! 29 refl)) (and-then ! (load ! (from ! (stop !)) (look ! 59 refl)) (and-then ! (load ! (from ! (stop !)) (look ! 19 refl)) (and-then ! (load ! (from ! (stop !)) (look ! 15 refl)) (and-then ! (lit ! tt) (no-more !))))))) (λ ws z iscarryout.
+      (and-then ! (load ! (from ! (stop !)) (look ! 25 refl)) (and-then ! (load ! (from ! (stop !)) (look ! 21 refl)) (and-then ! (load ! (from ! (stop !)) (look ! 55 refl)) (and-then ! (load ! (from ! (stop !)) (look ! 43 refl)) (and-then ! (load ! (from ! (stop !)) (look ! 17 refl)) (and-then ! (lit ! tt) (no-more !))))))) (λ ws z iscarryout.
       move ! (0 ∷ 5 ∷ 13 ∷ []) $
       backsS ! tt datapointD (length ds) ds refl rm₁ (ws .0) ds′ (z .0) (λ longD.
       move ! (2 ∷ 6 ∷ 12 ∷ []) $
@@ -292,27 +295,27 @@ module _ {M : Type 1} (𝓤 : URA M) (H : Heap 𝓤) (A : Atoms 𝓤) (W : Given
       move ! (8 ∷ []) $
       toss ! $
       move ! (7 ∷ 8 ∷ []) $
-      message-back ! tt h₁ 5 e lb lo full $
-      land ! (from ! (stop !)) (init ! 51 refl (typed 𝓤 H A sizeD W answered iscarryout .0)) $
-      -- the receiver is cleared
-      assigns ! (addr ! (from ! (hop ! (look ! 61 refl) (stop !)))) (from ! (stop !)) (init ! 15 refl (tt, tt)) $
-      calls-mut ! (fmOf 𝓤 H (W .laws) 𝓣) linkD [] unitD (idle-mark.clauses 𝓤 H A mem run) known-idle-mark (λ _. tt) (λ _ _. tt) (λ _. tt) (λ _ _. factI 𝓤 _ (emp 𝓤) (host-byte-range h (lt .1) b)) h₂ tt (λ _ _ _ _. fact-use 𝓤 _ (id⊢ 𝓤 _) (λ z. factI 𝓤 _ _ (z, refl)))
-      (λ _ _ _. (and-then ! (load ! (from ! (stop !)) (look ! 15 refl)) (no-more !))) (λ _.
-      land ! (from ! (stop !)) (init ! 17 refl (tt, tt)) $
+      message-back ! tt h₁ lb lo $
+      land ! (from ! (stop !)) (init ! 45 refl (typed 𝓤 H A sizeD W answered iscarryout .0)) $
+      -- the request is cleared
+      assigns ! (addr ! (from ! (hop ! (look ! 57 refl) (stop !)))) (from ! (stop !)) (init ! 17 refl (tt, tt)) $
+      calls-mut ! (fmOf 𝓤 H (W .laws) 𝓣) linkD [] unitD (clear-request.clauses 𝓤 H A mem run) known-clear-request (λ _. tt) (λ _ _. tt) (λ _. tt) (λ _ _. factI 𝓤 _ (emp 𝓤) (host-byte-range h (lt .1) b)) h₂ tt (λ _ _ _ _. fact-use 𝓤 _ (id⊢ 𝓤 _) (λ z. factI 𝓤 _ _ (z, refl)))
+      (λ _ _ _. (and-then ! (load ! (from ! (stop !)) (look ! 17 refl)) (no-more !))) (λ _.
+      land ! (from ! (stop !)) (init ! 19 refl (tt, tt)) $
       -- the answer is taken back
-      assigns ! (addr ! (from ! (hop ! (look ! 61 refl) (stop !)))) (from ! (stop !)) (init ! 13 refl (tt, tt)) $
-      assigns ! (addr ! (from ! (fld ! refl (hop ! (look-in ! 59 (sub ! 0 refl (whole !))) (stop !))))) (from ! (stop !)) (init ! 11 refl (tt, tt)) $
-      assigns ! (agg ! (and-then ! (load ! (from ! (stop !)) (look ! 11 refl)) (and-then ! (load ! (from ! (fld ! refl (stop !))) (look-in ! 59 (sub ! 1 refl (whole !)))) (no-more !)))) (from ! (stop !)) (init ! 9 refl (tt, (tt, (record { fits = out-room .0 }, tt)))) $
-      assigns ! (bin ! (load ! (from ! (stop !)) (look ! 51 refl)) (lit ! tt) (le-add 6 (length (s .says)))) (from ! (stop !)) (store ! 27 refl (tt, record { fits = less answered 6 (iscarryout .1) })) $
+      assigns ! (addr ! (from ! (hop ! (look ! 57 refl) (stop !)))) (from ! (stop !)) (init ! 15 refl (tt, tt)) $
+      assigns ! (addr ! (from ! (fld ! refl (hop ! (look-in ! 55 (sub ! 0 refl (whole !))) (stop !))))) (from ! (stop !)) (init ! 13 refl (tt, tt)) $
+      assigns ! (agg ! (and-then ! (load ! (from ! (stop !)) (look ! 13 refl)) (and-then ! (load ! (from ! (fld ! refl (stop !))) (look-in ! 55 (sub ! 1 refl (whole !)))) (no-more !)))) (from ! (stop !)) (init ! 11 refl (tt, (tt, (record { fits = out-room .0 }, tt)))) $
+      assigns ! (bin ! (load ! (from ! (stop !)) (look ! 45 refl)) (lit ! tt) (le-add 6 (length (s .says)))) (from ! (stop !)) (init ! 9 refl (tt, record { fits = less answered 6 (iscarryout .1) })) $
       lends ! tt linkD h₂ (λ ν₅ δ₅.
       move ! (3 ∷ 4 ∷ []) $
       lendsS ! tt byteD m out₂ long₂ (λ ν₆ δ₆ rm₆.
       use0 W (‵ (sizeD .row .own (answered - 6) (sizeD .val (answered - 6) ∷ []))) (sizeD .made 𝓤 H A W (answered - 6) (sizeD .val (answered - 6) ∷ []) (refl, less answered 6 (iscarryout .1))) $
       use0 W (‵ (sizeD .row .own 1 (sizeD .val 1 ∷ []))) (sizeD .made 𝓤 H A W 1 (sizeD .val 1 ∷ []) one-ok) $
       move ! (5 ∷ 2 ∷ 6 ∷ 3 ∷ 0 ∷ 1 ∷ []) $
-      calls-any ! (fmOf 𝓤 H (W .laws) 𝓣) take-message.ended (take-message.clauses 𝓤 H A mem run) known-take-message (((ν₅ ∷ [], (ν₆ ∷ [], tt)), (fullShare, (fullShare, tt)), tt, (record { ptr = link .ptr; name = δ₅; now = h₂ }, (record { ptr = out .ptr; name = δ₆; now = out₂ }, (1, (answered - 6, tt)))), (vptr lb lo ∷ [], (sliceVal (out .ptr) m ∷ [], (sizeD .val 1 ∷ [], (sizeD .val (answered - 6) ∷ [], tt))))), tt) (factI 𝓤 _ (emp 𝓤) (idle-mark-range h₁ (host-byte-range h (lt .1) b), one-le, answered-room b h (out .now) ds is ps′ (lt .2))) sizeD framed (λ ws. (ws .0 ≡ h₃) × (ws .1 .0 ≡ out₃))
+      calls-any ! (fmOf 𝓤 H (W .laws) 𝓣) take-message.ended (take-message.clauses 𝓤 H A mem run) known-take-message (((ν₅ ∷ [], (ν₆ ∷ [], tt)), (fullShare, (fullShare, tt)), tt, (record { ptr = link .ptr; name = δ₅; now = h₂ }, (record { ptr = out .ptr; name = δ₆; now = out₂ }, (1, (answered - 6, tt)))), (vptr lb lo ∷ [], (sliceVal (out .ptr) m ∷ [], (sizeD .val 1 ∷ [], (sizeD .val (answered - 6) ∷ [], tt))))), tt) (factI 𝓤 _ (emp 𝓤) (cleared-range h₁ (host-byte-range h (lt .1) b), one-le, answered-room b h (out .now) ds is ps′ (lt .2))) sizeD framed (λ ws. (ws .0 ≡ h₃) × (ws .1 .0 ≡ out₃))
       (λ v r ws is. fact-use 𝓤 _ (id⊢ 𝓤 _) (λ z. factI 𝓤 _ _ ((z .link, z .buffer), pinned sizeD r framed v is (z .answer))))
-      (and-then ! (load ! (from ! (stop !)) (look ! 12 refl)) (and-then ! (load ! (from ! (stop !)) (look ! 8 refl)) (and-then ! (lit ! tt) (and-then ! (load ! (from ! (stop !)) (look ! 26 refl)) (no-more !))))) (λ ws z istakemessage.
+      (and-then ! (load ! (from ! (stop !)) (look ! 14 refl)) (and-then ! (load ! (from ! (stop !)) (look ! 10 refl)) (and-then ! (lit ! tt) (and-then ! (load ! (from ! (stop !)) (look ! 8 refl)) (no-more !))))) (λ ws z istakemessage.
       move ! (0 ∷ 2 ∷ 7 ∷ []) $
       rewrite ! 1 (λ (y : Link). ‵ (fres δ₅ (linkD .row .coded .code y))) (z .0) refl $ backs ! tt linkD h₂ h₃ $
       move ! (2 ∷ 3 ∷ 6 ∷ []) $
@@ -321,10 +324,10 @@ module _ {M : Type 1} (𝓤 : URA M) (H : Heap 𝓤) (A : Atoms 𝓤) (W : Given
       toss ! $
       move ! (4 ∷ []) $
       toss ! $
-      land ! (from ! (stop !)) (init ! 49 refl (typed 𝓤 H A sizeD W framed istakemessage .0)) $
-      assigns ! (bin ! (load ! (from ! (stop !)) (look ! 49 refl)) (lit ! tt) (record { fits = one-more })) (from ! (stop !)) (store ! 27 refl (tt, record { fits = one-more })) $
-      assigns ! (agg ! (and-then ! (lit ! tt) (and-then ! (load ! (from ! (stop !)) (look ! 27 refl)) (no-more !)))) (from ! (stop !)) (init ! 71 refl (typed 𝓤 H A replyD W (Accepted (framed + 1)) (reply-good (framed + 1) one-more) .0)) $
-      returns ! (look ! 71 refl) $ behind ! 9 $ frees-all ! (cell ∷ cell ∷ cell ∷ cell ∷ cell ∷ cell ∷ cell ∷ cell ∷ cell ∷ cell ∷ cell ∷ cell ∷ cell ∷ cell ∷ cell ∷ cell ∷ cell ∷ cell ∷ cell ∷ cell ∷ cell ∷ cell ∷ cell ∷ cell ∷ cell ∷ cell ∷ cell ∷ cell ∷ cell ∷ cell ∷ cell ∷ cell ∷ []) _ $
+      land ! (from ! (stop !)) (init ! 43 refl (typed 𝓤 H A sizeD W framed istakemessage .0)) $
+      assigns ! (bin ! (load ! (from ! (stop !)) (look ! 43 refl)) (lit ! tt) (record { fits = one-more })) (from ! (stop !)) (store ! 9 refl (tt, record { fits = one-more })) $
+      assigns ! (agg ! (and-then ! (lit ! tt) (and-then ! (load ! (from ! (stop !)) (look ! 9 refl)) (no-more !)))) (from ! (stop !)) (init ! 67 refl (typed 𝓤 H A replyD W (Accepted (framed + 1)) (reply-good (framed + 1) one-more) .0)) $
+      returns ! (look ! 67 refl) $ behind ! 9 $ frees-all ! (cell ∷ cell ∷ cell ∷ cell ∷ cell ∷ cell ∷ cell ∷ cell ∷ cell ∷ cell ∷ cell ∷ cell ∷ cell ∷ cell ∷ cell ∷ cell ∷ cell ∷ cell ∷ cell ∷ cell ∷ cell ∷ cell ∷ cell ∷ cell ∷ cell ∷ cell ∷ cell ∷ cell ∷ cell ∷ cell ∷ []) _ $
       suffices ! _ (ends-in 5 𝓤 H A W ps replyD (f.clauses 𝓤 H A mem run) (κ0, (κ1, (κ2, (κ3, (κ4, tt))))) (q0, (q1, (q2, (q3, (q4, tt))))) x tt (Accepted (framed + 1)) (tt, (ds′, (is′, (tt, (h₃, (out₃, tt)))))) (tt, (sym longD, (sym longI, (tt, (tt, (sym long₃, tt)))))) (reply-good (framed + 1) one-more) (factI 𝓤 _ (emp 𝓤) (request-answered b h (out .now) ds is ps′ (lt .2) (lt .1) (asked some)))) $
       nothing ! $ nothing ! $ nothing ! $ nothing ! $ keep ! (12 ∷ 10 ∷ 13 ∷ 8 ∷ 6 ∷ 0 ∷ 1 ∷ 11 ∷ 9 ∷ 2 ∷ 7 ∷ 5 ∷ 3 ∷ []) $ group ! 6 $ frame ! $ done !))))))))))))))))))))
 
@@ -336,10 +339,11 @@ on-host-byte-spec 𝓤 H 𝓜 𝓖 𝓡 =
     entered 𝓤 H (tripleOf 𝓤 H (𝓖 .A) f.signature (f.spec 𝓤 H (𝓖 .A) (𝓜 .mem) (𝓡 .run)))
     (tables 𝓤 H 𝓜 𝓡 code.env .C) (tables 𝓤 H 𝓜 𝓡 code.env .Λ) #server·host-byte·on-host-byte code.function (code.unfolded 𝓤 H 𝓜 𝓡)
     (meets-by 5 𝓤 H (𝓖 .A) W ps replyD (f.clauses 𝓤 H (𝓖 .A) (𝓜 .mem) (𝓡 .run)) 𝓣 code.function (λ κs qs a _ are. needs 𝓤 _ _ (λ lt. walk 𝓤 H (𝓖 .A) W (𝓜 .mem) (𝓡 .run) 𝓣
+    (cited 𝓤 H (C-clear-request 𝓤 H (𝓖 .A) (𝓜 .mem) (𝓡 .run)) 𝓜 𝓡 code.env #link·events·clear-request clear-request-def.routine code.calls-link·events·clear-request (clear-request-thm.met 𝓤 H 𝓜 𝓖 𝓡))
     (cited 𝓤 H (C-host-byte 𝓤 H (𝓖 .A) (𝓜 .mem) (𝓡 .run)) 𝓜 𝓡 code.env #link·events·host-byte host-byte-def.routine code.calls-link·events·host-byte (host-byte-thm.met 𝓤 H 𝓜 𝓖 𝓡))
-    (cited 𝓤 H (C-idle-mark 𝓤 H (𝓖 .A) (𝓜 .mem) (𝓡 .run)) 𝓜 𝓡 code.env #link·events·idle-mark idle-mark-def.routine code.calls-link·events·idle-mark (idle-mark-thm.met 𝓤 H 𝓜 𝓖 𝓡))
     (cited 𝓤 H (C-take-message 𝓤 H (𝓖 .A) (𝓜 .mem) (𝓡 .run)) 𝓜 𝓡 code.env #link·events·take-message take-message-def.routine code.calls-link·events·take-message (take-message-thm.met 𝓤 H 𝓜 𝓖 𝓡))
+    (cited 𝓤 H (C-request-message 𝓤 H (𝓖 .A) (𝓜 .mem) (𝓡 .run)) 𝓜 𝓡 code.env #link·request·request-message request-message-def.routine code.calls-link·request·request-message (request-message-thm.met 𝓤 H 𝓜 𝓖 𝓡))
     (cited 𝓤 H (C-acknowledge 𝓤 H (𝓖 .A) (𝓜 .mem) (𝓡 .run)) 𝓜 𝓡 code.env #server·host-byte·acknowledge acknowledge-def.routine code.calls-server·host-byte·acknowledge (acknowledge-thm.met 𝓤 H 𝓜 𝓖 𝓡))
-    (cited 𝓤 H (C-message-end 𝓤 H (𝓖 .A) (𝓜 .mem) (𝓡 .run)) 𝓜 𝓡 code.env #server·host-byte·message-end message-end-def.routine code.calls-server·host-byte·message-end (message-end-thm.met 𝓤 H 𝓜 𝓖 𝓡))
+    (cited 𝓤 H (C-request-l 𝓤 H (𝓖 .A) (𝓜 .mem) (𝓡 .run)) 𝓜 𝓡 code.env #server·host-byte·request-l request-l-def.routine code.calls-server·host-byte·request-l (request-l-thm.met 𝓤 H 𝓜 𝓖 𝓡))
     (cited 𝓤 H (C-carry-out 𝓤 H (𝓖 .A) (𝓜 .mem) (𝓡 .run)) 𝓜 𝓡 code.env #services·service·carry-out carry-out-def.routine code.calls-services·service·carry-out (carry-out-thm.met 𝓤 H 𝓜 𝓖 𝓡))
     (κs .0) (κs .1 .0) (κs .1 .1 .0) (κs .1 .1 .1 .0) (κs .1 .1 .1 .1 .0) (qs .0) (qs .1 .0) (qs .1 .1 .0) (qs .1 .1 .1 .0) (qs .1 .1 .1 .1 .0) (a .0) (a .1 .0) (a .1 .1 .0) (a .1 .1 .1 .0) (a .1 .1 .1 .1 .0) (a .1 .1 .1 .1 .1 .0) (are .0) (are .1 .0 .0 .1) (are .1 .1 .0 .0 .1) (are .1 .1 .1 .0 .0 .1) (are .1 .1 .1 .1 .1 .0 .0 .1) lt)))

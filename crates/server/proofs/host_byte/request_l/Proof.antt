@@ -1,9 +1,9 @@
-use Rattle.calls.specs.Promise.{messageEnd}
+use Rattle.calls.specs.Promise.{requestL}
 use borrow.Author.Needs.{needs}
-use Rattle.server.proofs.host_byte.message_end.Statement.{statement}
-use Rattle.server.proofs.host_byte.message_end.Tie as tie
-use Rattle.server.proofs.host_byte.message_end.Reads as reads
-use Rattle.server.proofs.host_byte.message_end.Lts as lts
+use Rattle.server.proofs.host_byte.request_l.Statement.{statement}
+use Rattle.server.proofs.host_byte.request_l.Tie as tie
+use Rattle.server.proofs.host_byte.request_l.Reads as reads
+use Rattle.server.proofs.host_byte.request_l.Lts as lts
 
 enum-told : tie.Need-enum-told
 enum-told c = search needs
@@ -26,42 +26,36 @@ enum-told-6 c = search needs
 enum-known-heard : tie.Need-enum-known-heard
 enum-known-heard c = search needs
 
-cast-result : tie.Need-cast-result
-cast-result c = search needs
-
-add-result : tie.Need-add-result
-add-result c = search needs
-
 returns : tie.Need-returns
-unfolding messageEnd
+unfolding requestL
 returns c = rw (c .enum-told .given .1)
 
 returns-2 : tie.Need-returns-2
-unfolding messageEnd
+unfolding requestL
 returns-2 c = rw (c .enum-told2 .given .1)
 
 returns-3 : tie.Need-returns-3
-unfolding messageEnd
+unfolding requestL
 returns-3 c = rw (c .enum-told3 .given .1)
 
 returns-4 : tie.Need-returns-4
-unfolding messageEnd
+unfolding requestL
 returns-4 c = rw (c .enum-told4 .given .1)
 
 returns-5 : tie.Need-returns-5
-unfolding messageEnd
+unfolding requestL
 returns-5 c = rw (c .enum-told5 .given .1)
 
 returns-6 : tie.Need-returns-6
-unfolding messageEnd
+unfolding requestL
 returns-6 c = rw (c .enum-told6 .given .1)
 
 returns-7 : tie.Need-returns-7
-unfolding messageEnd
+unfolding requestL
 returns-7 c = rw (c .before .heard .given .1)
 
-pub message-end-spec : {M : Type 1} → statement M
-message-end-spec =
+pub request-l-spec : {M : Type 1} → statement M
+request-l-spec =
     tie.close
     (tie.spec
     enum-told
@@ -71,8 +65,6 @@ message-end-spec =
     enum-told-5
     enum-told-6
     enum-known-heard
-    cast-result
-    add-result
     returns
     returns-2
     returns-3
