@@ -59,10 +59,13 @@ pub fn host_byte_at(
     resends: &mut u8,
     b: u8,
 ) -> Heard
-    requires { ⌜ T (inRange (linkWith (now receiver) (now received) (now dropping) (now expected) (now send) (now outstanding) (now held) (now resends))) ⌝ }
+    requires { ⌜ T (inRange (linkWith (now receiver) (now received) (now dropping) (now expected) (now send)
+        (now outstanding) (now held) (now resends))) ⌝ }
     ensures { λ r. ⌜ HostByteHeard
-        (linkWith (now (receiver .entry)) (now (received .entry)) (now (dropping .entry)) (now (expected .entry)) (now (send .entry)) (now (outstanding .entry)) (now (held .entry)) (now (resends .entry))) b r
-        (linkWith (now (receiver .exit)) (now (received .exit)) (now (dropping .exit)) (now (expected .exit)) (now (send .exit)) (now (outstanding .exit)) (now (held .exit)) (now (resends .exit))) ⌝ }
+        (linkWith (now (receiver .entry)) (now (received .entry)) (now (dropping .entry)) (now (expected .entry))
+        (now (send .entry)) (now (outstanding .entry)) (now (held .entry)) (now (resends .entry))) b r
+        (linkWith (now (receiver .exit)) (now (received .exit)) (now (dropping .exit)) (now (expected .exit))
+        (now (send .exit)) (now (outstanding .exit)) (now (held .exit)) (now (resends .exit))) ⌝ }
 {
     if *dropping == 1 {
         return Heard::Dropped;
@@ -125,10 +128,13 @@ pub fn idle_mark_at(
     held: &mut u16,
     resends: &mut u8,
 )
-    requires { ⌜ T (inRange (linkWith (now receiver) (now received) (now dropping) (now expected) (now send) (now outstanding) (now held) (now resends))) ⌝ }
-    ensures { λ _. ⌜ linkWith (now (receiver .exit)) (now (received .exit)) (now (dropping .exit)) (now (expected .exit)) (now (send .exit)) (now (outstanding .exit)) (now (held .exit)) (now (resends .exit))
+    requires { ⌜ T (inRange (linkWith (now receiver) (now received) (now dropping) (now expected) (now send)
+        (now outstanding) (now held) (now resends))) ⌝ }
+    ensures { λ _. ⌜ linkWith (now (receiver .exit)) (now (received .exit)) (now (dropping .exit))
+        (now (expected .exit)) (now (send .exit)) (now (outstanding .exit)) (now (held .exit)) (now (resends .exit))
         ≡ linkOf (onIdleMark (lineOf
-        (linkWith (now (receiver .entry)) (now (received .entry)) (now (dropping .entry)) (now (expected .entry)) (now (send .entry)) (now (outstanding .entry)) (now (held .entry)) (now (resends .entry)))) .line) ⌝ }
+        (linkWith (now (receiver .entry)) (now (received .entry)) (now (dropping .entry)) (now (expected .entry))
+        (now (send .entry)) (now (outstanding .entry)) (now (held .entry)) (now (resends .entry)))) .line) ⌝ }
 {
     empty_receiver(receiver, received);
     *dropping = 0;
@@ -154,10 +160,14 @@ pub fn ack_wait_over_at(
     resends: &mut u8,
     out: &mut [u8],
 ) -> usize
-    requires { ⌜ T (inRange (linkWith (now receiver) (now received) (now dropping) (now expected) (now send) (now outstanding) (now held) (now resends))) × (262 ≤ length (now out)) ⌝ }
+    requires { ⌜ T (inRange (linkWith (now receiver) (now received) (now dropping) (now expected) (now send)
+        (now outstanding) (now held) (now resends))) × (262 ≤ length (now out)) ⌝ }
     ensures { λ r. ⌜ AckWaited
-        (linkWith (now (receiver .entry)) (now (received .entry)) (now (dropping .entry)) (now (expected .entry)) (now (send .entry)) (now (outstanding .entry)) (now (held .entry)) (now (resends .entry))) (now (out .entry)) r (now (out .exit))
-        (linkWith (now (receiver .exit)) (now (received .exit)) (now (dropping .exit)) (now (expected .exit)) (now (send .exit)) (now (outstanding .exit)) (now (held .exit)) (now (resends .exit))) ⌝ }
+        (linkWith (now (receiver .entry)) (now (received .entry)) (now (dropping .entry)) (now (expected .entry))
+        (now (send .entry)) (now (outstanding .entry)) (now (held .entry)) (now (resends .entry)))
+        (now (out .entry)) r (now (out .exit))
+        (linkWith (now (receiver .exit)) (now (received .exit)) (now (dropping .exit)) (now (expected .exit))
+        (now (send .exit)) (now (outstanding .exit)) (now (held .exit)) (now (resends .exit))) ⌝ }
 {
     if *held == 0 {
         return 0;
@@ -178,7 +188,8 @@ pub fn ack_wait_over_at(
 // The frame of so many bytes that stands in the buffer from `at` on, kept as the outstanding one.
 fn keep_frame(outstanding: &mut [u8; 261], out: &[u8], at: usize, size: usize)
     requires { ⌜ (size ≤ 261) × (at + size ≤ length (now out)) ⌝ }
-    ensures { λ _. ⌜ now (outstanding .exit) ≡ put (now (outstanding .entry)) 0 (take size (drop at (now (out .entry)))) ⌝ }
+    ensures { λ _. ⌜ now (outstanding .exit)
+        ≡ put (now (outstanding .entry)) 0 (take size (drop at (now (out .entry)))) ⌝ }
 {
     let end = at + size;
     put_bytes(outstanding, 0, &out[at..end]);
@@ -200,10 +211,14 @@ pub fn message_at(
     at: usize,
     n: usize,
 ) -> usize
-    requires { ⌜ T (inRange (linkWith (now receiver) (now received) (now dropping) (now expected) (now send) (now outstanding) (now held) (now resends))) × (at ≤ 1) × (262 ≤ length (now out)) ⌝ }
+    requires { ⌜ T (inRange (linkWith (now receiver) (now received) (now dropping) (now expected) (now send)
+        (now outstanding) (now held) (now resends))) × (at ≤ 1) × (262 ≤ length (now out)) ⌝ }
     ensures { λ r. ⌜ MessageTaken (take n (drop (at + 5) (now (out .entry))))
-        (linkWith (now (receiver .entry)) (now (received .entry)) (now (dropping .entry)) (now (expected .entry)) (now (send .entry)) (now (outstanding .entry)) (now (held .entry)) (now (resends .entry))) (now (out .entry)) at r (now (out .exit))
-        (linkWith (now (receiver .exit)) (now (received .exit)) (now (dropping .exit)) (now (expected .exit)) (now (send .exit)) (now (outstanding .exit)) (now (held .exit)) (now (resends .exit))) ⌝ }
+        (linkWith (now (receiver .entry)) (now (received .entry)) (now (dropping .entry)) (now (expected .entry))
+        (now (send .entry)) (now (outstanding .entry)) (now (held .entry)) (now (resends .entry)))
+        (now (out .entry)) at r (now (out .exit))
+        (linkWith (now (receiver .exit)) (now (received .exit)) (now (dropping .exit)) (now (expected .exit))
+        (now (send .exit)) (now (outstanding .exit)) (now (held .exit)) (now (resends .exit))) ⌝ }
 {
     if n == 0 {
         return 0;

@@ -127,8 +127,8 @@ pub fn item_fits_after(i: Item, last: u16) -> bool
 // Whether four items may stand one behind the other, the first behind one with the ID `last`.
 pub fn four_items_fit_after(a: Item, b: Item, c: Item, d: Item, last: u16) -> bool
     ensures { λ r. ⌜ r ≡ (ltb last (a .id) && itemOk a
-        && (ltb (a .id) (b .id) && itemOk b && (ltb (b .id) (c .id) && itemOk c && (ltb (c .id) (d .id) && itemOk d))))
-        ⌝ }
+        && (ltb (a .id) (b .id) && itemOk b
+        && (ltb (b .id) (c .id) && itemOk c && (ltb (c .id) (d .id) && itemOk d)))) ⌝ }
 {
     if !item_fits_after(a, last) {
         return false;

@@ -169,8 +169,8 @@ fn item_set_at(s: &[u8], at: usize, i: Item) -> Item
 fn find_entries(table: &[Datapoint], m: &[u8], n: u16, entries: &mut [EntryPlace]) -> bool
     requires { ⌜ (length (now table) ≤ 1000) × (rising 0 (map datapointId (now table)) ≡ true) × (6 ≤ length (now m))
         × (length (now m) ≤ 254) × (62 ≤ length (now entries)) ⌝ }
-    ensures { λ r. ⌜ EntriesFound (now (table .entry)) (now (m .entry)) n (now (entries .entry)) r (now (entries .exit))
-        ⌝ }
+    ensures { λ r. ⌜ EntriesFound (now (table .entry)) (now (m .entry)) n (now (entries .entry)) r
+        (now (entries .exit)) ⌝ }
 {
     let mut at: usize = MESSAGE_HEAD;
     let mut k: usize = 0;
