@@ -70,8 +70,5 @@ fn main() {
         t,
         play(&script, b", with 10 for the length that is printed wrong"),
     );
-    print::number8(t.cases);
-    print::text(b" cases, ");
-    print::number8(t.right);
-    print::text(b" as the paper says\n");
+    print::pattern(b"{1} cases, {1} as the paper says\n", &[t.cases, t.right]);
 }

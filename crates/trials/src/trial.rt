@@ -151,9 +151,10 @@ fn found_damage(bench: Bench, bytes: &[u8], place: usize) -> Trial
 
 fn damage_lines(bytes: &[u8], place: usize) {
     if place < bytes.len() {
-        print::text(b"   server : nothing; damage, found at the byte ");
-        print::byte(bytes[place]);
-        print::text(b"\n");
+        print::pattern(
+            b"   server : nothing; damage, found at the byte {x}\n",
+            &[bytes[place]],
+        );
     }
 }
 
