@@ -1,2 +1,1 @@
 pub mod Script
-pub mod Tally

@@ -1,37 +1,31 @@
-// The examples of document 01, section "Examples", and the worked exchange of document 000, section 4.1, run through
-// the server's call, byte by byte. Each is written out as a line trace; what the server sends and what its tables and
-// its link then hold is compared with what the papers say.
-ghost use mathlib.Core.Path.{_≡_};
-ghost use Rattle.cases.specs.Tally.{tallied};
-
+// The program of the cases: scripts from standard input, each run through the server's call, byte by byte, and written
+// out as a line trace; what the server sends and what its tables and its link then hold is compared with what the script
+// says. The file stdin beside src has the examples of document 01, section "Examples", and the worked exchange of
+// document 000, section 4.1.
 mod play;
-mod scripts;
 
 use crate::play::play;
+use libc::STDIN_FILENO;
 use std::num::wrapping_add_u8;
 use trace::print;
 
-// How many cases were run, and how many of them went as the papers say.
-struct Tally {
-    cases: u8,
-    right: u8,
-}
-
-// The tally with one case more.
-fn counted(tally: Tally, right: bool) -> Tally
-    ensures { λ r. ⌜ r ≡ tallied tally right ⌝ }
-{
-    let cases = wrapping_add_u8(tally.cases, 1);
-    if right {
-        return Tally {
-            cases: cases,
-            right: wrapping_add_u8(tally.right, 1),
-        };
+// Plays the scripts, up to a tilde each, and says how many of them went as the papers say.
+fn cases(s: &[u8]) {
+    let mut count: u8 = 0;
+    let mut right: u8 = 0;
+    let mut from: usize = 0;
+    let mut i: usize = 0;
+    while i < s.len() {
+        if s[i] == b'~' {
+            let holds = play(&s[from..i]);
+            right = wrapping_add_u8(right, holds as u8);
+            count = wrapping_add_u8(count, 1);
+            from = i + 1;
+        }
+        i = i + 1;
     }
-    Tally {
-        cases: cases,
-        right: tally.right,
-    }
+    print::text(&s[from..]);
+    print::pattern(b"{1} cases, {1} as the paper says\n", &[count, right]);
 }
 
 fn main() {
@@ -42,36 +36,7 @@ fn main() {
         b"Each byte from the host is one call. What is sent is compared byte by byte, the tables record by record.\n",
     );
     print::text(b"Frames, states, flags and values are hexadecimal, IDs and counts decimal.\n\n");
-    let t = Tally { cases: 0, right: 0 };
-    let script = scripts::ITEM_READ;
-    let t = counted(t, play(&script, b""));
-    let script = scripts::SAME_FRAME_AGAIN;
-    let t = counted(t, play(&script, b""));
-    let script = scripts::VALUE_SET;
-    let t = counted(t, play(&script, b""));
-    let script = scripts::VALUE_REFUSED;
-    let t = counted(t, play(&script, b""));
-    let script = scripts::FIFTY_VALUES;
-    let t = counted(t, play(&script, b""));
-    let script = scripts::PARAMETER_BYTES;
-    let t = counted(t, play(&script, b""));
-    let script = scripts::LAST_ID;
-    let t = counted(t, play(&script, b""));
-    let script = scripts::NO_DATAPOINTS;
-    let t = counted(t, play(&script, b""));
-    let script = scripts::LENGTHS;
-    let t = counted(t, play(&script, b""));
-    let script = scripts::RESET;
-    let t = counted(t, play(&script, b""));
-    let script = scripts::DAMAGE;
-    let t = counted(t, play(&script, b""));
-    let script = scripts::EXCHANGE;
-    let t = counted(
-        t,
-        play(&script, b", with 10 for the length that is printed wrong"),
-    );
-    print::number8(t.cases);
-    print::text(b" cases, ");
-    print::number8(t.right);
-    print::text(b" as the paper says\n");
+    let mut input = io::large_buffer();
+    let n = io::read_full(STDIN_FILENO, &mut input);
+    cases(&input[..n]);
 }

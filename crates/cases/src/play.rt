@@ -51,10 +51,13 @@ fn link_asked(t: Trial, a: [u8; 264], asked: &[u8]) -> Trial
     ensures { λ r. ⌜ Goes t (t .bench) (LinkIs (t .bench .link) (isOne a 0) (isOne a 1) (isOne a 2)
         (drop 3 (now (asked .entry)))) r ⌝ }
 {
+    let expected = a[0] == 1;
+    let send = a[1] == 1;
+    let dropping = a[2] == 1;
     if asked.len() < 3 {
-        return trial::link(t, a[0] == 1, a[1] == 1, a[2] == 1, b"");
+        return trial::link(t, expected, send, dropping, b"");
     }
-    trial::link(t, a[0] == 1, a[1] == 1, a[2] == 1, &asked[3..])
+    trial::link(t, expected, send, dropping, &asked[3..])
 }
 
 // What this line does to the bench, and whether what it asks holds.
@@ -128,7 +131,7 @@ fn shown(line: Line, text: &[u8], bench: Bench) {
 }
 
 // Whether all that the lines of a script ask holds, with a last line that says so.
-pub fn play(script: &[u8], but: &[u8]) -> bool
+pub fn play(script: &[u8]) -> bool
     ensures { λ r. ⌜ Decides r (Played (now (script .entry))) ⌝ }
 {
     let mut wanted = empty();
@@ -145,5 +148,5 @@ pub fn play(script: &[u8], but: &[u8]) -> bool
         said = kept(said, line);
         at = end;
     }
-    trial::verdict(t, but)
+    trial::verdict(t)
 }

@@ -12,67 +12,52 @@ pub fn item(i: Item) {
     if 16 < n {
         return;
     }
-    let content = &bytes[..n];
-    content_of(i.id, content);
+    print::pattern(b"item {2} = ", &[(i.id / 256) as u8, (i.id % 256) as u8]);
+    print::bytes(&bytes[..n]);
     print::text(b"\n");
-}
-
-pub fn content_of(id: u16, content: &[u8]) {
-    print::text(b"item ");
-    print::number16(id);
-    print::text(b" = ");
-    print::bytes(content);
 }
 
 // ID, type code, state, value, report mark.
 pub fn datapoint(d: Datapoint) {
-    let bytes = d.value;
+    let value = d.value;
     let n = size_of(d.typecode);
     if 14 < n {
         return;
     }
-    let value = &bytes[..n];
-    print::text(b"datapoint ");
-    print::number16(d.id);
-    print::text(b": type ");
-    print::number8(d.typecode);
-    print::text(b", state ");
-    state(d.state);
-    print::text(b", value ");
-    print::bytes(value);
-    print::either(d.mark, b", mark set\n", b", no mark\n");
-}
-
-// The state byte, and its bits in words.
-fn state(s: u8) {
-    print::byte(s);
-    print::either(s / 16 % 2 == 1, b" (valid", b" (not valid");
-    print::either(s / 8 % 2 == 1, b", updated", b"");
-    print::either(s / 4 % 2 == 1, b", data request", b"");
-    print::choice(
-        b", idle)|, idle with error)|, in progress)|, requested)",
-        s % 4,
+    let s = d.state;
+    print::pattern(
+        b"datapoint {2}: type {1}, state {x} ({not valid|valid}{|, updated}{|, data request}, {idle|idle with error|in progress|requested}), value ",
+        &[
+            (d.id / 256) as u8,
+            (d.id % 256) as u8,
+            d.typecode,
+            s,
+            s / 16 % 2,
+            s / 8 % 2,
+            s / 4 % 2,
+            s % 4,
+        ],
     );
+    print::bytes(&value[..n]);
+    print::choice(b", no mark\n|, mark set\n", d.mark as u8);
 }
 
 // The count bits of a link record, what is outstanding, and whether the receiver drops.
 pub fn link(link: Link) {
-    print::either(link.expected, b"expects odd", b"expects even");
-    print::either(link.send, b", sends odd", b", sends even");
-    outstanding(link.held);
-    print::either(
-        link.dropping,
-        b", drops what comes up to the idle mark\n",
-        b"\n",
+    print::pattern(
+        b"expects {even|odd}, sends {even|odd}, ",
+        &[link.expected as u8, link.send as u8],
     );
-}
-
-fn outstanding(held: u16) {
-    if held == 0 {
-        print::text(b", nothing outstanding");
-        return;
+    if link.held == 0 {
+        print::text(b"nothing outstanding");
+    } else {
+        print::pattern(
+            b"{2} bytes outstanding",
+            &[(link.held / 256) as u8, (link.held % 256) as u8],
+        );
     }
-    print::text(b", ");
-    print::number16(held);
-    print::text(b" bytes outstanding");
+    print::choice(
+        b"\n|, drops what comes up to the idle mark\n",
+        link.dropping as u8,
+    );
 }

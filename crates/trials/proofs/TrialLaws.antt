@@ -80,43 +80,36 @@ nothing-drawn [] w b e = record { bench = refl; right = refuted (λ y. let s = y
 nothing-drawn (x ∷ xs) w b e = absurd (omega (arith, e))
 
 -- ---- damage
-module _ (xs : List ℕ) (place : ℕ) (b : Bench) (f g h : Fed) (ef : f ≡ fed (take place xs) b) (eg : g ≡ fed (take (place + 1) xs) b) (eh : h ≡ fed xs b) where
+
+-- whether the receiver drops after the first bytes, or after all where there are no more
+pub drops-first : (xs : List ℕ) (b : Bench) (n : ℕ) (f : Fed) → f ≡ fed (take n xs) b → f .bench .link .dropping ≡ heard (take n xs) b .link .dropping
+unfolding fed
+drops-first xs b n f e = ap (λ (z : Fed). z .bench .link .dropping) e
+
+pub drops-all : (xs : List ℕ) (b : Bench) (n : ℕ) (f : Fed) → length xs ≤ n → f ≡ fed xs b → f .bench .link .dropping ≡ heard (take n xs) b .link .dropping
+unfolding fed
+drops-all xs b n f l e = rw (take-all n xs l) (ap (λ (z : Fed). z .bench .link .dropping) e)
+
+module _ (xs : List ℕ) (place : ℕ) (b : Bench) (f g : Bool) (h : Fed) (ef : f ≡ heard (take place xs) b .link .dropping) (eg : g ≡ heard (take (place + 1) xs) b .link .dropping) (eh : h ≡ fed xs b) where
   whole : h .bench ≡ heard xs b
   unfolding fed
   whole = ap (λ (z : Fed). z .bench) eh
-
-  before-it : f .bench .link .dropping ≡ heard (take place xs) b .link .dropping
-  unfolding fed
-  before-it = ap (λ (z : Fed). z .bench .link .dropping) ef
-
-  behind-it : g .bench .link .dropping ≡ heard (take (place + 1) xs) b .link .dropping
-  unfolding fed
-  behind-it = ap (λ (z : Fed). z .bench .link .dropping) eg
 
   silence : h .quiet ≡ allQuiet xs b
   unfolding fed
   silence = ap (λ (z : Fed). z .quiet) eh
 
-  pub found-early : f .bench .link .dropping ≡ true → Shows (heard xs b) (Damaged xs place b) (record { bench = h .bench; right = false })
-  found-early d = record { bench = whole; right = refuted (λ y. false-true (sym (y .before) ∙ sym before-it ∙ d)) }
+  pub found-late : g ≡ false → Shows (heard xs b) (Damaged xs place b) (record { bench = h .bench; right = false })
+  found-late d = record { bench = whole; right = refuted (λ y. false-true (sym d ∙ eg ∙ y .found)) }
 
-  pub found-late : g .bench .link .dropping ≡ false → Shows (heard xs b) (Damaged xs place b) (record { bench = h .bench; right = false })
-  found-late d = record { bench = whole; right = refuted (λ y. false-true (sym d ∙ behind-it ∙ y .found)) }
-
-  pub found-there : f .bench .link .dropping ≡ false → g .bench .link .dropping ≡ true → Shows (heard xs b) (Damaged xs place b) (record { bench = h .bench; right = h .quiet })
+  pub found-there : f ≡ false → g ≡ true → Shows (heard xs b) (Damaged xs place b) (record { bench = h .bench; right = h .quiet })
   found-there d k =
       record {
         bench = whole;
-        right = ((λ q. record { quiet = sym silence ∙ q; before = sym before-it ∙ d; found = sym behind-it ∙ k }), (λ y. silence ∙ y .quiet));
+        right = ((λ q. record { quiet = sym silence ∙ q; before = sym ef ∙ d; found = sym eg ∙ k }), (λ y. silence ∙ y .quiet));
       }
 
--- a place beyond the bytes
-pub found-nowhere : (xs : List ℕ) (place : ℕ) (b : Bench) (h : Fed) → h ≡ fed xs b → length xs ≤ place → Shows (heard xs b) (Damaged xs place b) (record { bench = h .bench; right = false })
+pub found-early : (xs : List ℕ) (place : ℕ) (b : Bench) (f : Bool) (h : Fed) → f ≡ heard (take place xs) b .link .dropping → h ≡ fed xs b → f ≡ true → Shows (heard xs b) (Damaged xs place b) (record { bench = h .bench; right = false })
 unfolding fed
-found-nowhere xs place b h e l =
-    let p : take place xs ≡ xs = take-all place xs l in
-    let q : take (place + 1) xs ≡ xs = take-all (place + 1) xs (omega arith) in
-    record {
-      bench = ap (λ (z : Fed). z .bench) e;
-      right = refuted (λ y. false-true (sym (rw p at (y .before)) ∙ rw q at (y .found)));
-    }
+found-early xs place b f h ef eh d =
+    record { bench = ap (λ (z : Fed). z .bench) eh; right = refuted (λ y. false-true (sym (y .before) ∙ sym ef ∙ d)) }

@@ -58,16 +58,14 @@ fn item_of(a: [u8; 264]) -> Item
 fn datapoint_of(a: [u8; 264], k: u8) -> Datapoint
     ensures { λ r. ⌜ r ≡ datapointOf a k ⌝ }
 {
-    let mut value = [0u8; 14];
-    value[0] = risen(a[7], a[9] == 1, k);
-    value[1] = a[8];
+    let first = risen(a[7], a[9] == 1, k);
     Datapoint {
         id: raised(a[1], a[2], k),
         typecode: a[3],
         flags: a[4],
         dpt: a[5],
         state: a[6],
-        value: value,
+        value: [first, a[8], 0, 0, 0, 0, 0, 0, 0, 0, 0, 0, 0, 0],
         mark: a[10] == 1,
     }
 }

@@ -1,6 +1,7 @@
 // A trial: a bench, and whether all went as the paper says so far. Each function here writes its lines of the trace.
 ghost use mathlib.Core.Path.{_≡_};
 ghost use mathlib.Core.Bool.{true};
+ghost use lib.ListN.{take};
 ghost use Rattle.calls.specs.declared.event.Event.{Event};
 ghost use Rattle.bench.specs.Run.{happened, quiet, heard};
 ghost use Rattle.bench.specs.Same.{Decides, SameTables, LinkIs};
@@ -112,32 +113,33 @@ pub fn host(trial: Trial, bytes: &[u8], wanted: &[u8]) -> Trial
     after(trial, d.bench, d.right)
 }
 
+// Whether the receiver drops after the first of these bytes, so many of them.
+fn drops_after(bench: Bench, bytes: &[u8], count: usize) -> bool
+    ensures { λ r. ⌜ r ≡ heard (take count (now (bytes .entry))) bench .link .dropping ⌝ }
+{
+    if bytes.len() <= count {
+        let all = feed(bench, bytes);
+        return all.bench.link.dropping;
+    }
+    let first = feed(bench, &bytes[..count]);
+    first.bench.link.dropping
+}
+
 // The bench after these bytes from the host, and whether the receiver found damage at this place, counted from 0, and
 // nothing was sent.
-fn found_damage(bench: Bench, bytes: &[u8], place: usize) -> Trial
+fn found_damage(bench: Bench, bytes: &[u8], place: u8) -> Trial
     ensures { λ r. ⌜ Shows (heard (now (bytes .entry)) bench) (Damaged (now (bytes .entry)) place bench) r ⌝ }
 {
-    let n = bytes.len();
-    if n <= place {
-        let all = feed(bench, bytes);
-        let b = all.bench;
-        return Trial {
-            bench: b,
-            right: false,
-        };
-    }
-    let behind = place + 1;
-    let before = feed(bench, &bytes[..place]);
-    let found = feed(bench, &bytes[..behind]);
+    let at = place as usize;
     let all = feed(bench, bytes);
     let b = all.bench;
-    if before.bench.link.dropping {
+    if drops_after(bench, bytes, at) {
         return Trial {
             bench: b,
             right: false,
         };
     }
-    if found.bench.link.dropping {
+    if drops_after(bench, bytes, at + 1) {
         return Trial {
             bench: b,
             right: all.quiet,
@@ -149,11 +151,13 @@ fn found_damage(bench: Bench, bytes: &[u8], place: usize) -> Trial
     }
 }
 
-fn damage_lines(bytes: &[u8], place: usize) {
-    if place < bytes.len() {
-        print::text(b"   server : nothing; damage, found at the byte ");
-        print::byte(bytes[place]);
-        print::text(b"\n");
+fn damage_lines(bytes: &[u8], place: u8) {
+    let at = place as usize;
+    if at < bytes.len() {
+        print::pattern(
+            b"   server : nothing; damage, found at the byte {x}\n",
+            &[bytes[at]],
+        );
     }
 }
 
@@ -163,10 +167,9 @@ pub fn damaged(trial: Trial, bytes: &[u8], place: u8) -> Trial
     ensures { λ r. ⌜ Goes trial (heard (now (bytes .entry)) (trial .bench)) (Damaged (now (bytes .entry)) place (trial .bench)) r ⌝ }
 {
     meaning::frame_lines(b"   host   : ", bytes);
-    let at = place as usize;
-    let d = found_damage(trial.bench, bytes, at);
+    let d = found_damage(trial.bench, bytes, place);
     if d.right {
-        damage_lines(bytes, at);
+        damage_lines(bytes, place);
     }
     after(trial, d.bench, d.right)
 }
@@ -201,16 +204,13 @@ pub fn unaltered(trial: Trial, given: Bench) -> Trial
     after(trial, trial.bench, right)
 }
 
-// The last line of a case, with what there is to say of the paper itself.
-pub fn verdict(trial: Trial, but: &[u8]) -> bool
+// The last words of a case.
+pub fn verdict(trial: Trial) -> bool
     ensures { λ r. ⌜ r ≡ trial .right ⌝ }
 {
-    if trial.right {
-        print::text(b"   as the paper says");
-    } else {
-        print::text(b"   NOT as the paper says");
-    }
-    print::text(but);
-    print::text(b"\n\n");
+    print::choice(
+        b"   NOT as the paper says|   as the paper says",
+        trial.right as u8,
+    );
     trial.right
 }

@@ -3,14 +3,14 @@ use borrow.Author.Needs.{needs}
 use Rattle.cases.proofs.play.link_asked.Statement.{statement}
 use Rattle.cases.proofs.play.link_asked.Tie as tie
 
-array-read-link : tie.Need-array-read-link
-array-read-link c = search needs
+array-read-expected : tie.Need-array-read-expected
+array-read-expected c = search needs
 
-array-read-link-2 : tie.Need-array-read-link-2
-array-read-link-2 c = search needs
+array-read-send : tie.Need-array-read-send
+array-read-send c = search needs
 
-array-read-link-3 : tie.Need-array-read-link-3
-array-read-link-3 c = search needs
+array-read-dropping : tie.Need-array-read-dropping
+array-read-dropping c = search needs
 
 slice-aggregate-link : tie.Need-slice-aggregate-link
 slice-aggregate-link c = search needs
@@ -20,15 +20,6 @@ link-requires c κs = search needs
 
 returns : tie.Need-returns
 returns c = none-behind _ _ _ _ _ _ (c .before .before .before .before .args .asked .now) (c .before .before .if1 .taken) (c .link .ensures)
-
-array-read-link-4 : tie.Need-array-read-link-4
-array-read-link-4 c = search needs
-
-array-read-link-5 : tie.Need-array-read-link-5
-array-read-link-5 c = search needs
-
-array-read-link-6 : tie.Need-array-read-link-6
-array-read-link-6 c = search needs
 
 sub-link : tie.Need-sub-link
 sub-link c = search needs
@@ -49,15 +40,12 @@ pub link-asked-spec : {M : Type 1} → statement M
 link-asked-spec =
     tie.close
     (tie.spec
-    array-read-link
-    array-read-link-2
-    array-read-link-3
+    array-read-expected
+    array-read-send
+    array-read-dropping
     slice-aggregate-link
     link-requires
     returns
-    array-read-link-4
-    array-read-link-5
-    array-read-link-6
     sub-link
     part-link-start
     part-link-end

@@ -8,10 +8,10 @@ use Rattle.cases.proofs.play.play.Statement.{statement}
 use Rattle.cases.proofs.play.play.Tie as tie
 
 abbrev Inv-loop : tie.InvT-loop
-Inv-loop script but wanted₀ said₀ t₀ at₀ wanted said t at = Playing script wanted said t at
+Inv-loop script wanted₀ said₀ t₀ at₀ wanted said t at = Playing script wanted said t at
 
 abbrev μ-loop : tie.MeasureT-loop
-μ-loop script but wanted₀ said₀ t₀ at₀ wanted said t at = length script - at
+μ-loop script wanted₀ said₀ t₀ at₀ wanted said t at = length script - at
 
 empty-requires : tie.Need-empty-requires Inv-loop μ-loop
 empty-requires c κs = search needs
@@ -41,7 +41,7 @@ line-end-requires : tie.Need-line-end-requires Inv-loop μ-loop
 line-end-requires c κs = search needs
 
 add-end : tie.Need-add-end Inv-loop μ-loop
-add-end c = omega (arith, line-within (c .before .before .before .before .before .before .before .before .before .before .args .script .now) (c .before .before .before .loop .at) (c .line-end .result) (c .before .before .loop-test .taken) (c .line-end .ensures))
+add-end c = omega (arith, line-within (c .before .before .before .before .before .before .before .before .before .args .script .now) (c .before .before .before .loop .at) (c .line-end .result) (c .before .before .loop-test .taken) (c .line-end .ensures))
 
 sub-text : tie.Need-sub-text Inv-loop μ-loop
 sub-text c = search needs
@@ -50,7 +50,7 @@ part-text-start : tie.Need-part-text-start Inv-loop μ-loop
 part-text-start c = search needs
 
 part-text-end : tie.Need-part-text-end Inv-loop μ-loop
-part-text-end c = omega (arith, line-within (c .before .before .before .before .before .before .before .before .before .before .args .script .now) (c .before .before .before .loop .at) (c .line-end .result) (c .before .before .loop-test .taken) (c .line-end .ensures))
+part-text-end c = omega (arith, line-within (c .before .before .before .before .before .before .before .before .before .args .script .now) (c .before .before .before .loop .at) (c .line-end .result) (c .before .before .loop-test .taken) (c .line-end .ensures))
 
 read-requires-2 : tie.Need-read-requires-2 Inv-loop μ-loop
 read-requires-2 c κs = search needs
@@ -68,7 +68,7 @@ kept-requires : tie.Need-kept-requires Inv-loop μ-loop
 kept-requires c κs = search needs
 
 loop-less : tie.Need-loop-less Inv-loop μ-loop
-loop-less c = omega (arith, line-within (c .before .before .before .before .before .before .before .before .before .before .before .before .before .before .before .before .args .script .now) (c .before .before .before .before .before .before .before .before .before .loop .at) (c .before .before .before .before .before .before .line-end .result) (c .before .before .before .before .before .before .before .before .loop-test .taken) (c .before .before .before .before .before .before .line-end .ensures), line-some (c .before .before .before .before .before .before .before .before .before .before .before .before .before .before .before .before .args .script .now) (c .before .before .before .before .before .before .before .before .before .loop .at) (c .before .before .before .before .before .before .line-end .result) (c .before .before .before .before .before .before .before .before .loop-test .taken) (c .before .before .before .before .before .before .line-end .ensures))
+loop-less c = omega (arith, line-within (c .before .before .before .before .before .before .before .before .before .before .before .before .before .before .before .args .script .now) (c .before .before .before .before .before .before .before .before .before .loop .at) (c .before .before .before .before .before .before .line-end .result) (c .before .before .before .before .before .before .before .before .loop-test .taken) (c .before .before .before .before .before .before .line-end .ensures), line-some (c .before .before .before .before .before .before .before .before .before .before .before .before .before .before .before .args .script .now) (c .before .before .before .before .before .before .before .before .before .loop .at) (c .before .before .before .before .before .before .line-end .result) (c .before .before .before .before .before .before .before .before .loop-test .taken) (c .before .before .before .before .before .before .line-end .ensures))
 
 loop-again : tie.Need-loop-again Inv-loop μ-loop
 loop-again c =

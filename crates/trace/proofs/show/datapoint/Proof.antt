@@ -12,58 +12,42 @@ size-of-requires c κs = search needs
 returns : tie.Need-returns
 returns c = search needs
 
-array-share-prefix-bytes : tie.Need-array-share-prefix-bytes
-array-share-prefix-bytes c = let h : length (c .before .before .before .args .d .value) ≡ 14 = search needs in omega arith
+slice-aggregate-pattern : tie.Need-slice-aggregate-pattern
+slice-aggregate-pattern c = search needs
 
-slice-aggregate-value : tie.Need-slice-aggregate-value
-slice-aggregate-value c =
-    let h : length (c .before .before .before .before .args .d .value) ≡ 14 = search needs in
-    sym (length-take-le (c .before .before .size-of .result) (c .before .before .before .before .args .d .value) (omega arith))
+cast-t13 : tie.Need-cast-t13
+cast-t13 c = search needs
 
-text-requires : tie.Need-text-requires
-text-requires c κs = search needs
+cast-t15 : tie.Need-cast-t15
+cast-t15 c = search needs
 
-slice-aggregate-text : tie.Need-slice-aggregate-text
-slice-aggregate-text c = search needs
+slice-aggregate-pattern-2 : tie.Need-slice-aggregate-pattern-2
+slice-aggregate-pattern-2 c = search needs
 
-text-requires-2 : tie.Need-text-requires-2
-text-requires-2 c κs = search needs
+pattern-requires : tie.Need-pattern-requires
+pattern-requires c κs = search needs
 
-number16-requires : tie.Need-number16-requires
-number16-requires c κs = search needs
+array-share-prefix-value : tie.Need-array-share-prefix-value
+array-share-prefix-value c =
+    let h : length (c .before .before .before .before .before .before .before .before .args .d .value) ≡ 14 = search needs in
+    omega arith
 
-slice-aggregate-text-2 : tie.Need-slice-aggregate-text-2
-slice-aggregate-text-2 c = search needs
-
-text-requires-3 : tie.Need-text-requires-3
-text-requires-3 c κs = search needs
-
-number8-requires : tie.Need-number8-requires
-number8-requires c κs = search needs
-
-slice-aggregate-text-3 : tie.Need-slice-aggregate-text-3
-slice-aggregate-text-3 c = search needs
-
-text-requires-4 : tie.Need-text-requires-4
-text-requires-4 c κs = search needs
-
-state-requires : tie.Need-state-requires
-state-requires c κs = search needs
-
-slice-aggregate-text-4 : tie.Need-slice-aggregate-text-4
-slice-aggregate-text-4 c = search needs
+slice-aggregate-bytes : tie.Need-slice-aggregate-bytes
+slice-aggregate-bytes c =
+    let h : length (c .before .before .before .before .before .before .before .before .before .args .d .value) ≡ 14 = search needs in
+    sym (length-take-le (c .before .before .before .before .before .before .before .size-of .result) (c .before .before .before .before .before .before .before .before .before .args .d .value) (omega arith))
 
 bytes-requires : tie.Need-bytes-requires
 bytes-requires c κs = search needs
 
-slice-aggregate-either : tie.Need-slice-aggregate-either
-slice-aggregate-either c = search needs
+slice-aggregate-choice : tie.Need-slice-aggregate-choice
+slice-aggregate-choice c = search needs
 
-slice-aggregate-either-2 : tie.Need-slice-aggregate-either-2
-slice-aggregate-either-2 c = search needs
+cast-choice : tie.Need-cast-choice
+cast-choice c = search needs
 
-either-requires : tie.Need-either-requires
-either-requires c κs = search needs
+choice-requires : tie.Need-choice-requires
+choice-requires c κs = search needs
 
 returns-2 : tie.Need-returns-2
 returns-2 c = search needs
@@ -74,21 +58,15 @@ datapoint-spec =
     (tie.spec
     size-of-requires
     returns
-    array-share-prefix-bytes
-    slice-aggregate-value
-    slice-aggregate-text
-    text-requires
-    number16-requires
-    slice-aggregate-text-2
-    text-requires-2
-    number8-requires
-    slice-aggregate-text-3
-    text-requires-3
-    state-requires
-    slice-aggregate-text-4
-    text-requires-4
+    slice-aggregate-pattern
+    cast-t13
+    cast-t15
+    slice-aggregate-pattern-2
+    pattern-requires
+    array-share-prefix-value
+    slice-aggregate-bytes
     bytes-requires
-    slice-aggregate-either
-    slice-aggregate-either-2
-    either-requires
+    slice-aggregate-choice
+    cast-choice
+    choice-requires
     returns-2)

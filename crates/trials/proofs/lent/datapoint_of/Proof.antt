@@ -13,15 +13,6 @@ array-read-risen-2 c = search needs
 risen-requires : tie.Need-risen-requires
 risen-requires c κs = search needs
 
-array-write-value : tie.Need-array-write-value
-array-write-value c = search needs
-
-array-read-value : tie.Need-array-read-value
-array-read-value c = search needs
-
-array-write-value-2 : tie.Need-array-write-value-2
-array-write-value-2 c = search needs
-
 array-read-raised : tie.Need-array-read-raised
 array-read-raised c = search needs
 
@@ -31,8 +22,14 @@ array-read-raised-2 c = search needs
 raised-requires : tie.Need-raised-requires
 raised-requires c κs = search needs
 
-array-read-t11 : tie.Need-array-read-t11
-array-read-t11 c = search needs
+array-read-t19 : tie.Need-array-read-t19
+array-read-t19 c = search needs
+
+array-read-t22 : tie.Need-array-read-t22
+array-read-t22 c = search needs
+
+array-read-t25 : tie.Need-array-read-t25
+array-read-t25 c = search needs
 
 array-read-t28 : tie.Need-array-read-t28
 array-read-t28 c = search needs
@@ -40,11 +37,8 @@ array-read-t28 c = search needs
 array-read-t31 : tie.Need-array-read-t31
 array-read-t31 c = search needs
 
-array-read-t34 : tie.Need-array-read-t34
-array-read-t34 c = search needs
-
-array-read-t38 : tie.Need-array-read-t38
-array-read-t38 c = search needs
+array-read-t35 : tie.Need-array-read-t35
+array-read-t35 c = search needs
 
 returns : tie.Need-returns
 unfolding datapointOf
@@ -57,15 +51,13 @@ datapoint-of-spec =
     array-read-risen
     array-read-risen-2
     risen-requires
-    array-write-value
-    array-read-value
-    array-write-value-2
     array-read-raised
     array-read-raised-2
     raised-requires
-    array-read-t11
+    array-read-t19
+    array-read-t22
+    array-read-t25
     array-read-t28
     array-read-t31
-    array-read-t34
-    array-read-t38
+    array-read-t35
     returns)
