@@ -43,13 +43,6 @@ compared a b = ((λ e. eqb-true a b e), (λ q. eq-eqb a b q))
 pub left-to : {P Q : Type 0} {b : Bool} → Decides b P → (P → Q) → (Q → P) → Decides b Q
 left-to d f g = ((λ e. f (d .0 e)), (λ q. d .1 (g q)))
 
-pub bit-odd : (a b : Bool) → a ≡ true → Decides b (a ≡ b)
-bit-odd a b e = ((λ p. e ∙ sym p), (λ q. sym q ∙ e))
-
-pub bit-even : (a b : Bool) → a ≡ false → Decides (not b) (a ≡ b)
-bit-even a true e = refuted (λ q. false-true (sym e ∙ q))
-bit-even a false e = shown e
-
 -- ---- records
 pub datapoint-same : (a b : Datapoint) → a .id ≡ b .id → a .typecode ≡ b .typecode → a .flags ≡ b .flags → a .dpt ≡ b .dpt → a .state ≡ b .state → a .mark ≡ b .mark → a .value ≡ b .value → a ≡ b
 datapoint-same a b i t f d s m v = λ j. record { id = i j; typecode = t j; flags = f j; dpt = d j; state = s j; value = v j; mark = m j }

@@ -6,7 +6,7 @@ use lib.ListN.{set, replicate}
 use lib.Dec.{ltb, leb}
 use Rattle.ft12.specs.declared.record.Link.{Link}
 use Rattle.words.specs.Words.{if_then_else_}
-use Rattle.ft12.specs.Record.{linkOf}
+use Rattle.ft12.specs.Record.{linkWith}
 use Rattle.baos.specs.declared.datapoint.Datapoint.{Datapoint}
 use Rattle.baos.specs.declared.item.Item.{Item}
 use Rattle.calls.specs.declared.reply.Reply.{Reply}
@@ -14,9 +14,8 @@ use Rattle.calls.specs.declared.reply.Reply.the-variants.{Accepted}
 use Rattle.bench.specs.declared.bench.Bench.{Bench}
 
 -- nothing received, nothing outstanding, and these bits
-unfoldable pub idleLink : Bool → Bool → Link
-idleLink expected send =
-    linkOf (record { gathered = []; dropping = false; expected = expected; send = send; outstanding = []; resends = 0 })
+unfoldable pub idleLink : ℕ → ℕ → Link
+idleLink expected send = linkWith (replicate 260 0) 0 0 expected send (replicate 261 0) 0 0
 
 -- what stands in the places of a table that are not in use
 unfoldable pub noDatapoint : Datapoint
@@ -29,7 +28,7 @@ noItem = record { id = 0; size = 0; writable = 0; bytes = replicate 16 0 }
 unfoldable pub emptyBench : Bench
 emptyBench =
     record {
-      link = idleLink true true;
+      link = idleLink 1 1;
       datapoints = replicate 50 noDatapoint;
       datapointcount = 0;
       items = replicate 4 noItem;

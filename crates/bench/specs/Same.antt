@@ -5,7 +5,6 @@ use mathlib.Core.Bool.{Bool, true}
 use mathlib.Core.List.{List}
 use lib.ListN.{take}
 use Rattle.ft12.specs.declared.record.Link.{Link}
-use Rattle.words.specs.Words.{isYes}
 use Rattle.bench.specs.declared.bench.Bench.{Bench}
 
 -- r is true exactly where P holds
@@ -22,9 +21,9 @@ pub record SameTables (a b : Bench) : Type 0 where
   pub parametercount : a .parametercount ≡ b .parametercount
 
 -- the link record has these bits, drops or not, and has this frame outstanding
-pub record LinkIs (k : Link) (expected send dropping : Bool) (outstanding : List ℕ) : Type 0 where
-  pub expects : isYes (k .expected) ≡ expected
-  pub sends : isYes (k .send) ≡ send
-  pub drops : isYes (k .dropping) ≡ dropping
+pub record LinkIs (k : Link) (expected send dropping : ℕ) (outstanding : List ℕ) : Type 0 where
+  pub expects : k .expected ≡ expected
+  pub sends : k .send ≡ send
+  pub drops : k .dropping ≡ dropping
   pub within : k .held ≤ 261
   pub holds : take (k .held) (k .outstanding) ≡ outstanding

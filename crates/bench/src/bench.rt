@@ -3,7 +3,6 @@
 ghost use mathlib.Core.Path.{_≡_};
 ghost use Rattle.bench.specs.Bench.{idleLink, emptyBench, withLink, withDatapoint, withItem, withParameters};
 ghost use Rattle.bench.specs.Bench.{withValue};
-ghost use Rattle.words.specs.Words.{yesOrNo};
 use baos::datapoint::Datapoint;
 use baos::item::Item;
 use calls::reply::Reply;
@@ -27,26 +26,16 @@ pub struct Bench {
 
 // ---- a bench is made
 
-// 1 for yes, 0 for no, as lent memory has it.
-fn yes_or_no(said: bool) -> u8
-    ensures { λ r. ⌜ r ≡ yesOrNo said ⌝ }
-{
-    if said {
-        return 1;
-    }
-    0
-}
-
-// The link record with nothing received, nothing outstanding, and these count bits: true is odd.
-pub fn idle_link(expected: bool, send: bool) -> Link
+// The link record with nothing received, nothing outstanding, and these count bits: 1 is odd.
+pub fn idle_link(expected: u8, send: u8) -> Link
     ensures { λ r. ⌜ r ≡ idleLink expected send ⌝ }
 {
     Link {
         receiver: [0; 260],
         received: 0,
         dropping: 0,
-        expected: yes_or_no(expected),
-        send: yes_or_no(send),
+        expected: expected,
+        send: send,
         outstanding: [0; 261],
         held: 0,
         resends: 0,
@@ -58,7 +47,7 @@ pub fn idle_link(expected: bool, send: bool) -> Link
 pub fn empty() -> Bench
     ensures { λ r. ⌜ r ≡ emptyBench ⌝ }
 {
-    let link = idle_link(true, true);
+    let link = idle_link(1, 1);
     let datapoint = Datapoint {
         id: 0,
         typecode: 0,

@@ -6,15 +6,6 @@ use baos::datapoint::Datapoint;
 use baos::item::Item;
 use ft12::record::Link;
 
-fn same_bit(a: bool, b: bool) -> bool
-    ensures { λ r. ⌜ Decides r (a ≡ b) ⌝ }
-{
-    if a {
-        return b;
-    }
-    !b
-}
-
 fn same_datapoint(a: Datapoint, b: Datapoint) -> bool
     ensures { λ r. ⌜ Decides r (a ≡ b) ⌝ }
 {
@@ -113,16 +104,16 @@ pub fn same_tables(a: Bench, b: Bench) -> bool
 }
 
 // Whether a link record has these bits, drops or not, and has this frame outstanding.
-pub fn is_link(link: Link, expected: bool, send: bool, dropping: bool, outstanding: &[u8]) -> bool
+pub fn is_link(link: Link, expected: u8, send: u8, dropping: u8, outstanding: &[u8]) -> bool
     ensures { λ r. ⌜ Decides r (LinkIs link expected send dropping (now (outstanding .entry))) ⌝ }
 {
-    if !same_bit(link.expected == 1, expected) {
+    if link.expected != expected {
         return false;
     }
-    if !same_bit(link.send == 1, send) {
+    if link.send != send {
         return false;
     }
-    if !same_bit(link.dropping == 1, dropping) {
+    if link.dropping != dropping {
         return false;
     }
     let n = link.held as usize;

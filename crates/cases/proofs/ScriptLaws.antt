@@ -20,7 +20,7 @@ use Rattle.bench.specs.Run.{happened, quiet, heard}
 use Rattle.bench.specs.Same.{Decides, SameTables, LinkIs}
 use Rattle.trials.specs.Lent.{built, bussed}
 use Rattle.trials.specs.Trial.{Goes, Draws, Damaged}
-use Rattle.cases.specs.Script.{listed, isOne, keptOf, benchAfter, Right, AllRight, Played}
+use Rattle.cases.specs.Script.{listed, keptOf, benchAfter, Right, AllRight, Played}
 use Rattle.trials.proofs.LineLaws.{lines-next, count-fits, end-within, end-some}
 use Rattle.bench.proofs.SameLaws.{left-to}
 
@@ -45,10 +45,10 @@ kept-fits said s h = go (eqb (readLine s .letter) 0x68) refl
     go false e = rw e h
 
 -- ---- what stands behind the bits of a link line
-pub none-behind : (t r : Trial) (k : Link) (e s d : Bool) (a : List ℕ) → length a < 3 → Goes t (t .bench) (LinkIs k e s d []) r → Goes t (t .bench) (LinkIs k e s d (drop 3 a)) r
+pub none-behind : (t r : Trial) (k : Link) (e s d : ℕ) (a : List ℕ) → length a < 3 → Goes t (t .bench) (LinkIs k e s d []) r → Goes t (t .bench) (LinkIs k e s d (drop 3 a)) r
 none-behind t r k e s d a l g = rw (drop-of-length-le a {i = 3} (omega arith)) g
 
-pub some-behind : (t r : Trial) (k : Link) (e s d : Bool) (a : List ℕ) → 3 ≤ length a → Goes t (t .bench) (LinkIs k e s d (take (length a - 3) (drop 3 a))) r → Goes t (t .bench) (LinkIs k e s d (drop 3 a)) r
+pub some-behind : (t r : Trial) (k : Link) (e s d : ℕ) (a : List ℕ) → 3 ≤ length a → Goes t (t .bench) (LinkIs k e s d (take (length a - 3) (drop 3 a))) r → Goes t (t .bench) (LinkIs k e s d (drop 3 a)) r
 some-behind t r k e s d a l g = rw (take-all (length a - 3) (drop 3 a) (omega (arith, length-drop 3 a))) at g
 
 -- ---- a law for each letter
@@ -74,7 +74,7 @@ module _ (l said : Line) (w : Bench) (t r : Trial) where
       (λ p. record { reply = λ x. absurd (omega (arith, e, x)); damage = λ x. absurd (omega (arith, e, x)); mark = λ _. p; link = λ x. absurd (omega (arith, e, x)); tables = λ x. absurd (omega (arith, e, x)) })
       (λ y. y .mark e) g
 
-  pub linked : l .letter ≡ 0x6C → Goes t (t .bench) (LinkIs (t .bench .link) (isOne (l .bytes) 0) (isOne (l .bytes) 1) (isOne (l .bytes) 2) (drop 3 (listed l))) r → Goes t (benchAfter l said w (t .bench)) (Right l said w (t .bench)) r
+  pub linked : l .letter ≡ 0x6C → Goes t (t .bench) (LinkIs (t .bench .link) (getD (l .bytes) 0 0) (getD (l .bytes) 1 0) (getD (l .bytes) 2 0) (drop 3 (listed l))) r → Goes t (benchAfter l said w (t .bench)) (Right l said w (t .bench)) r
   unfolding benchAfter
   linked e g =
       goes-as t r _ _ (rw e refl)
@@ -88,7 +88,7 @@ module _ (l said : Line) (w : Bench) (t r : Trial) where
       (λ p. record { reply = λ x. absurd (omega (arith, e, x)); damage = λ x. absurd (omega (arith, e, x)); mark = λ x. absurd (omega (arith, e, x)); link = λ x. absurd (omega (arith, e, x)); tables = λ _. p })
       (λ y. y .tables e) g
 
-  pub started : (b : Bench) → l .letter ≡ 0x73 → b ≡ withLink (idleLink (isOne (l .bytes) 0) (isOne (l .bytes) 1)) w → Goes t b (true ≡ true) r → Goes t (benchAfter l said w (t .bench)) (Right l said w (t .bench)) r
+  pub started : (b : Bench) → l .letter ≡ 0x73 → b ≡ withLink (idleLink (getD (l .bytes) 0 0) (getD (l .bytes) 1 0)) w → Goes t b (true ≡ true) r → Goes t (benchAfter l said w (t .bench)) (Right l said w (t .bench)) r
   unfolding benchAfter
   started b e eb g =
       goes-as t r _ _ (eb ∙ rw e refl)

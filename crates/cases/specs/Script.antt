@@ -20,10 +20,6 @@ use Rattle.trials.specs.Trial.{Draws, Damaged}
 abbrev pub listed : Line → List ℕ
 listed l = take (l .size) (l .bytes)
 
--- a bit is written as 00 or 01
-abbrev pub isOne : List ℕ → ℕ → Bool
-isOne a place = eqb (getD a place 0) 1
-
 -- the line that the host sent last: the letter h
 unfoldable pub keptOf : Line → Line → Line
 keptOf said l = if eqb (l .letter) 0x68 then l else said
@@ -34,7 +30,7 @@ benchAfter l said wanted b =
     if eqb (l .letter) 0x72 then heard (listed said) b
     else if eqb (l .letter) 0x78 then heard (listed said) b
     else if eqb (l .letter) 0x6D then happened IdleMark b
-    else if eqb (l .letter) 0x73 then withLink (idleLink (isOne (l .bytes) 0) (isOne (l .bytes) 1)) wanted
+    else if eqb (l .letter) 0x73 then withLink (idleLink (getD (l .bytes) 0 0) (getD (l .bytes) 1 0)) wanted
     else if eqb (l .letter) 0x62 then bussed (l .bytes) (getD (l .bytes) 0 0) b
     else b
 
@@ -43,7 +39,7 @@ pub record Right (l said : Line) (wanted b : Bench) : Type 0 where
   pub reply : l .letter ≡ 0x72 → Draws (listed said) (listed l) b
   pub damage : l .letter ≡ 0x78 → Damaged (listed said) (getD (l .bytes) 0 0) b
   pub mark : l .letter ≡ 0x6D → quiet (happened IdleMark b .reply) ≡ true
-  pub link : l .letter ≡ 0x6C → LinkIs (b .link) (isOne (l .bytes) 0) (isOne (l .bytes) 1) (isOne (l .bytes) 2) (drop 3 (listed l))
+  pub link : l .letter ≡ 0x6C → LinkIs (b .link) (getD (l .bytes) 0 0) (getD (l .bytes) 1 0) (getD (l .bytes) 2 0) (drop 3 (listed l))
   pub tables : l .letter ≡ 0x74 → SameTables b wanted
 
 -- all that the lines ask holds, each of the bench that the lines before it left

@@ -1,10 +1,10 @@
 // A script is played: its lines in turn, and what each of them asks.
 ghost use mathlib.Core.Path.{_≡_};
 ghost use Prim.Native.Nat.{_≤_};
-ghost use lib.ListN.{drop};
+ghost use lib.ListN.{getD, drop};
 ghost use Rattle.bench.specs.Same.{Decides, LinkIs};
 ghost use Rattle.trials.specs.Trial.{Goes};
-ghost use Rattle.cases.specs.Script.{isOne, keptOf, benchAfter, Right, Played};
+ghost use Rattle.cases.specs.Script.{keptOf, benchAfter, Right, Played};
 use bench::bench::Bench;
 use bench::bench::empty;
 use bench::bench::idle_link;
@@ -48,12 +48,12 @@ fn kept(said: Line, line: Line) -> Line
 
 // The bits and the bytes of a line that asks for the link.
 fn link_asked(t: Trial, a: [u8; 264], asked: &[u8]) -> Trial
-    ensures { λ r. ⌜ Goes t (t .bench) (LinkIs (t .bench .link) (isOne a 0) (isOne a 1) (isOne a 2)
+    ensures { λ r. ⌜ Goes t (t .bench) (LinkIs (t .bench .link) (getD a 0 0) (getD a 1 0) (getD a 2 0)
         (drop 3 (now (asked .entry)))) r ⌝ }
 {
-    let expected = a[0] == 1;
-    let send = a[1] == 1;
-    let dropping = a[2] == 1;
+    let expected = a[0];
+    let send = a[1];
+    let dropping = a[2];
     if asked.len() < 3 {
         return trial::link(t, expected, send, dropping, b"");
     }
@@ -82,7 +82,7 @@ fn acted(t: Trial, wanted: Bench, said: Line, line: Line) -> Trial
         return trial::idle_mark(t);
     }
     if line.letter == START {
-        return trial::after(t, with_link(wanted, idle_link(a[0] == 1, a[1] == 1)), true);
+        return trial::after(t, with_link(wanted, idle_link(a[0], a[1])), true);
     }
     if line.letter == BUS {
         return trial::after(t, after_bus(t.bench, a, a[0]), true);

@@ -39,14 +39,14 @@ pub fn datapoint(d: Datapoint) {
         ],
     );
     print::bytes(&value[..n]);
-    print::choice(b", no mark\n|, mark set\n", d.mark as u8);
+    print::choice(b", no mark\n|, mark set\n", d.mark);
 }
 
 // The count bits of a link record, what is outstanding, and whether the receiver drops.
 pub fn link(link: Link) {
     print::pattern(
         b"expects {even|odd}, sends {even|odd}, ",
-        &[link.expected as u8, link.send as u8],
+        &[link.expected, link.send],
     );
     if link.held == 0 {
         print::text(b"nothing outstanding");
@@ -58,6 +58,6 @@ pub fn link(link: Link) {
     }
     print::choice(
         b"\n|, drops what comes up to the idle mark\n",
-        link.dropping as u8,
+        link.dropping,
     );
 }

@@ -7,6 +7,7 @@ use native.Mathlib.Omega.{arith}
 use native.Mathlib.Numerals.{add-one}
 use lib.ListN.{length, take, getD}
 use lib.Seq.{take-suc, take-all}
+use Rattle.words.specs.Words.{isYes}
 use Rattle.calls.specs.declared.event.Event.the-variants.{HostByte}
 use Rattle.calls.specs.Reply.{sentCount}
 use Rattle.bench.specs.declared.bench.Bench.{Bench}
@@ -82,15 +83,15 @@ nothing-drawn (x ∷ xs) w b e = absurd (omega (arith, e))
 -- ---- damage
 
 -- whether the receiver drops after the first bytes, or after all where there are no more
-pub drops-first : (xs : List ℕ) (b : Bench) (n : ℕ) (f : Fed) → f ≡ fed (take n xs) b → f .bench .link .dropping ≡ heard (take n xs) b .link .dropping
+pub drops-first : (xs : List ℕ) (b : Bench) (n : ℕ) (f : Fed) → f ≡ fed (take n xs) b → isYes (f .bench .link .dropping) ≡ isYes (heard (take n xs) b .link .dropping)
 unfolding fed
-drops-first xs b n f e = ap (λ (z : Fed). z .bench .link .dropping) e
+drops-first xs b n f e = ap (λ (z : Fed). isYes (z .bench .link .dropping)) e
 
-pub drops-all : (xs : List ℕ) (b : Bench) (n : ℕ) (f : Fed) → length xs ≤ n → f ≡ fed xs b → f .bench .link .dropping ≡ heard (take n xs) b .link .dropping
+pub drops-all : (xs : List ℕ) (b : Bench) (n : ℕ) (f : Fed) → length xs ≤ n → f ≡ fed xs b → isYes (f .bench .link .dropping) ≡ isYes (heard (take n xs) b .link .dropping)
 unfolding fed
-drops-all xs b n f l e = rw (take-all n xs l) (ap (λ (z : Fed). z .bench .link .dropping) e)
+drops-all xs b n f l e = rw (take-all n xs l) (ap (λ (z : Fed). isYes (z .bench .link .dropping)) e)
 
-module _ (xs : List ℕ) (place : ℕ) (b : Bench) (f g : Bool) (h : Fed) (ef : f ≡ heard (take place xs) b .link .dropping) (eg : g ≡ heard (take (place + 1) xs) b .link .dropping) (eh : h ≡ fed xs b) where
+module _ (xs : List ℕ) (place : ℕ) (b : Bench) (f g : Bool) (h : Fed) (ef : f ≡ isYes (heard (take place xs) b .link .dropping)) (eg : g ≡ isYes (heard (take (place + 1) xs) b .link .dropping)) (eh : h ≡ fed xs b) where
   whole : h .bench ≡ heard xs b
   unfolding fed
   whole = ap (λ (z : Fed). z .bench) eh
@@ -109,7 +110,7 @@ module _ (xs : List ℕ) (place : ℕ) (b : Bench) (f g : Bool) (h : Fed) (ef : 
         right = ((λ q. record { quiet = sym silence ∙ q; before = sym ef ∙ d; found = sym eg ∙ k }), (λ y. silence ∙ y .quiet));
       }
 
-pub found-early : (xs : List ℕ) (place : ℕ) (b : Bench) (f : Bool) (h : Fed) → f ≡ heard (take place xs) b .link .dropping → h ≡ fed xs b → f ≡ true → Shows (heard xs b) (Damaged xs place b) (record { bench = h .bench; right = false })
+pub found-early : (xs : List ℕ) (place : ℕ) (b : Bench) (f : Bool) (h : Fed) → f ≡ isYes (heard (take place xs) b .link .dropping) → h ≡ fed xs b → f ≡ true → Shows (heard xs b) (Damaged xs place b) (record { bench = h .bench; right = false })
 unfolding fed
 found-early xs place b f h ef eh d =
     record { bench = ap (λ (z : Fed). z .bench) eh; right = refuted (λ y. false-true (sym (y .before) ∙ sym ef ∙ d)) }

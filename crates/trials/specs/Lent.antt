@@ -20,7 +20,7 @@ unfoldable pub risen : ℕ → Bool → ℕ → ℕ
 risen byte rises k = if rises then (byte + k) % 256 else byte
 
 unfoldable pub itemOf : List ℕ → Item
-itemOf a = record { id = raised a 0 0; size = getD a 2 0; writable = false; bytes = put (replicate 16 0) 0 (take 16 (drop 3 a)) }
+itemOf a = record { id = raised a 0 0; size = getD a 2 0; writable = 0; bytes = put (replicate 16 0) 0 (take 16 (drop 3 a)) }
 
 unfoldable pub datapointOf : List ℕ → ℕ → Datapoint
 datapointOf a k =
@@ -31,7 +31,7 @@ datapointOf a k =
       dpt = getD a 5 0;
       state = getD a 6 0;
       value = risen (getD a 7 0) (eqb (getD a 9 0) 1) k ∷ getD a 8 0 ∷ replicate 12 0;
-      mark = eqb (getD a 10 0) 1;
+      mark = getD a 10 0;
     }
 
 -- n datapoints, one behind the other

@@ -4,6 +4,7 @@ use mathlib.Core.Path.{_≡_}
 use mathlib.Core.Bool.{Bool, true, false}
 use mathlib.Core.List.{List}
 use lib.ListN.{length, take}
+use Rattle.words.specs.Words.{isYes}
 use Rattle.calls.specs.Reply.{sentCount}
 use Rattle.bench.specs.declared.bench.Bench.{Bench}
 use Rattle.trials.specs.declared.trial.Trial.{Trial}
@@ -34,5 +35,5 @@ pub record Draws (xs wanted : List ℕ) (b : Bench) : Type 0 where
 -- these bytes are damaged: the receiver finds it at this place and drops all from there on, and nothing is sent
 pub record Damaged (xs : List ℕ) (place : ℕ) (b : Bench) : Type 0 where
   pub quiet : allQuiet xs b ≡ true
-  pub before : heard (take place xs) b .link .dropping ≡ false
-  pub found : heard (take (place + 1) xs) b .link .dropping ≡ true
+  pub before : isYes (heard (take place xs) b .link .dropping) ≡ false
+  pub found : isYes (heard (take (place + 1) xs) b .link .dropping) ≡ true

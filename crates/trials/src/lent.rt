@@ -50,7 +50,7 @@ fn item_of(a: [u8; 264]) -> Item
     Item {
         id: raised(a[0], a[1], 0),
         size: a[2],
-        writable: false,
+        writable: 0,
         bytes: bytes,
     }
 }
@@ -66,7 +66,7 @@ fn datapoint_of(a: [u8; 264], k: u8) -> Datapoint
         dpt: a[5],
         state: a[6],
         value: [first, a[8], 0, 0, 0, 0, 0, 0, 0, 0, 0, 0, 0, 0],
-        mark: a[10] == 1,
+        mark: a[10],
     }
 }
 

@@ -2,6 +2,7 @@
 ghost use mathlib.Core.Path.{_≡_};
 ghost use mathlib.Core.Bool.{true};
 ghost use lib.ListN.{take};
+ghost use Rattle.words.specs.Words.{isYes};
 ghost use Rattle.calls.specs.declared.event.Event.{Event};
 ghost use Rattle.bench.specs.Run.{happened, quiet, heard};
 ghost use Rattle.bench.specs.Same.{Decides, SameTables, LinkIs};
@@ -115,14 +116,14 @@ pub fn host(trial: Trial, bytes: &[u8], wanted: &[u8]) -> Trial
 
 // Whether the receiver drops after the first of these bytes, so many of them.
 fn drops_after(bench: Bench, bytes: &[u8], count: usize) -> bool
-    ensures { λ r. ⌜ r ≡ heard (take count (now (bytes .entry))) bench .link .dropping ⌝ }
+    ensures { λ r. ⌜ r ≡ isYes (heard (take count (now (bytes .entry))) bench .link .dropping) ⌝ }
 {
     if bytes.len() <= count {
         let all = feed(bench, bytes);
-        return all.bench.link.dropping;
+        return all.bench.link.dropping == 1;
     }
     let first = feed(bench, &bytes[..count]);
-    first.bench.link.dropping
+    first.bench.link.dropping == 1
 }
 
 // The bench after these bytes from the host, and whether the receiver found damage at this place, counted from 0, and
@@ -187,7 +188,7 @@ pub fn idle_mark(trial: Trial) -> Trial
 // ---- what is left
 
 // The link is to have these bits, and this frame outstanding.
-pub fn link(trial: Trial, expected: bool, send: bool, dropping: bool, outstanding: &[u8]) -> Trial
+pub fn link(trial: Trial, expected: u8, send: u8, dropping: u8, outstanding: &[u8]) -> Trial
     ensures { λ r. ⌜ Goes trial (trial .bench) (LinkIs (trial .bench .link) expected send dropping (now (outstanding .entry))) r ⌝ }
 {
     print::text(b"   link   : ");

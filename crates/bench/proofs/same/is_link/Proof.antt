@@ -3,27 +3,18 @@ use mathlib.Core.Path.{_≡_, sym}
 use lib.ListN.{length}
 use lib.Seq.{length-take-le}
 use native.Mathlib.Omega.{arith}
-use Rattle.bench.proofs.SameLaws.{not-true, not-false, refuted, failed, left-to}
+use Rattle.bench.proofs.SameLaws.{refuted, left-to}
 use Rattle.bench.proofs.same.is_link.Statement.{statement}
 use Rattle.bench.proofs.same.is_link.Tie as tie
 
-same-bit-requires : tie.Need-same-bit-requires
-same-bit-requires c κs = search needs
-
 returns : tie.Need-returns
-returns c = failed (c .before .same-bit .ensures) (not-true _ (c .if1 .taken)) (λ q. q .expects)
-
-same-bit-requires-2 : tie.Need-same-bit-requires-2
-same-bit-requires-2 c κs = search needs
+returns c = refuted (λ q. c .if1 .taken (q .expects))
 
 returns-2 : tie.Need-returns-2
-returns-2 c = failed (c .before .same-bit2 .ensures) (not-true _ (c .if2 .taken)) (λ q. q .sends)
-
-same-bit-requires-3 : tie.Need-same-bit-requires-3
-same-bit-requires-3 c κs = search needs
+returns-2 c = refuted (λ q. c .if2 .taken (q .sends))
 
 returns-3 : tie.Need-returns-3
-returns-3 c = failed (c .before .same-bit3 .ensures) (not-true _ (c .if3 .taken)) (λ q. q .drops)
+returns-3 c = refuted (λ q. c .if3 .taken (q .drops))
 
 cast-n : tie.Need-cast-n
 cast-n c = search needs
@@ -47,27 +38,13 @@ returns-5 : tie.Need-returns-5
 returns-5 c =
     left-to (c .same .ensures)
     (λ v. record {
-      expects = c .before .before .before .before .before .before .before .before .before .before .same-bit .ensures .0 (not-false _ (c .before .before .before .before .before .before .before .before .before .if1 .left));
-      sends = c .before .before .before .before .before .before .before .before .same-bit2 .ensures .0 (not-false _ (c .before .before .before .before .before .before .before .if2 .left));
-      drops = c .before .before .before .before .before .before .same-bit3 .ensures .0 (not-false _ (c .before .before .before .before .before .if3 .left));
+      expects = c .before .before .before .before .before .before .before .before .before .if1 .left;
+      sends = c .before .before .before .before .before .before .before .if2 .left;
+      drops = c .before .before .before .before .before .if3 .left;
       within = let t = c .before .before .before .if4 .left in omega arith;
       holds = v;
     })
     (λ q. q .holds)
 
 pub is-link-spec : {M : Type 1} → statement M
-is-link-spec =
-    tie.close
-    (tie.spec
-    same-bit-requires
-    returns
-    same-bit-requires-2
-    returns-2
-    same-bit-requires-3
-    returns-3
-    cast-n
-    returns-4
-    array-share-prefix-frame
-    slice-aggregate-same
-    same-requires
-    returns-5)
+is-link-spec = tie.close (tie.spec returns returns-2 returns-3 cast-n returns-4 array-share-prefix-frame slice-aggregate-same same-requires returns-5)

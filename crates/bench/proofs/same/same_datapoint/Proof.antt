@@ -35,8 +35,8 @@ returns-6 c = refuted (λ q. c .if6 .taken (ap (λ (d : Datapoint). d .state) q)
 returns-7 : tie.Need-returns-7
 returns-7 c =
     left-to (compared _ _)
-    (λ m. datapoint-same _ _ (c .before .before .before .before .before .before .before .before .before .before .before .before .if2 .left) (c .before .before .before .before .before .before .before .before .before .if3 .left) (c .before .before .before .before .before .before .if4 .left) (c .before .before .before .if5 .left) (c .if6 .left) m
-    (c .before .before .before .before .before .before .before .before .before .before .before .before .before .before .before .before .same .ensures .0 (not-false _ (c .before .before .before .before .before .before .before .before .before .before .before .before .before .before .before .if1 .left))))
+    (λ m. datapoint-same _ _ (c .before .before .before .before .before .before .before .before .before .before .before .before .before .before .if2 .left) (c .before .before .before .before .before .before .before .before .before .before .before .if3 .left) (c .before .before .before .before .before .before .before .before .if4 .left) (c .before .before .before .before .before .if5 .left) (c .before .before .if6 .left) m
+    (c .before .before .before .before .before .before .before .before .before .before .before .before .before .before .before .before .before .before .same .ensures .0 (not-false _ (c .before .before .before .before .before .before .before .before .before .before .before .before .before .before .before .before .before .if1 .left))))
     (λ q. ap (λ (d : Datapoint). d .mark) q)
 
 pub same-datapoint-spec : {M : Type 1} → statement M

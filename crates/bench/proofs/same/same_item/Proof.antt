@@ -26,7 +26,7 @@ returns-3 c = refuted (λ q. c .if3 .taken (ap (λ (i : Item). i .size) q))
 returns-4 : tie.Need-returns-4
 returns-4 c =
     left-to (compared _ _)
-    (λ w. item-same _ _ (c .before .before .before .if2 .left) (c .if3 .left) w (c .before .before .before .before .before .before .before .same .ensures .0 (not-false _ (c .before .before .before .before .before .before .if1 .left))))
+    (λ w. item-same _ _ (c .before .before .before .before .before .if2 .left) (c .before .before .if3 .left) w (c .before .before .before .before .before .before .before .before .before .same .ensures .0 (not-false _ (c .before .before .before .before .before .before .before .before .if1 .left))))
     (λ q. ap (λ (i : Item). i .writable) q)
 
 pub same-item-spec : {M : Type 1} → statement M
