@@ -1,6 +1,6 @@
 -- What the functions of the server promise: the reply by its numbers, the output buffer to its end, the tables and
 -- the link record.
-use Prim.Native.Nat.{ℕ, _+_}
+use Prim.Native.Nat.{ℕ}
 use mathlib.Core.Path.{_≡_}
 use mathlib.Core.Bool.{Bool, not}
 use mathlib.Core.List.{List, []}

@@ -2,7 +2,7 @@
 --     hands-message    that call: the loan's token, the message, and what is kept meanwhile
 --     message-back     the `&mut Link` and its token again, from the loan's token and what was kept
 -- Assumes `Given`.
-use mathlib.Core.Path.{_≡_, refl, sym, ap, subst, _∙_}
+use mathlib.Core.Path.{_≡_, refl, sym, ap, subst}
 use Prim.Native.Nat.{ℕ, _+_}
 use mathlib.Core.List.{List, [], _∷_, map-id}
 use lib.ListN.{length}
