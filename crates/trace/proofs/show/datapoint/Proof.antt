@@ -43,9 +43,6 @@ bytes-requires c κs = search needs
 slice-aggregate-choice : tie.Need-slice-aggregate-choice
 slice-aggregate-choice c = search needs
 
-cast-choice : tie.Need-cast-choice
-cast-choice c = search needs
-
 choice-requires : tie.Need-choice-requires
 choice-requires c κs = search needs
 
@@ -67,6 +64,5 @@ datapoint-spec =
     slice-aggregate-bytes
     bytes-requires
     slice-aggregate-choice
-    cast-choice
     choice-requires
     returns-2)

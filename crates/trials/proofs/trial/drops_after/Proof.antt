@@ -10,7 +10,7 @@ feed-requires : tie.Need-feed-requires
 feed-requires c κs = search needs
 
 returns : tie.Need-returns
-returns c = drops-all _ _ _ _ (c .before .if1 .taken) (c .feed .ensures)
+returns c = drops-all _ _ _ _ (c .before .before .if1 .taken) (c .before .feed .ensures)
 
 slice-aggregate-feed : tie.Need-slice-aggregate-feed
 slice-aggregate-feed c = sym (length-take-le (c .before .before .before .args .count) (c .before .before .before .args .bytes .now) (omega arith))
@@ -20,7 +20,7 @@ feed-requires-2 c κs = search needs
 
 returns-2 : tie.Need-returns-2
 returns-2 c =
-    drops-first (c .before .before .before .before .args .bytes .now) (c .before .before .before .before .args .bench) (c .before .before .before .before .args .count) (c .feed2 .result) (c .feed2 .ensures)
+    drops-first (c .before .before .before .before .before .args .bytes .now) (c .before .before .before .before .before .args .bench) (c .before .before .before .before .before .args .count) (c .before .feed2 .result) (c .before .feed2 .ensures)
 
 pub drops-after-spec : {M : Type 1} → statement M
 drops-after-spec =
