@@ -39,7 +39,8 @@ pub record Right (l said : Line) (wanted b : Bench) : Type 0 where
   pub reply : l .letter ≡ 0x72 → Draws (listed said) (listed l) b
   pub damage : l .letter ≡ 0x78 → Damaged (listed said) (getD (l .bytes) 0 0) b
   pub mark : l .letter ≡ 0x6D → quiet (happened IdleMark b .reply) ≡ true
-  pub link : l .letter ≡ 0x6C → LinkIs (b .link) (getD (l .bytes) 0 0) (getD (l .bytes) 1 0) (getD (l .bytes) 2 0) (drop 3 (listed l))
+  pub link : l .letter ≡ 0x6C → LinkIs (b .link) (getD (l .bytes) 0 0) (getD (l .bytes) 1 0) (getD (l .bytes) 2 0)
+      (drop 3 (listed l))
   pub tables : l .letter ≡ 0x74 → SameTables b wanted
 
 -- all that the lines ask holds, each of the bench that the lines before it left
@@ -47,7 +48,8 @@ unfoldable pub AllRight : List (List ℕ) → Line → Bench → Bench → Type 
 AllRight [] said wanted b = true ≡ true
 AllRight (s ∷ ss) said wanted b =
     Right (readLine s) said (built (readLine s) wanted) b
-    × AllRight ss (keptOf said (readLine s)) (built (readLine s) wanted) (benchAfter (readLine s) said (built (readLine s) wanted) b)
+    × AllRight ss (keptOf said (readLine s)) (built (readLine s) wanted)
+    (benchAfter (readLine s) said (built (readLine s) wanted) b)
 
 -- a script begins with empty tables, the link of an empty bench and nothing from the host
 unfoldable pub Played : List ℕ → Type 0

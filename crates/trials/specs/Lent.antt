@@ -20,7 +20,13 @@ unfoldable pub risen : ℕ → Bool → ℕ → ℕ
 risen byte rises k = if rises then (byte + k) % 256 else byte
 
 unfoldable pub itemOf : List ℕ → Item
-itemOf a = record { id = raised a 0 0; size = getD a 2 0; writable = 0; bytes = put (replicate 16 0) 0 (take 16 (drop 3 a)) }
+itemOf a =
+    record {
+      id = raised a 0 0;
+      size = getD a 2 0;
+      writable = 0;
+      bytes = put (replicate 16 0) 0 (take 16 (drop 3 a));
+    }
 
 unfoldable pub datapointOf : List ℕ → ℕ → Datapoint
 datapointOf a k =

@@ -77,7 +77,8 @@ fn has_sent(bench: Bench, wanted: &[u8]) -> bool
 // The bench after these bytes from the host, one event each, and whether they drew what is wanted, all of it at the
 // last one.
 fn drawn(bench: Bench, bytes: &[u8], wanted: &[u8]) -> Trial
-    ensures { λ r. ⌜ Shows (heard (now (bytes .entry)) bench) (Draws (now (bytes .entry)) (now (wanted .entry)) bench) r ⌝ }
+    ensures { λ r. ⌜ Shows (heard (now (bytes .entry)) bench)
+        (Draws (now (bytes .entry)) (now (wanted .entry)) bench) r ⌝ }
 {
     let n = bytes.len();
     if n == 0 {
@@ -103,7 +104,8 @@ fn drawn(bench: Bench, bytes: &[u8], wanted: &[u8]) -> Trial
 
 // The host sends these bytes; the server is to send what is wanted.
 pub fn host(trial: Trial, bytes: &[u8], wanted: &[u8]) -> Trial
-    ensures { λ r. ⌜ Goes trial (heard (now (bytes .entry)) (trial .bench)) (Draws (now (bytes .entry)) (now (wanted .entry)) (trial .bench)) r ⌝ }
+    ensures { λ r. ⌜ Goes trial (heard (now (bytes .entry)) (trial .bench))
+        (Draws (now (bytes .entry)) (now (wanted .entry)) (trial .bench)) r ⌝ }
 {
     meaning::frame_lines(b"   host   : ", bytes);
     let d = drawn(trial.bench, bytes, wanted);
@@ -165,7 +167,8 @@ fn damage_lines(bytes: &[u8], place: u8) {
 // The host sends damaged bytes. The receiver is to find it at this place, and to drop all from there on; nothing is
 // to be sent.
 pub fn damaged(trial: Trial, bytes: &[u8], place: u8) -> Trial
-    ensures { λ r. ⌜ Goes trial (heard (now (bytes .entry)) (trial .bench)) (Damaged (now (bytes .entry)) place (trial .bench)) r ⌝ }
+    ensures { λ r. ⌜ Goes trial (heard (now (bytes .entry)) (trial .bench))
+        (Damaged (now (bytes .entry)) place (trial .bench)) r ⌝ }
 {
     meaning::frame_lines(b"   host   : ", bytes);
     let d = found_damage(trial.bench, bytes, place);
@@ -177,7 +180,8 @@ pub fn damaged(trial: Trial, bytes: &[u8], place: u8) -> Trial
 
 // The line is silent for the standard's gap. Nothing is to be sent.
 pub fn idle_mark(trial: Trial) -> Trial
-    ensures { λ r. ⌜ Goes trial (happened Event.IdleMark (trial .bench)) (quiet (happened Event.IdleMark (trial .bench) .reply) ≡ true) r ⌝ }
+    ensures { λ r. ⌜ Goes trial (happened Event.IdleMark (trial .bench))
+        (quiet (happened Event.IdleMark (trial .bench) .reply) ≡ true) r ⌝ }
 {
     print::text(b"   line   : silent, an idle mark\n");
     let bench = happens(trial.bench, Event::IdleMark);
@@ -189,7 +193,8 @@ pub fn idle_mark(trial: Trial) -> Trial
 
 // The link is to have these bits, and this frame outstanding.
 pub fn link(trial: Trial, expected: u8, send: u8, dropping: u8, outstanding: &[u8]) -> Trial
-    ensures { λ r. ⌜ Goes trial (trial .bench) (LinkIs (trial .bench .link) expected send dropping (now (outstanding .entry))) r ⌝ }
+    ensures { λ r. ⌜ Goes trial (trial .bench)
+        (LinkIs (trial .bench .link) expected send dropping (now (outstanding .entry))) r ⌝ }
 {
     print::text(b"   link   : ");
     show::link(trial.bench.link);

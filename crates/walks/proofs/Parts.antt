@@ -1,9 +1,6 @@
 -- Parts of slices and of arrays, lent to a call.
---     shares-range, range-back     `&x.field[a..e]` of an array in memory, lent as a `&[D]`, and back
 --     lends-prefix, prefix-back    `&mut x.field[..m]` of an array in memory, lent as a `&mut [D]`, and back
 --     shares-prefix, prefix-unshared   `&x.field[..m]` of an array in memory, lent as a `&[D]`, and back
---     cuts-range, joins-range      the part from a up to e of a row: what the ranges are made of
---     three                        a list is what stands before a, what stands from a up to e, and the rest
 -- Assumes `Given`.
 use mathlib.Core.Path.{_≡_, refl, sym, ap, subst, _∙_}
 use Prim.Native.Nat.{ℕ, _+_, _-_, _≤_}
@@ -27,59 +24,6 @@ use denote.Index.{row, place}
 use Rattle.walks.proofs.Data.{Data, MutS, ShrS}
 use Rattle.walks.proofs.Slices.{cuts-row, joins-row, shares-row, row-unshared, lends-row, row-back, elems-of, array-of}
 
--- ---- the part from a up to e, lent as a `&[D]`
--- a list is what stands before a, what stands from a up to e, and the rest
-pub three : {X : Type 0} (xs : List X) (a e : ℕ) → xs ≡ take a xs ++ (take (e - a) (dropL a xs) ++ dropL (e - a) (dropL a xs))
-three {X} xs a e = sym (take-append-drop a xs) ∙ ap (λ (r : List X). take a xs ++ r) (sym (take-append-drop (e - a) (dropL a xs)))
-
--- what is kept while the part from a up to e of xs is lent for ν
-abbrev pub RangeKept : (D : Data) → Share → ℕ → List (D .row .Denot) → ℕ → ℕ → ℕ → ℕ → Fml
-RangeKept D q ν xs a e b o = fsep (flent (ν ∷ []) (arr-parts (shares (D .row)) (length (take (e - a) (dropL a xs))) .part q (take (e - a) (dropL a xs)) b (place (mem (D .row) .size) o (length (take a xs)))))
-    (fsep (row (D .row) q (dropL (e - a) (dropL a xs)) b (place (mem (D .row) .size) (place (mem (D .row) .size) o (length (take a xs))) (length (take (e - a) (dropL a xs))))) (row (D .row) q (take a xs) b o))
-
-module _ {M : Type 1} {𝓤 : URA M} {H : Heap 𝓤} {A : Atoms 𝓤} {K : Type 0} {W : Given 𝓤 H A} {Γ : List (Item 𝓤)} {G : Goal 𝓤 H} where
-  -- of a row, at any share; the part lies at p
-  pub cuts-range : K → Soaks G → (D : Data) (q : Share) (n : ℕ) (xs : List (D .row .Denot)) (a e b o p : ℕ) → a ≤ e → e ≤ n → p ≡ place (mem (D .row) .size) o a → Room (D .row) (e - a) → length xs ≡ n
-      → ((ν : ℕ) (δ : GName) → Seq K W (‵ (flft (ν ∷ []) fullShare) ∷ ‵ (ShrS D (ν ∷ []) b p δ (e - a) (take (e - a) (dropL a xs))) ∷ ‵ (RangeKept D q ν xs a e b o) ∷ Γ) G)
-      → Seq K W (‵ (row (D .row) q xs b o) ∷ Γ) G
-  cuts-range t z D q n xs a e b o p l₁ l₂ ep rm long k =
-      rewrite t 0 (λ (zs : List (D .row .Denot)). ‵ (row (D .row) q zs b o)) (three xs a e) refl $
-      cuts-row t (D .row) q (take a xs) (take (e - a) (dropL a xs) ++ dropL (e - a) (dropL a xs)) b o $ move t (1 ∷ []) $
-      cuts-row t (D .row) q (take (e - a) (dropL a xs)) (dropL (e - a) (dropL a xs)) b (place (mem (D .row) .size) o (length (take a xs))) $
-      shares-row t z D q (take (e - a) (dropL a xs)) b (place (mem (D .row) .size) o (length (take a xs))) (subst (Room (D .row)) (sym within) rm) (λ ν δ.
-      -- [token; reference; lent; what is behind it; what is before it]
-      rewrite t 1 (λ (j : ℕ). ‵ (ShrS D (ν ∷ []) b j δ (length (take (e - a) (dropL a xs))) (take (e - a) (dropL a xs)))) (ap (place (mem (D .row) .size) o) before ∙ sym ep) refl $
-      rewrite t 1 (λ (j : ℕ). ‵ (ShrS D (ν ∷ []) b p δ j (take (e - a) (dropL a xs)))) within refl $
-      move t (3 ∷ 4 ∷ []) $ fjoin t $ move t (3 ∷ 0 ∷ []) $ fjoin t $ move t (1 ∷ 2 ∷ 0 ∷ []) $ k ν δ)
-    where
-      before : length (take a xs) ≡ a
-      before = length-take-le a xs (omega (arith, long, l₁, l₂))
-
-      within : length (take (e - a) (dropL a xs)) ≡ e - a
-      within = length-take-le (e - a) (dropL a xs) (omega (arith, long, l₁, l₂, length-drop a xs))
-
-  -- and back
-  pub joins-range : K → Soaks G → (D : Data) (q : Share) (xs : List (D .row .Denot)) (a e b o : ℕ) {ν : ℕ}
-      → Step K W (‵ (row (D .row) q xs b o) ∷ Γ) G (‵ (flft (ν ∷ []) fullShare) ∷ ‵ (RangeKept D q ν xs a e b o) ∷ Γ) G
-  joins-range t z D q xs a e b o = step (λ s. move t (1 ∷ []) $ fsplit t $ move t (1 ∷ []) $ fsplit t $ move t (3 ∷ 2 ∷ []) $
-      row-unshared t z D q (take (e - a) (dropL a xs)) b (place (mem (D .row) .size) o (length (take a xs))) $
-      joins-row t (D .row) q (take (e - a) (dropL a xs)) (dropL (e - a) (dropL a xs)) b (place (mem (D .row) .size) o (length (take a xs))) $ move t (1 ∷ 0 ∷ []) $
-      joins-row t (D .row) q (take a xs) (take (e - a) (dropL a xs) ++ dropL (e - a) (dropL a xs)) b o $
-      rewrite t 0 (λ (zs : List (D .row .Denot)). ‵ (row (D .row) q zs b o)) (sym (three xs a e)) refl $ s)
-
-module _ {M : Type 1} {𝓤 : URA M} {H : Heap 𝓤} {A : Atoms 𝓤} {K : Type 0} {W : Given 𝓤 H A} {Γ : List (Item 𝓤)} {G : Goal 𝓤 H} where
-  -- of an array in memory: `&x.field[a..e]`
-  pub shares-range : K → Soaks G → (D : Data) → Single (D .row .mir) → (q : Share) (n : ℕ) (xs : List (D .row .Denot)) (a e b o p : ℕ) → a ≤ e → e ≤ n → p ≡ place (mem (D .row) .size) o a → Room (D .row) (e - a)
-      → ((ν : ℕ) (δ : GName) → length xs ≡ n → Seq K W (‵ (flft (ν ∷ []) fullShare) ∷ ‵ (ShrS D (ν ∷ []) b p δ (e - a) (take (e - a) (dropL a xs))) ∷ ‵ (RangeKept D q ν xs a e b o) ∷ Γ) G)
-      → Seq K W (‵ (partAt (Array (D .row) n) q xs b o) ∷ Γ) G
-  shares-range t z D one q n xs a e b o p l₁ l₂ ep rm k = elems-of t (D .row) one q n xs b o (λ long. cuts-range t z D q n xs a e b o p l₁ l₂ ep rm long (λ ν δ. k ν δ long))
-
-  -- and back
-  pub range-back : K → Soaks G → (D : Data) (q : Share) (n : ℕ) (xs : List (D .row .Denot)) (a e b o : ℕ) {ν : ℕ} → length xs ≡ n
-      → Step K W (‵ (partAt (Array (D .row) n) q xs b o) ∷ Γ) G (‵ (flft (ν ∷ []) fullShare) ∷ ‵ (RangeKept D q ν xs a e b o) ∷ Γ) G
-  range-back t z D q n xs a e b o long = step (λ s. joins-range t z D q xs a e b o $ array-of t (D .row) q n xs b o long $ s)
-
--- --
 -- ---- the first m elements of an array in memory are lent as a `&mut [D]`
 -- what stays while the first m of xs are lent for ν under δ
 abbrev pub Prefix : (D : Data) → ℕ → List (D .row .Denot) → ℕ → ℕ → ℕ → GName → Fml
