@@ -27,8 +27,9 @@ fn datapoints_well_formed(table: &[Datapoint]) -> bool
     }
     let n = table.len();
     let mut last: u16 = 0;
-    let mut i: usize = 0;
-    while i + 3 < n {
+    let mut left: usize = n;
+    while left > 3 {
+        let i = n - left;
         let a = table[i];
         let b = table[i + 1];
         let c = table[i + 2];
@@ -37,15 +38,15 @@ fn datapoints_well_formed(table: &[Datapoint]) -> bool
             return false;
         }
         last = d.id;
-        i += 4;
+        left -= 4;
     }
-    while i < n {
-        let d = table[i];
+    while left > 0 {
+        let d = table[n - left];
         if !fits_after(d, last) {
             return false;
         }
         last = d.id;
-        i += 1;
+        left -= 1;
     }
     true
 }
@@ -59,8 +60,9 @@ fn items_well_formed(table: &[Item]) -> bool
     }
     let n = table.len();
     let mut last: u16 = 0;
-    let mut i: usize = 0;
-    while i + 3 < n {
+    let mut left: usize = n;
+    while left > 3 {
+        let i = n - left;
         let a = table[i];
         let b = table[i + 1];
         let c = table[i + 2];
@@ -69,15 +71,15 @@ fn items_well_formed(table: &[Item]) -> bool
             return false;
         }
         last = d.id;
-        i += 4;
+        left -= 4;
     }
-    while i < n {
-        let item = table[i];
+    while left > 0 {
+        let item = table[n - left];
         if !item_fits_after(item, last) {
             return false;
         }
         last = item.id;
-        i += 1;
+        left -= 1;
     }
     true
 }

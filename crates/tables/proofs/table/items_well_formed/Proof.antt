@@ -8,7 +8,6 @@ use Rattle.walks.proofs.Loops.{by-measure, stack, val, lets, sets}
 use mathlib.Core.Path.{_≡_, refl, sym, _∙_, ap}
 use Prim.Native.Nat.{ℕ, suc, _<_, _≤_, _*_, _^_, _+_, _-_}
 use native.Mathlib.Omega.{arith}
-use native.Mathlib.Numerals.{add-one}
 use mathlib.Core.Bool.{Bool, true, false, not, _&&_}
 use mathlib.Core.Option.{none, some}
 use mathlib.Core.List.{List, [], _∷_}
@@ -41,7 +40,7 @@ use denote.Triple.Table.{entered, cited}
 use Rattle.baos.specs.declared.item.Item.{Item}
 use Rattle.baos.specs.Item.{itemId, itemOk, zeroItem}
 use Rattle.baos.specs.Table.{tableOk}
-use Rattle.baos.proofs.Types.{itemD, idD, item-id-fits, item-offset-fits, fits-next}
+use Rattle.baos.proofs.Types.{itemD, idD, item-id-fits, item-offset-fits}
 use Rattle.baos.proofs.RisenLaws.{fitsAfter, risen, table-is, too-many, here, four-here, at-end, stops, goes-on}
 use Rattle.masks.proofs.item.item_fits_after as fits
 use Rattle.masks.proofs.item.item_fits_after.Symbol as fits-def
@@ -62,7 +61,7 @@ ps = shrSliceP 1 0 tt itemD ∷ []
 
 -- where local j stands
 abbrev loc : ℕ → ℕ
-loc j = 52 - 2 * j
+loc j = 56 - 2 * j
 
 module _ {M : Type 1} (𝓤 : URA M) (H : Heap 𝓤) (A : Atoms 𝓤) (W : Given 𝓤 H A) (mem : Memory → SProp 𝓤) (run : Routine → Fun 𝓤) (𝓣 : Tables 𝓤 H)
     (known : Triple 𝓤 (𝓣 .C #masks·item·item-fits-after) (tripleOf 𝓤 H A fits.signature (fits.spec 𝓤 H A mem run)))
@@ -94,15 +93,15 @@ module _ {M : Type 1} (𝓤 : URA M) (H : Heap 𝓤) (A : Atoms 𝓤) (W : Given
     abbrev En : Env 𝓤 H
     En = homes 𝓤 H (code.function .locals) l
 
-    -- i records are passed, and the last of them has the ID `last`
+    -- so many records are left, and the last of those that are passed has the ID `last`
     abbrev State : Type 0
-    State = (i : ℕ) × (last : ℕ) × ((i ≤ n) × (last < 2 ^ 16) × (risen itemId itemOk last (dropL i ys) ≡ risen itemId itemOk 0 ys))
+    State = (left : ℕ) × (last : ℕ) × ((left ≤ n) × (last < 2 ^ 16) × (risen itemId itemOk last (dropL (n - left) ys) ≡ risen itemId itemOk 0 ys))
 
     abbrev Inv : State → List (Entry 𝓤)
     Inv s = ‵ (row (itemD .row) sh ys b o) ∷ ‵ (LookS itemD κ q sh (p .name) ys b o) ∷ stack 𝓤 H En (none ∷ some (sliceVal (b, o) n) ∷ some (vint w64 n) ∷ some (vint w16 (s .1)) ∷ some (vint w64 (s .0)) ∷ []) []
 
     abbrev ≺ : State → State → Type 0
-    ≺ s t = n - s .0 < n - t .0
+    ≺ s t = s .0 < t .0
 
     abbrev Left-fours : Kit.Post 𝓤 H
     Left-fours = anyQ (afterBlock 𝓤 H (afterSeq 𝓤 H (Wp 𝓤 H (𝓣 .C) (𝓣 .Λ) En part.t-8 (atReturn 𝓤 H En Done)) (atReturn 𝓤 H En Done)))
@@ -114,34 +113,38 @@ module _ {M : Type 1} (𝓤 : URA M) (H : Heap 𝓤) (A : Atoms 𝓤) (W : Given
       turn : (s : State) → Sq W (Inv s) (runs (𝓣 .C) (𝓣 .Λ) En part.turn-2 (anyQ (afterTurn 𝓤 H (Below 𝓤 H A ≺ Inv s) (Kit.post 𝓤 H Left))))
       unfolding afterTurn
       turn s =
-          lets ! (loc 21) (bin ! (val ! (loc 4) refl) (val ! (loc 2) refl) tt) refl (tt, tt) $
-          tests ! (val ! (loc 21) refl) (λ small.
-          lets ! (loc 22) (bin ! (val ! (loc 4) refl) (lit ! tt) (record { fits = item-offset-fits n i (gn .1) (lt small) })) refl (tt, record { fits = item-offset-fits n i (gn .1) (lt small) }) $
-          lets ! (loc 23) (bin ! (load ! (from ! (fld ! refl (stop !))) (look-in ! (loc 1) (sub ! 0 refl (whole !)))) (val ! (loc 22) refl) tt) refl (tt, tt) $
-          rewrite ! (loc 23) (λ (j : ℕ). ‵ (fat fullShare tyPtr (l .1 .1 .1 .1 .1 .1 .1 .1 .1 .1 .1 .1 .1 .1 .1 .1 .1 .1 .1 .1 .1 .1 .1 .0) 0 (vptr b j))) (sym (place-is 20 o i)) refl $
+          lets ! (loc 22) (bin ! (lit ! tt) (val ! (loc 4) refl) tt) refl (tt, tt) $
+          tests ! (val ! (loc 22) refl) (λ small.
+          lets ! (loc 23) (bin ! (val ! (loc 2) refl) (val ! (loc 4) refl) (s .2 .0)) refl (tt, record { fits = place-fits }) $
+          lets ! (loc 24) (bin ! (val ! (loc 23) refl) (lit ! tt) (record { fits = item-offset-fits n i (gn .1) (lt small) })) refl (tt, record { fits = item-offset-fits n i (gn .1) (lt small) }) $
+          lets ! (loc 25) (bin ! (load ! (from ! (fld ! refl (stop !))) (look-in ! (loc 1) (sub ! 0 refl (whole !)))) (val ! (loc 24) refl) tt) refl (tt, tt) $
+          rewrite ! (loc 25) (λ (j : ℕ). ‵ (fat fullShare tyPtr (l .1 .1 .1 .1 .1 .1 .1 .1 .1 .1 .1 .1 .1 .1 .1 .1 .1 .1 .1 .1 .1 .1 .1 .1 .1 .0) 0 (vptr b j))) (sym (place-is 20 o i)) refl $
           takes-at ! itemD sh ys i zeroItem b o (lt small) (λ g.
-          lets ! (1 + loc 24) (of-opd ! (load ! (from ! (hop ! (look ! (1 + loc 23) refl) (stop !))) (look-raw ! 0 refl))) refl (typed 𝓤 H A itemD W d g .0) $
+          lets ! (1 + loc 26) (of-opd ! (load ! (from ! (hop ! (look ! (1 + loc 25) refl) (stop !))) (look-raw ! 0 refl))) refl (typed 𝓤 H A itemD W d g .0) $
           back-at ! itemD sh ys i zeroItem b o (lt small) g $
-          lets ! (loc 9) (of-opd ! (val ! (loc 24) refl)) refl (typed 𝓤 H A itemD W d g .0) $
+          lets ! (loc 10) (of-opd ! (val ! (loc 26) refl)) refl (typed 𝓤 H A itemD W d g .0) $
           calls-plain ! (fmOf 𝓤 H (W .laws) 𝓣) (itemD ∷ idD ∷ []) boolD (fits.clauses 𝓤 H A mem run) known (d, (last, tt)) tt (g, ((refl, s .2 .1), tt)) (id⊢ 𝓤 _) (fitsAfter itemId itemOk d last) (λ _ _. id⊢ 𝓤 _)
-          (λ _. and-then ! (val ! (1 + loc 9) refl) (and-then ! (val ! (1 + loc 3) refl) (no-more !))) (λ _.
-          land ! (from ! (stop !)) (store ! (loc 21) refl (tt, tt)) $
-          lets ! (loc 25) (un ! (val ! (loc 21) refl) tt) refl (tt, tt) $
-          leaves-early ! (val ! (loc 25) refl) (λ bad.
+          (λ _. and-then ! (val ! (1 + loc 10) refl) (and-then ! (val ! (1 + loc 3) refl) (no-more !))) (λ _.
+          land ! (from ! (stop !)) (store ! (loc 22) refl (tt, tt)) $
+          lets ! (loc 27) (un ! (val ! (loc 22) refl) tt) refl (tt, tt) $
+          leaves-early ! (val ! (loc 27) refl) (λ bad.
           lets ! (loc 0) (of-opd ! (false-lit !)) refl (tt, tt) $
-          shut-slice ! tt itemD sh ys b o $ returns-within ! Done refl (look ! (loc 0) refl) $ behind ! 2 $ frees-all ! (cell ∷ cell ∷ cell ∷ cell ∷ cell ∷ room ∷ room ∷ room ∷ room ∷ room ∷ room ∷ room ∷ room ∷ room ∷ room ∷ room ∷ cell ∷ room ∷ room ∷ room ∷ room ∷ cell ∷ cell ∷ cell ∷ cell ∷ cell ∷ []) _ $
+          shut-slice ! tt itemD sh ys b o $ returns-within ! Done refl (look ! (loc 0) refl) $ behind ! 2 $ frees-all ! (cell ∷ cell ∷ cell ∷ cell ∷ cell ∷ cell ∷ room ∷ room ∷ room ∷ room ∷ room ∷ room ∷ room ∷ room ∷ room ∷ room ∷ room ∷ cell ∷ room ∷ room ∷ room ∷ room ∷ room ∷ cell ∷ cell ∷ cell ∷ cell ∷ cell ∷ []) _ $
           by ! (exits false (stops (fitsAfter itemId itemOk d last) _ (risen itemId itemOk 0 ys) bad (here itemId itemOk zeroItem ys last i (lt small) (s .2 .2)) ∙ sym (table-is itemId itemOk 64 ys few))))
           (λ good.
-          sets ! (loc 3) (of-opd ! (load ! (from ! (fld ! refl (stop !))) (look-in ! (loc 9) (sub ! 0 refl (whole !))))) refl (tt, record { fits = id-lt g }) $
-          assigns-last ! (bin ! (val ! (loc 4) refl) (lit ! tt) (record { fits = fits-next i n (gn .0) (lt small) })) (from ! (stop !)) (store ! (loc 4) refl (tt, record { fits = fits-next i n (gn .0) (lt small) })) $
-          forget ! (loc 9) refl $ forget ! (loc 21) refl $ forget ! (loc 22) refl $ forget ! (loc 23) refl $ forget ! (loc 24) refl $ forget ! (loc 25) refl $
-          again ! ≺ Inv s (i + 1, d .id, (omega (arith, lt small), id-lt g, passed (lt small) good)) (omega (arith, lt small))))))
+          sets ! (loc 3) (of-opd ! (load ! (from ! (fld ! refl (stop !))) (look-in ! (loc 10) (sub ! 0 refl (whole !))))) refl (tt, record { fits = id-lt g }) $
+          assigns-last ! (bin ! (val ! (loc 4) refl) (lit ! tt) (some-left small)) (from ! (stop !)) (store ! (loc 4) refl (tt, record { fits = fewer-fit })) $
+          forget ! (loc 10) refl $ forget ! (loc 22) refl $ forget ! (loc 23) refl $ forget ! (loc 24) refl $ forget ! (loc 25) refl $ forget ! (loc 26) refl $ forget ! (loc 27) refl $
+          again ! ≺ Inv s (left - 1, d .id, (omega (arith, s .2 .0), id-lt g, passed small good)) (omega (arith, some-left small))))))
           (λ big. exec ! (𝓣 .C) (𝓣 .Λ) En part.t-9 (atRet En Done) $ lets ! (loc 0) (of-opd ! (true-lit !)) refl (tt, tt) $
-          shut-slice ! tt itemD sh ys b o $ returns ! (look ! (loc 0) refl) $ behind ! 2 $ frees-all ! (room ∷ room ∷ room ∷ room ∷ cell ∷ room ∷ room ∷ room ∷ room ∷ room ∷ room ∷ room ∷ room ∷ room ∷ room ∷ room ∷ room ∷ room ∷ room ∷ room ∷ room ∷ cell ∷ cell ∷ cell ∷ cell ∷ cell ∷ []) _ $
-          by ! (exits true (at-end itemId itemOk ys last i (nltb→le i n big) (s .2 .2) ∙ sym (table-is itemId itemOk 64 ys few))))
+          shut-slice ! tt itemD sh ys b o $ returns ! (look ! (loc 0) refl) $ behind ! 2 $ frees-all ! (room ∷ room ∷ room ∷ room ∷ room ∷ cell ∷ room ∷ room ∷ room ∷ room ∷ room ∷ room ∷ room ∷ room ∷ room ∷ room ∷ room ∷ room ∷ room ∷ room ∷ room ∷ room ∷ room ∷ cell ∷ cell ∷ cell ∷ cell ∷ cell ∷ []) _ $
+          by ! (exits true (at-end itemId itemOk ys last i (all-passed big) (s .2 .2) ∙ sym (table-is itemId itemOk 64 ys few))))
         where
+          left : ℕ
+          left = s .0
+
           i : ℕ
-          i = s .0
+          i = n - left
 
           last : ℕ
           last = s .1
@@ -149,73 +152,91 @@ module _ {M : Type 1} (𝓤 : URA M) (H : Heap 𝓤) (A : Atoms 𝓤) (W : Given
           d : Item
           d = getD ys i zeroItem
 
-          lt : Holds (ltb i n) → i < n
-          lt t = ltb→lt i n t
+          some-left : Holds (ltb 0 left) → 1 ≤ left
+          some-left t = ltb→lt 0 left t
+
+          lt : Holds (ltb 0 left) → i < n
+          lt t = omega (arith, some-left t, s .2 .0)
+
+          place-fits : i < 2 ^ 64
+          place-fits = omega (arith, few)
+
+          fewer-fit : left - 1 < 2 ^ 64
+          fewer-fit = omega (arith, s .2 .0, few)
+
+          one-more : 1 ≤ left → n - (left - 1) ≡ suc i
+          one-more l = omega (arith, l, s .2 .0)
+
+          all-passed : Holds (not (ltb 0 left)) → n ≤ i
+          all-passed t = omega (arith, nltb→le 0 left t)
 
           id-lt : Good itemD d → d .id < 2 ^ 16
           id-lt g = item-id-fits d g
 
-          passed : i < n → Holds (not (not (fitsAfter itemId itemOk d last))) → risen itemId itemOk (d .id) (dropL (i + 1) ys) ≡ risen itemId itemOk 0 ys
-          passed l t = ap (λ (u : ℕ). risen itemId itemOk (d .id) (dropL u ys)) (add-one i) ∙ goes-on (fitsAfter itemId itemOk d last) (risen itemId itemOk (d .id) (dropL (suc i) ys)) (risen itemId itemOk 0 ys) t (here itemId itemOk zeroItem ys last i l (s .2 .2))
+          passed : Holds (ltb 0 left) → Holds (not (not (fitsAfter itemId itemOk d last))) → risen itemId itemOk (d .id) (dropL (n - (left - 1)) ys) ≡ risen itemId itemOk 0 ys
+          passed h t = let l : i < n = lt h in ap (λ (u : ℕ). risen itemId itemOk (d .id) (dropL u ys)) (one-more (some-left h)) ∙ goes-on (fitsAfter itemId itemOk d last) (risen itemId itemOk (d .id) (dropL (suc i) ys)) (risen itemId itemOk 0 ys) t (here itemId itemOk zeroItem ys last i l (s .2 .2))
 
       -- the records that are left, one a turn
       circles : (s : State) → Sq W (Inv s) (runs (𝓣 .C) (𝓣 .Λ) En part.t-8 (atRet En Done))
-      circles s = first ! $ blocks ! $ loops ! 𝓣 ≺ (by-measure (λ (s : State). n - s .0)) Inv turn s
+      circles s = first ! $ blocks ! $ loops ! 𝓣 ≺ (by-measure (λ (s : State). s .0)) Inv turn s
 
       turn-fours : (s : State) → Sq W (Inv s) (runs (𝓣 .C) (𝓣 .Λ) En part.turn-1 (anyQ (afterTurn 𝓤 H (Below 𝓤 H A ≺ Inv s) (Kit.post 𝓤 H Left-fours))))
       unfolding afterTurn
       turn-fours s =
-          lets ! (loc 12) (bin ! (val ! (loc 4) refl) (lit ! tt) (record { fits = test-fits })) refl (tt, record { fits = test-fits }) $
-          lets ! (loc 13) (bin ! (val ! (loc 12) refl) (val ! (loc 2) refl) tt) refl (tt, tt) $
+          lets ! (loc 13) (bin ! (lit ! tt) (val ! (loc 4) refl) tt) refl (tt, tt) $
           tests ! (val ! (loc 13) refl) (λ small.
-          sets ! (loc 12) (bin ! (val ! (loc 4) refl) (lit ! tt) (record { fits = item-offset-fits n i (gn .1) (in0 small) })) refl (tt, record { fits = item-offset-fits n i (gn .1) (in0 small) }) $
-          lets ! (loc 14) (bin ! (load ! (from ! (fld ! refl (stop !))) (look-in ! (loc 1) (sub ! 0 refl (whole !)))) (val ! (loc 12) refl) tt) refl (tt, tt) $
-          rewrite ! (loc 14) (λ (j : ℕ). ‵ (fat fullShare tyPtr (l .1 .1 .1 .1 .1 .1 .1 .1 .1 .1 .1 .1 .1 .1 .0) 0 (vptr b j))) (sym (place-is 20 o i)) refl $
+          lets ! (loc 5) (bin ! (val ! (loc 2) refl) (val ! (loc 4) refl) (s .2 .0)) refl (tt, record { fits = place-fits }) $
+          lets ! (loc 14) (bin ! (val ! (loc 5) refl) (lit ! tt) (record { fits = item-offset-fits n i (gn .1) (in0 small) })) refl (tt, record { fits = item-offset-fits n i (gn .1) (in0 small) }) $
+          lets ! (loc 15) (bin ! (load ! (from ! (fld ! refl (stop !))) (look-in ! (loc 1) (sub ! 0 refl (whole !)))) (val ! (loc 14) refl) tt) refl (tt, tt) $
+          rewrite ! (loc 15) (λ (j : ℕ). ‵ (fat fullShare tyPtr (l .1 .1 .1 .1 .1 .1 .1 .1 .1 .1 .1 .1 .1 .1 .1 .0) 0 (vptr b j))) (sym (place-is 20 o i)) refl $
           takes-at ! itemD sh ys i zeroItem b o (in0 small) (λ g0.
-          lets ! (1 + loc 15) (of-opd ! (load ! (from ! (hop ! (look ! (1 + loc 14) refl) (stop !))) (look-raw ! 0 refl))) refl (typed 𝓤 H A itemD W d0 g0 .0) $
+          lets ! (1 + loc 16) (of-opd ! (load ! (from ! (hop ! (look ! (1 + loc 15) refl) (stop !))) (look-raw ! 0 refl))) refl (typed 𝓤 H A itemD W d0 g0 .0) $
           back-at ! itemD sh ys i zeroItem b o (in0 small) g0 $
-          lets ! (loc 5) (of-opd ! (val ! (loc 15) refl)) refl (typed 𝓤 H A itemD W d0 g0 .0) $
-          sets ! (loc 12) (bin ! (val ! (loc 4) refl) (lit ! tt) (record { fits = plus-fits (in1 small) })) refl (tt, record { fits = plus-fits (in1 small) }) $
-          lets ! (loc 16) (bin ! (val ! (loc 12) refl) (lit ! tt) (record { fits = item-offset-fits n (i + 1) (gn .1) (in1 small) })) refl (tt, record { fits = item-offset-fits n (i + 1) (gn .1) (in1 small) }) $
-          lets ! (loc 17) (bin ! (load ! (from ! (fld ! refl (stop !))) (look-in ! (loc 1) (sub ! 0 refl (whole !)))) (val ! (loc 16) refl) tt) refl (tt, tt) $
-          rewrite ! (loc 17) (λ (j : ℕ). ‵ (fat fullShare tyPtr (l .1 .1 .1 .1 .1 .1 .1 .1 .1 .1 .1 .1 .1 .1 .1 .1 .1 .0) 0 (vptr b j))) (sym (place-is 20 o (i + 1))) refl $
+          lets ! (loc 6) (of-opd ! (val ! (loc 16) refl)) refl (typed 𝓤 H A itemD W d0 g0 .0) $
+          sets ! (loc 14) (bin ! (val ! (loc 5) refl) (lit ! tt) (record { fits = plus-fits (in1 small) })) refl (tt, record { fits = plus-fits (in1 small) }) $
+          lets ! (loc 17) (bin ! (val ! (loc 14) refl) (lit ! tt) (record { fits = item-offset-fits n (i + 1) (gn .1) (in1 small) })) refl (tt, record { fits = item-offset-fits n (i + 1) (gn .1) (in1 small) }) $
+          lets ! (loc 18) (bin ! (load ! (from ! (fld ! refl (stop !))) (look-in ! (loc 1) (sub ! 0 refl (whole !)))) (val ! (loc 17) refl) tt) refl (tt, tt) $
+          rewrite ! (loc 18) (λ (j : ℕ). ‵ (fat fullShare tyPtr (l .1 .1 .1 .1 .1 .1 .1 .1 .1 .1 .1 .1 .1 .1 .1 .1 .1 .1 .0) 0 (vptr b j))) (sym (place-is 20 o (i + 1))) refl $
           takes-at ! itemD sh ys (i + 1) zeroItem b o (in1 small) (λ g1.
-          sets ! (1 + loc 15) (of-opd ! (load ! (from ! (hop ! (look ! (1 + loc 17) refl) (stop !))) (look-raw ! 0 refl))) refl (typed 𝓤 H A itemD W d1 g1 .0) $
+          sets ! (1 + loc 16) (of-opd ! (load ! (from ! (hop ! (look ! (1 + loc 18) refl) (stop !))) (look-raw ! 0 refl))) refl (typed 𝓤 H A itemD W d1 g1 .0) $
           back-at ! itemD sh ys (i + 1) zeroItem b o (in1 small) g1 $
-          lets ! (loc 6) (of-opd ! (val ! (loc 15) refl)) refl (typed 𝓤 H A itemD W d1 g1 .0) $
-          sets ! (loc 12) (bin ! (val ! (loc 4) refl) (lit ! tt) (record { fits = plus-fits (in2 small) })) refl (tt, record { fits = plus-fits (in2 small) }) $
-          sets ! (loc 16) (bin ! (val ! (loc 12) refl) (lit ! tt) (record { fits = item-offset-fits n (i + 2) (gn .1) (in2 small) })) refl (tt, record { fits = item-offset-fits n (i + 2) (gn .1) (in2 small) }) $
-          lets ! (loc 18) (bin ! (load ! (from ! (fld ! refl (stop !))) (look-in ! (loc 1) (sub ! 0 refl (whole !)))) (val ! (loc 16) refl) tt) refl (tt, tt) $
-          rewrite ! (loc 18) (λ (j : ℕ). ‵ (fat fullShare tyPtr (l .1 .1 .1 .1 .1 .1 .1 .1 .1 .1 .1 .1 .1 .1 .1 .1 .1 .1 .0) 0 (vptr b j))) (sym (place-is 20 o (i + 2))) refl $
+          lets ! (loc 7) (of-opd ! (val ! (loc 16) refl)) refl (typed 𝓤 H A itemD W d1 g1 .0) $
+          sets ! (loc 14) (bin ! (val ! (loc 5) refl) (lit ! tt) (record { fits = plus-fits (in2 small) })) refl (tt, record { fits = plus-fits (in2 small) }) $
+          sets ! (loc 17) (bin ! (val ! (loc 14) refl) (lit ! tt) (record { fits = item-offset-fits n (i + 2) (gn .1) (in2 small) })) refl (tt, record { fits = item-offset-fits n (i + 2) (gn .1) (in2 small) }) $
+          lets ! (loc 19) (bin ! (load ! (from ! (fld ! refl (stop !))) (look-in ! (loc 1) (sub ! 0 refl (whole !)))) (val ! (loc 17) refl) tt) refl (tt, tt) $
+          rewrite ! (loc 19) (λ (j : ℕ). ‵ (fat fullShare tyPtr (l .1 .1 .1 .1 .1 .1 .1 .1 .1 .1 .1 .1 .1 .1 .1 .1 .1 .1 .1 .0) 0 (vptr b j))) (sym (place-is 20 o (i + 2))) refl $
           takes-at ! itemD sh ys (i + 2) zeroItem b o (in2 small) (λ g2.
-          sets ! (1 + loc 15) (of-opd ! (load ! (from ! (hop ! (look ! (1 + loc 18) refl) (stop !))) (look-raw ! 0 refl))) refl (typed 𝓤 H A itemD W d2 g2 .0) $
+          sets ! (1 + loc 16) (of-opd ! (load ! (from ! (hop ! (look ! (1 + loc 19) refl) (stop !))) (look-raw ! 0 refl))) refl (typed 𝓤 H A itemD W d2 g2 .0) $
           back-at ! itemD sh ys (i + 2) zeroItem b o (in2 small) g2 $
-          lets ! (loc 7) (of-opd ! (val ! (loc 15) refl)) refl (typed 𝓤 H A itemD W d2 g2 .0) $
-          sets ! (loc 12) (bin ! (val ! (loc 4) refl) (lit ! tt) (record { fits = plus-fits (in3 small) })) refl (tt, record { fits = plus-fits (in3 small) }) $
-          sets ! (loc 16) (bin ! (val ! (loc 12) refl) (lit ! tt) (record { fits = item-offset-fits n (i + 3) (gn .1) (in3 small) })) refl (tt, record { fits = item-offset-fits n (i + 3) (gn .1) (in3 small) }) $
-          lets ! (loc 19) (bin ! (load ! (from ! (fld ! refl (stop !))) (look-in ! (loc 1) (sub ! 0 refl (whole !)))) (val ! (loc 16) refl) tt) refl (tt, tt) $
-          rewrite ! (loc 19) (λ (j : ℕ). ‵ (fat fullShare tyPtr (l .1 .1 .1 .1 .1 .1 .1 .1 .1 .1 .1 .1 .1 .1 .1 .1 .1 .1 .1 .0) 0 (vptr b j))) (sym (place-is 20 o (i + 3))) refl $
+          lets ! (loc 8) (of-opd ! (val ! (loc 16) refl)) refl (typed 𝓤 H A itemD W d2 g2 .0) $
+          sets ! (loc 14) (bin ! (val ! (loc 5) refl) (lit ! tt) (record { fits = plus-fits (in3 small) })) refl (tt, record { fits = plus-fits (in3 small) }) $
+          sets ! (loc 17) (bin ! (val ! (loc 14) refl) (lit ! tt) (record { fits = item-offset-fits n (i + 3) (gn .1) (in3 small) })) refl (tt, record { fits = item-offset-fits n (i + 3) (gn .1) (in3 small) }) $
+          lets ! (loc 20) (bin ! (load ! (from ! (fld ! refl (stop !))) (look-in ! (loc 1) (sub ! 0 refl (whole !)))) (val ! (loc 17) refl) tt) refl (tt, tt) $
+          rewrite ! (loc 20) (λ (j : ℕ). ‵ (fat fullShare tyPtr (l .1 .1 .1 .1 .1 .1 .1 .1 .1 .1 .1 .1 .1 .1 .1 .1 .1 .1 .1 .1 .0) 0 (vptr b j))) (sym (place-is 20 o (i + 3))) refl $
           takes-at ! itemD sh ys (i + 3) zeroItem b o (in3 small) (λ g3.
-          sets ! (1 + loc 15) (of-opd ! (load ! (from ! (hop ! (look ! (1 + loc 19) refl) (stop !))) (look-raw ! 0 refl))) refl (typed 𝓤 H A itemD W d3 g3 .0) $
+          sets ! (1 + loc 16) (of-opd ! (load ! (from ! (hop ! (look ! (1 + loc 20) refl) (stop !))) (look-raw ! 0 refl))) refl (typed 𝓤 H A itemD W d3 g3 .0) $
           back-at ! itemD sh ys (i + 3) zeroItem b o (in3 small) g3 $
-          lets ! (loc 8) (of-opd ! (val ! (loc 15) refl)) refl (typed 𝓤 H A itemD W d3 g3 .0) $
+          lets ! (loc 9) (of-opd ! (val ! (loc 16) refl)) refl (typed 𝓤 H A itemD W d3 g3 .0) $
           calls-plain ! (fmOf 𝓤 H (W .laws) 𝓣) (itemD ∷ itemD ∷ itemD ∷ itemD ∷ idD ∷ []) boolD (four-fit.clauses 𝓤 H A mem run) known-four (d0, (d1, (d2, (d3, (last, tt))))) tt (g0, (g1, (g2, (g3, ((refl, s .2 .1), tt))))) (id⊢ 𝓤 _) all-fit (λ _ _. id⊢ 𝓤 _)
-          (λ _. and-then ! (val ! (1 + loc 5) refl) (and-then ! (val ! (1 + loc 6) refl) (and-then ! (val ! (1 + loc 7) refl) (and-then ! (val ! (1 + loc 8) refl) (and-then ! (val ! (1 + loc 3) refl) (no-more !)))))) (λ _.
+          (λ _. and-then ! (val ! (1 + loc 6) refl) (and-then ! (val ! (1 + loc 7) refl) (and-then ! (val ! (1 + loc 8) refl) (and-then ! (val ! (1 + loc 9) refl) (and-then ! (val ! (1 + loc 3) refl) (no-more !)))))) (λ _.
           land ! (from ! (stop !)) (store ! (loc 13) refl (tt, tt)) $
-          lets ! (loc 20) (un ! (val ! (loc 13) refl) tt) refl (tt, tt) $
-          leaves-early ! (val ! (loc 20) refl) (λ bad.
+          lets ! (loc 21) (un ! (val ! (loc 13) refl) tt) refl (tt, tt) $
+          leaves-early ! (val ! (loc 21) refl) (λ bad.
           lets ! (loc 0) (of-opd ! (false-lit !)) refl (tt, tt) $
-          shut-slice ! tt itemD sh ys b o $ returns-within ! Done refl (look ! (loc 0) refl) $ behind ! 2 $ frees-all ! (room ∷ room ∷ room ∷ room ∷ room ∷ cell ∷ cell ∷ cell ∷ cell ∷ cell ∷ cell ∷ cell ∷ cell ∷ cell ∷ room ∷ room ∷ room ∷ cell ∷ cell ∷ cell ∷ cell ∷ cell ∷ cell ∷ cell ∷ cell ∷ cell ∷ []) _ $
+          shut-slice ! tt itemD sh ys b o $ returns-within ! Done refl (look ! (loc 0) refl) $ behind ! 2 $ frees-all ! (room ∷ room ∷ room ∷ room ∷ room ∷ room ∷ cell ∷ cell ∷ cell ∷ cell ∷ cell ∷ cell ∷ cell ∷ cell ∷ cell ∷ room ∷ room ∷ room ∷ cell ∷ cell ∷ cell ∷ cell ∷ cell ∷ cell ∷ cell ∷ cell ∷ cell ∷ cell ∷ []) _ $
           by ! (exits false (stops all-fit _ (risen itemId itemOk 0 ys) bad (four-here itemId itemOk zeroItem ys last i (in3 small) (s .2 .2)) ∙ sym (table-is itemId itemOk 64 ys few))))
           (λ good.
-          sets ! (loc 3) (of-opd ! (load ! (from ! (fld ! refl (stop !))) (look-in ! (loc 8) (sub ! 0 refl (whole !))))) refl (tt, record { fits = item-id-fits d3 g3 }) $
-          assigns-last ! (bin ! (val ! (loc 4) refl) (lit ! tt) (record { fits = next-fits (in3 small) })) (from ! (stop !)) (store ! (loc 4) refl (tt, record { fits = next-fits (in3 small) })) $
-          forget ! (loc 5) refl $ forget ! (loc 6) refl $ forget ! (loc 7) refl $ forget ! (loc 8) refl $ forget ! (loc 12) refl $ forget ! (loc 13) refl $ forget ! (loc 14) refl $ forget ! (loc 15) refl $ forget ! (loc 16) refl $ forget ! (loc 17) refl $ forget ! (loc 18) refl $ forget ! (loc 19) refl $ forget ! (loc 20) refl $
-          again ! ≺ Inv s (i + 4, d3 .id, (omega (arith, in3 small), item-id-fits d3 g3, goes-on all-fit (risen itemId itemOk (d3 .id) (dropL (i + 4) ys)) (risen itemId itemOk 0 ys) good (four-here itemId itemOk zeroItem ys last i (in3 small) (s .2 .2)))) (omega (arith, in3 small)))))))))
-          (λ _. exec ! (𝓣 .C) (𝓣 .Λ) En part.t-8 (atRet En Done) $ forget ! (loc 12) refl $ forget ! (loc 13) refl $ circles s)
+          sets ! (loc 3) (of-opd ! (load ! (from ! (fld ! refl (stop !))) (look-in ! (loc 9) (sub ! 0 refl (whole !))))) refl (tt, record { fits = item-id-fits d3 g3 }) $
+          assigns-last ! (bin ! (val ! (loc 4) refl) (lit ! tt) (four-left small)) (from ! (stop !)) (store ! (loc 4) refl (tt, record { fits = fewer-fit })) $
+          forget ! (loc 5) refl $ forget ! (loc 6) refl $ forget ! (loc 7) refl $ forget ! (loc 8) refl $ forget ! (loc 9) refl $ forget ! (loc 13) refl $ forget ! (loc 14) refl $ forget ! (loc 15) refl $ forget ! (loc 16) refl $ forget ! (loc 17) refl $ forget ! (loc 18) refl $ forget ! (loc 19) refl $ forget ! (loc 20) refl $ forget ! (loc 21) refl $
+          again ! ≺ Inv s (left - 4, d3 .id, (omega (arith, s .2 .0), item-id-fits d3 g3, ap (λ (u : ℕ). risen itemId itemOk (d3 .id) (dropL u ys)) (four-more (four-left small)) ∙ goes-on all-fit (risen itemId itemOk (d3 .id) (dropL (i + 4) ys)) (risen itemId itemOk 0 ys) good (four-here itemId itemOk zeroItem ys last i (in3 small) (s .2 .2)))) (omega (arith, four-left small)))))))))
+          (λ _. exec ! (𝓣 .C) (𝓣 .Λ) En part.t-8 (atRet En Done) $ forget ! (loc 13) refl $ circles s)
         where
+          left : ℕ
+          left = s .0
+
           i : ℕ
-          i = s .0
+          i = n - left
 
           last : ℕ
           last = s .1
@@ -235,50 +256,56 @@ module _ {M : Type 1} (𝓤 : URA M) (H : Heap 𝓤) (A : Atoms 𝓤) (W : Given
           all-fit : Bool
           all-fit = fitsAfter itemId itemOk d0 last && (fitsAfter itemId itemOk d1 (d0 .id) && (fitsAfter itemId itemOk d2 (d1 .id) && fitsAfter itemId itemOk d3 (d2 .id)))
 
-          test-fits : i + 3 < 2 ^ 64
-          test-fits = omega (arith, s .2 .0, few)
+          four-left : Holds (ltb 3 left) → 4 ≤ left
+          four-left t = ltb→lt 3 left t
 
-          in3 : Holds (ltb (i + 3) n) → i + 3 < n
-          in3 t = ltb→lt (i + 3) n t
+          place-fits : i < 2 ^ 64
+          place-fits = omega (arith, few)
 
-          in2 : Holds (ltb (i + 3) n) → i + 2 < n
+          fewer-fit : left - 4 < 2 ^ 64
+          fewer-fit = omega (arith, s .2 .0, few)
+
+          four-more : 4 ≤ left → n - (left - 4) ≡ i + 4
+          four-more l = omega (arith, l, s .2 .0)
+
+          in3 : Holds (ltb 3 left) → i + 3 < n
+          in3 t = omega (arith, four-left t, s .2 .0)
+
+          in2 : Holds (ltb 3 left) → i + 2 < n
           in2 t = omega (arith, in3 t)
 
-          in1 : Holds (ltb (i + 3) n) → i + 1 < n
+          in1 : Holds (ltb 3 left) → i + 1 < n
           in1 t = omega (arith, in3 t)
 
-          in0 : Holds (ltb (i + 3) n) → i < n
+          in0 : Holds (ltb 3 left) → i < n
           in0 t = omega (arith, in3 t)
 
           plus-fits : {j : ℕ} → j < n → j < 2 ^ 64
           plus-fits l = omega (arith, l, few)
 
-          next-fits : i + 3 < n → i + 4 < 2 ^ 64
-          next-fits l = omega (arith, l, few)
-
       abbrev start : State
-      start = (0, 0, (omega arith, lit< tt, refl))
+      start = (n, 0, (omega arith, lit< tt, ap (λ (u : ℕ). risen itemId itemOk 0 (dropL u ys)) {x = n - n} {y = 0} (omega arith)))
 
       circles-fours : Sq W (Inv start) (runs (𝓣 .C) (𝓣 .Λ) En part.t-7 (atRet En Done))
-      circles-fours = first ! $ blocks ! $ loops ! 𝓣 ≺ (by-measure (λ (s : State). n - s .0)) Inv turn-fours start
+      circles-fours = first ! $ blocks ! $ loops ! 𝓣 ≺ (by-measure (λ (s : State). s .0)) Inv turn-fours start
 
     begins : Sq W (‵ (row (itemD .row) sh ys b o) ∷ ‵ (LookS itemD κ q sh (p .name) ys b o) ∷ stack 𝓤 H En (none ∷ some (sliceVal (b, o) n) ∷ []) []) (runs (𝓣 .C) (𝓣 .Λ) En part.t-1 (atRet En Done))
     begins =
-        lets ! (loc 10) (of-opd ! (load ! (from ! (fld ! refl (stop !))) (look-in ! (loc 1) (sub ! 1 refl (whole !))))) refl (tt, record { fits = gn .0 }) $
-        lets ! (loc 11) (bin ! (lit ! tt) (val ! (loc 10) refl) tt) refl (tt, tt) $
-        leaves-early ! (val ! (loc 11) refl) (λ many.
+        lets ! (loc 11) (of-opd ! (load ! (from ! (fld ! refl (stop !))) (look-in ! (loc 1) (sub ! 1 refl (whole !))))) refl (tt, record { fits = gn .0 }) $
+        lets ! (loc 12) (bin ! (lit ! tt) (val ! (loc 11) refl) tt) refl (tt, tt) $
+        leaves-early ! (val ! (loc 12) refl) (λ many.
         lets ! (loc 0) (of-opd ! (false-lit !)) refl (tt, tt) $
-        shut-slice ! tt itemD sh ys b o $ returns-within ! Done refl (look ! (loc 0) refl) $ behind ! 2 $ frees-all ! (room ∷ room ∷ room ∷ room ∷ room ∷ room ∷ room ∷ room ∷ room ∷ room ∷ room ∷ room ∷ room ∷ room ∷ cell ∷ cell ∷ room ∷ room ∷ room ∷ room ∷ room ∷ room ∷ room ∷ room ∷ cell ∷ cell ∷ []) _ $
+        shut-slice ! tt itemD sh ys b o $ returns-within ! Done refl (look ! (loc 0) refl) $ behind ! 2 $ frees-all ! (room ∷ room ∷ room ∷ room ∷ room ∷ room ∷ room ∷ room ∷ room ∷ room ∷ room ∷ room ∷ room ∷ room ∷ room ∷ cell ∷ cell ∷ room ∷ room ∷ room ∷ room ∷ room ∷ room ∷ room ∷ room ∷ room ∷ cell ∷ cell ∷ []) _ $
         by ! (exits false (too-many itemId itemOk 64 ys (ltb→lt 64 n many))))
         (λ few.
         lets ! (loc 2) (of-opd ! (load ! (from ! (fld ! refl (stop !))) (look-in ! (loc 1) (sub ! 1 refl (whole !))))) refl (tt, record { fits = gn .0 }) $
-        lets ! (loc 3) (of-opd ! (lit ! tt)) refl (tt, record { fits = lit< tt }) $ lets ! (loc 4) (of-opd ! (lit ! tt)) refl (tt, record { fits = lit< tt }) $
-        forget ! (loc 10) refl $ forget ! (loc 11) refl $ circles-fours (nltb→le 64 n few))
+        lets ! (loc 3) (of-opd ! (lit ! tt)) refl (tt, record { fits = lit< tt }) $ lets ! (loc 4) (of-opd ! (val ! (loc 2) refl)) refl (tt, record { fits = gn .0 }) $
+        forget ! (loc 11) refl $ forget ! (loc 12) refl $ circles-fours (nltb→le 64 n few))
 
   walk : Walk 1 𝓤 H A W ps boolD (f.clauses 𝓤 H A mem run) 𝓣 code.function (κ, tt) (q, tt) x tt
   walk =
       starts 𝓤 H A W 1 ps (κ, tt) (q, tt) x ∵ enter ! (𝓣 .C) (𝓣 .Λ) code.function _ _ $ allocs-all ! (code.function .locals) (λ l. params1 ! $
-      pass1 ! (init ! 48 refl (tt, (tt, (record { fits = gn .0 }, tt)))) $ pass0 ! $ move ! (53 ∷ 52 ∷ []) $ looked-slice ! tt itemD ys b o (λ sh _. begins sh l))
+      pass1 ! (init ! 52 refl (tt, (tt, (record { fits = gn .0 }, tt)))) $ pass0 ! $ move ! (57 ∷ 56 ∷ []) $ looked-slice ! tt itemD ys b o (λ sh _. begins sh l))
 
 pub items-well-formed-spec : {M : Type 1} → stated.statement M
 unfolding code.routine tablesOf
