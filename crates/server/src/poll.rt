@@ -13,8 +13,8 @@ use baos::datapoint::Datapoint;
 use calls::reply::Reply;
 use ft12::record::Link;
 use link::events::take_message;
-use link::request::INDICATION_AT;
-use link::request::INDICATION_FRAME_AT;
+use rules::request::INDICATION_AT;
+use rules::request::INDICATION_FRAME_AT;
 use services::indication::indicate;
 
 // A poll. With nothing outstanding, the indication is built in the output behind the room for its frame's head, and
