@@ -12,10 +12,10 @@ use baos::datapoint::Datapoint;
 use baos::inner::Told;
 use baos::service::MESSAGE_HEAD;
 use baos::service::ROOM_FOR_ENTRIES;
+use entries::entry::put_value;
 use messages::message::put_indication_head;
 use records::datapoint::reported;
-use records::entry::put_value;
-use records::value::size_of;
+use values::value::size_of;
 
 // Whether a marked datapoint has to wait: its entry does not fit between `end` and `most`.
 fn waits(d: Datapoint, end: usize, most: usize) -> bool

@@ -1,4 +1,3 @@
 // A message carried out, and the indication.
-pub mod bus;
 pub mod indication;
 pub mod service;

@@ -58,18 +58,18 @@ use Rattle.tables.proofs.table.datapoint_at as datapoint-at
 use Rattle.tables.proofs.table.datapoint_at.Symbol as datapoint-at-def
 use Rattle.tables.proofs.table.datapoint_at.Symbol.{name as #tables·table·datapoint-at}
 use Rattle.tables.proofs.table.datapoint_at.Met as datapoint-at-thm
-use Rattle.services.proofs.bus.takes_event as takes-event
-use Rattle.services.proofs.bus.takes_event.Symbol as takes-event-def
-use Rattle.services.proofs.bus.takes_event.Symbol.{name as #services·bus·takes-event}
-use Rattle.services.proofs.bus.takes_event.Met as takes-event-thm
-use Rattle.services.proofs.bus.after_event as after-event
-use Rattle.services.proofs.bus.after_event.Symbol as after-event-def
-use Rattle.services.proofs.bus.after_event.Symbol.{name as #services·bus·after-event}
-use Rattle.services.proofs.bus.after_event.Met as after-event-thm
-use Rattle.services.proofs.bus.after_byte as after-byte
-use Rattle.services.proofs.bus.after_byte.Symbol as after-byte-def
-use Rattle.services.proofs.bus.after_byte.Symbol.{name as #services·bus·after-byte}
-use Rattle.services.proofs.bus.after_byte.Met as after-byte-thm
+use Rattle.records.proofs.bus.takes_event as takes-event
+use Rattle.records.proofs.bus.takes_event.Symbol as takes-event-def
+use Rattle.records.proofs.bus.takes_event.Symbol.{name as #records·bus·takes-event}
+use Rattle.records.proofs.bus.takes_event.Met as takes-event-thm
+use Rattle.records.proofs.bus.after_event as after-event
+use Rattle.records.proofs.bus.after_event.Symbol as after-event-def
+use Rattle.records.proofs.bus.after_event.Symbol.{name as #records·bus·after-event}
+use Rattle.records.proofs.bus.after_event.Met as after-event-thm
+use Rattle.records.proofs.bus.after_byte as after-byte
+use Rattle.records.proofs.bus.after_byte.Symbol as after-byte-def
+use Rattle.records.proofs.bus.after_byte.Symbol.{name as #records·bus·after-byte}
+use Rattle.records.proofs.bus.after_byte.Met as after-byte-thm
 use Rattle.tables.proofs.table.put_datapoint_at as put-datapoint-at
 use Rattle.tables.proofs.table.put_datapoint_at.Symbol as put-datapoint-at-def
 use Rattle.tables.proofs.table.put_datapoint_at.Symbol.{name as #tables·table·put-datapoint-at}
@@ -113,9 +113,9 @@ accepted-0 = EL.owes R.the-type R′.the-laws (Accepted 0) ((refl, lit< tt), tt)
 module _ {M : Type 1} (𝓤 : URA M) (H : Heap 𝓤) (A : Atoms 𝓤) (W : Given 𝓤 H A) (mem : Memory → SProp 𝓤) (run : Routine → Fun 𝓤) (𝓣 : Tables 𝓤 H)
     (known-datapoint-place : Triple 𝓤 (𝓣 .C #tables·table·datapoint-place) (C-datapoint-place 𝓤 H A mem run))
     (known-datapoint-at : Triple 𝓤 (𝓣 .C #tables·table·datapoint-at) (C-datapoint-at 𝓤 H A mem run))
-    (known-takes-event : Triple 𝓤 (𝓣 .C #services·bus·takes-event) (C-takes-event 𝓤 H A mem run))
-    (known-after-event : Triple 𝓤 (𝓣 .C #services·bus·after-event) (C-after-event 𝓤 H A mem run))
-    (known-after-byte : Triple 𝓤 (𝓣 .C #services·bus·after-byte) (C-after-byte 𝓤 H A mem run))
+    (known-takes-event : Triple 𝓤 (𝓣 .C #records·bus·takes-event) (C-takes-event 𝓤 H A mem run))
+    (known-after-event : Triple 𝓤 (𝓣 .C #records·bus·after-event) (C-after-event 𝓤 H A mem run))
+    (known-after-byte : Triple 𝓤 (𝓣 .C #records·bus·after-byte) (C-after-byte 𝓤 H A mem run))
     (known-put-datapoint-at : Triple 𝓤 (𝓣 .C #tables·table·put-datapoint-at) (C-put-datapoint-at 𝓤 H A mem run))
     (κ0 κ1 : Lft) (q0 q1 : Share) (event : BusEvent) (id : ℕ) (value : RefT (List ℕ)) (datapoints : RefT (List Datapoint)) (event-ok : Good busEventD event) (id-ok : Good idD id) (value-room : Room (byteD .row) (length (value .now))) (datapoints-room : Room (datapointD .row) (length (datapoints .now)))
     (ok : tableOk 1000 datapointId datapointOk (datapoints .now) ≡ true) where
@@ -246,8 +246,8 @@ on-bus-event-spec 𝓤 H 𝓜 𝓖 𝓡 =
     (meets-by 2 𝓤 H (𝓖 .A) W ps replyD (f.clauses 𝓤 H (𝓖 .A) (𝓜 .mem) (𝓡 .run)) 𝓣 code.function (λ κs qs a _ are. needs 𝓤 _ _ (λ ok. walk 𝓤 H (𝓖 .A) W (𝓜 .mem) (𝓡 .run) 𝓣
     (cited 𝓤 H (C-datapoint-place 𝓤 H (𝓖 .A) (𝓜 .mem) (𝓡 .run)) 𝓜 𝓡 code.env #tables·table·datapoint-place datapoint-place-def.routine code.calls-tables·table·datapoint-place (datapoint-place-thm.met 𝓤 H 𝓜 𝓖 𝓡))
     (cited 𝓤 H (C-datapoint-at 𝓤 H (𝓖 .A) (𝓜 .mem) (𝓡 .run)) 𝓜 𝓡 code.env #tables·table·datapoint-at datapoint-at-def.routine code.calls-tables·table·datapoint-at (datapoint-at-thm.met 𝓤 H 𝓜 𝓖 𝓡))
-    (cited 𝓤 H (C-takes-event 𝓤 H (𝓖 .A) (𝓜 .mem) (𝓡 .run)) 𝓜 𝓡 code.env #services·bus·takes-event takes-event-def.routine code.calls-services·bus·takes-event (takes-event-thm.met 𝓤 H 𝓜 𝓖 𝓡))
-    (cited 𝓤 H (C-after-event 𝓤 H (𝓖 .A) (𝓜 .mem) (𝓡 .run)) 𝓜 𝓡 code.env #services·bus·after-event after-event-def.routine code.calls-services·bus·after-event (after-event-thm.met 𝓤 H 𝓜 𝓖 𝓡))
-    (cited 𝓤 H (C-after-byte 𝓤 H (𝓖 .A) (𝓜 .mem) (𝓡 .run)) 𝓜 𝓡 code.env #services·bus·after-byte after-byte-def.routine code.calls-services·bus·after-byte (after-byte-thm.met 𝓤 H 𝓜 𝓖 𝓡))
+    (cited 𝓤 H (C-takes-event 𝓤 H (𝓖 .A) (𝓜 .mem) (𝓡 .run)) 𝓜 𝓡 code.env #records·bus·takes-event takes-event-def.routine code.calls-records·bus·takes-event (takes-event-thm.met 𝓤 H 𝓜 𝓖 𝓡))
+    (cited 𝓤 H (C-after-event 𝓤 H (𝓖 .A) (𝓜 .mem) (𝓡 .run)) 𝓜 𝓡 code.env #records·bus·after-event after-event-def.routine code.calls-records·bus·after-event (after-event-thm.met 𝓤 H 𝓜 𝓖 𝓡))
+    (cited 𝓤 H (C-after-byte 𝓤 H (𝓖 .A) (𝓜 .mem) (𝓡 .run)) 𝓜 𝓡 code.env #records·bus·after-byte after-byte-def.routine code.calls-records·bus·after-byte (after-byte-thm.met 𝓤 H 𝓜 𝓖 𝓡))
     (cited 𝓤 H (C-put-datapoint-at 𝓤 H (𝓖 .A) (𝓜 .mem) (𝓡 .run)) 𝓜 𝓡 code.env #tables·table·put-datapoint-at put-datapoint-at-def.routine code.calls-tables·table·put-datapoint-at (put-datapoint-at-thm.met 𝓤 H 𝓜 𝓖 𝓡))
     (κs .0) (κs .1 .0) (qs .0) (qs .1 .0) (a .0) (a .1 .0) (a .1 .1 .0) (a .1 .1 .1 .0) (are .0) (are .1 .0) (are .1 .1 .0 .0 .1) (are .1 .1 .1 .0 .0 .1) ok)))

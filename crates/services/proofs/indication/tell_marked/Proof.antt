@@ -53,10 +53,10 @@ use Rattle.services.proofs.indication.waits as waits
 use Rattle.services.proofs.indication.waits.Symbol as waits-def
 use Rattle.services.proofs.indication.waits.Symbol.{name as #services·indication·waits}
 use Rattle.services.proofs.indication.waits.Met as waits-thm
-use Rattle.records.proofs.entry.put_value as put-value
-use Rattle.records.proofs.entry.put_value.Symbol as put-value-def
-use Rattle.records.proofs.entry.put_value.Symbol.{name as #records·entry·put-value}
-use Rattle.records.proofs.entry.put_value.Met as put-value-thm
+use Rattle.entries.proofs.entry.put_value as put-value
+use Rattle.entries.proofs.entry.put_value.Symbol as put-value-def
+use Rattle.entries.proofs.entry.put_value.Symbol.{name as #entries·entry·put-value}
+use Rattle.entries.proofs.entry.put_value.Met as put-value-thm
 use Rattle.records.proofs.datapoint.reported as reported
 use Rattle.records.proofs.datapoint.reported.Symbol as reported-def
 use Rattle.records.proofs.datapoint.reported.Symbol.{name as #records·datapoint·reported}
@@ -76,7 +76,7 @@ loc j = 42 - 2 * j
 
 record Known {M : Type 1} (𝓤 : URA M) (H : Heap 𝓤) (A : Atoms 𝓤) (mem : Memory → SProp 𝓤) (run : Routine → Fun 𝓤) (C : Calls 𝓤 H) : Type 1 where
   pub waits : Triple 𝓤 (C #services·indication·waits) (tripleOf 𝓤 H A waits.signature (waits.spec 𝓤 H A mem run))
-  pub put-value : Triple 𝓤 (C #records·entry·put-value) (tripleOf 𝓤 H A put-value.signature (put-value.spec 𝓤 H A mem run))
+  pub put-value : Triple 𝓤 (C #entries·entry·put-value) (tripleOf 𝓤 H A put-value.signature (put-value.spec 𝓤 H A mem run))
   pub reported : Triple 𝓤 (C #records·datapoint·reported) (tripleOf 𝓤 H A reported.signature (reported.spec 𝓤 H A mem run))
 
 module _ {M : Type 1} (𝓤 : URA M) (H : Heap 𝓤) (A : Atoms 𝓤) (W : Given 𝓤 H A) (mem : Memory → SProp 𝓤) (run : Routine → Fun 𝓤) (𝓣 : Tables 𝓤 H) (known : Known 𝓤 H A mem run (𝓣 .C))
@@ -283,7 +283,7 @@ tell-marked-spec 𝓤 H 𝓜 𝓖 𝓡 =
     (meets-by 2 𝓤 H (𝓖 .A) W ps toldD (f.clauses 𝓤 H (𝓖 .A) (𝓜 .mem) (𝓡 .run)) 𝓣 code.function (λ κs qs a _ are. needs 𝓤 _ _ (λ ok. walk 𝓤 H (𝓖 .A) W (𝓜 .mem) (𝓡 .run) 𝓣
     record {
       waits = cited 𝓤 H (tripleOf 𝓤 H (𝓖 .A) waits.signature (waits.spec 𝓤 H (𝓖 .A) (𝓜 .mem) (𝓡 .run))) 𝓜 𝓡 code.env #services·indication·waits waits-def.routine code.calls-services·indication·waits (waits-thm.met 𝓤 H 𝓜 𝓖 𝓡);
-      put-value = cited 𝓤 H (tripleOf 𝓤 H (𝓖 .A) put-value.signature (put-value.spec 𝓤 H (𝓖 .A) (𝓜 .mem) (𝓡 .run))) 𝓜 𝓡 code.env #records·entry·put-value put-value-def.routine code.calls-records·entry·put-value (put-value-thm.met 𝓤 H 𝓜 𝓖 𝓡);
+      put-value = cited 𝓤 H (tripleOf 𝓤 H (𝓖 .A) put-value.signature (put-value.spec 𝓤 H (𝓖 .A) (𝓜 .mem) (𝓡 .run))) 𝓜 𝓡 code.env #entries·entry·put-value put-value-def.routine code.calls-entries·entry·put-value (put-value-thm.met 𝓤 H 𝓜 𝓖 𝓡);
       reported = cited 𝓤 H (tripleOf 𝓤 H (𝓖 .A) reported.signature (reported.spec 𝓤 H (𝓖 .A) (𝓜 .mem) (𝓡 .run))) 𝓜 𝓡 code.env #records·datapoint·reported reported-def.routine code.calls-records·datapoint·reported (reported-thm.met 𝓤 H 𝓜 𝓖 𝓡);
     }
     (κs .0) (κs .1 .0) (qs .0) (qs .1 .0) (a .0) (a .1 .0) (a .1 .1 .0) (are .0 .0 .1) (are .1 .0 .0 .1) (are .1 .1 .0) (ok .0) (ok .1))))

@@ -5,7 +5,7 @@ use lib.ListN.{length}
 use borrow.Author.Needs.{needs}
 use Rattle.baos.proofs.DatapointLaws.{size-fits}
 use Rattle.baos.proofs.IndicationLaws.{waits-is}
-use Rattle.records.proofs.value.size_of.Reads as size-of-reads
+use Rattle.values.proofs.value.size_of.Reads as size-of-reads
 use Rattle.services.proofs.indication.waits.Statement.{statement}
 use Rattle.services.proofs.indication.waits.Tie as tie
 
