@@ -5,9 +5,9 @@ ghost use lib.ListN.{length, take};
 ghost use Rattle.words.specs.Words.{isYes, isPadded};
 ghost use Rattle.ft12.specs.Record.{twoValued, receiverOk, outstandingOk, inRange};
 use frames::frame::is_whole;
-use frames::receiver::is_beginning;
 use ft12::frame::MOST_RESENDS;
 use ft12::record::Link;
+use receiver::receiver::is_beginning;
 use rules::case::server_control;
 use words::bytes::are_zero;
 

@@ -5,7 +5,7 @@ ghost use Prim.Native.Nat.{_<_, _≤_};
 ghost use lib.ListN.{length, getD, take};
 ghost use lib.Dec.{T};
 ghost use Rattle.ft12.specs.Receiver.{judgedFirst, judgedFixed, judgedData, judged, isBeginning};
-use crate::frame::checksum;
+use frames::frame::checksum;
 use ft12::frame::ACKNOWLEDGEMENT;
 use ft12::frame::DATA_START;
 use ft12::frame::FIXED_START;

@@ -16,8 +16,8 @@ use Rattle.ft12.proofs.JudgedLaws.{
   data-end,
   data-end-damage,
 }
-use Rattle.frames.proofs.receiver.judge_data.Statement.{statement}
-use Rattle.frames.proofs.receiver.judge_data.Tie as tie
+use Rattle.receiver.proofs.receiver.judge_data.Statement.{statement}
+use Rattle.receiver.proofs.receiver.judge_data.Tie as tie
 
 returns : tie.Need-returns
 returns c = sym (data-count-damage _ _ (omega arith) (omega arith))

@@ -3,8 +3,8 @@ use native.Mathlib.Omega.{arith}
 use lib.ListN.{length-take}
 use borrow.Author.Needs.{needs}
 use Rattle.ft12.proofs.JudgedLaws.{more-room-take}
-use Rattle.frames.proofs.receiver.judge_at.Statement.{statement}
-use Rattle.frames.proofs.receiver.judge_at.Tie as tie
+use Rattle.receiver.proofs.receiver.judge_at.Statement.{statement}
+use Rattle.receiver.proofs.receiver.judge_at.Tie as tie
 
 slice-aggregate-judge : tie.Need-slice-aggregate-judge
 slice-aggregate-judge c = simp length-take (omega arith)

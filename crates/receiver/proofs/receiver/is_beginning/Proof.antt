@@ -2,8 +2,8 @@ use mathlib.Core.Path.{sym}
 use native.Mathlib.Omega.{arith}
 use borrow.Author.Needs.{needs}
 use Rattle.ft12.proofs.BeginningLaws.{none-begins, other-stops}
-use Rattle.frames.proofs.receiver.is_beginning.Statement.{statement}
-use Rattle.frames.proofs.receiver.is_beginning.Tie as tie
+use Rattle.receiver.proofs.receiver.is_beginning.Statement.{statement}
+use Rattle.receiver.proofs.receiver.is_beginning.Tie as tie
 
 returns : tie.Need-returns
 returns c = sym (none-begins _ (omega arith))

@@ -4,8 +4,8 @@ use borrow.Author.Needs.{needs}
 use Rattle.ft12.specs.Receiver.{isBeginning}
 use Rattle.words.proofs.WordLaws.{rest-whole}
 use Rattle.ft12.proofs.BeginningLaws.{data-begins, count-begins, count-stops, again-begins, again-stops, second-stops, head-whole}
-use Rattle.frames.proofs.receiver.is_data_beginning.Statement.{statement}
-use Rattle.frames.proofs.receiver.is_data_beginning.Tie as tie
+use Rattle.receiver.proofs.receiver.is_data_beginning.Statement.{statement}
+use Rattle.receiver.proofs.receiver.is_data_beginning.Tie as tie
 
 returns : tie.Need-returns
 returns c = sym (data-begins _ (omega arith) (omega arith))

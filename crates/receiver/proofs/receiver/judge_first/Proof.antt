@@ -1,8 +1,8 @@
 use mathlib.Core.Path.{sym}
 use native.Mathlib.Omega.{arith}
 use Rattle.ft12.proofs.JudgedLaws.{first-acknowledgement, first-fixed, first-data, first-damage}
-use Rattle.frames.proofs.receiver.judge_first.Statement.{statement}
-use Rattle.frames.proofs.receiver.judge_first.Tie as tie
+use Rattle.receiver.proofs.receiver.judge_first.Statement.{statement}
+use Rattle.receiver.proofs.receiver.judge_first.Tie as tie
 
 returns : tie.Need-returns
 returns c = sym (first-acknowledgement _ (omega arith))

@@ -2,8 +2,8 @@ use mathlib.Core.Path.{sym, _∙_}
 use native.Mathlib.Omega.{arith}
 use borrow.Author.Needs.{needs}
 use Rattle.ft12.proofs.JudgedLaws.{judged-first, judged-fixed, judged-data}
-use Rattle.frames.proofs.receiver.judge.Statement.{statement}
-use Rattle.frames.proofs.receiver.judge.Tie as tie
+use Rattle.receiver.proofs.receiver.judge.Statement.{statement}
+use Rattle.receiver.proofs.receiver.judge.Tie as tie
 
 judge-first-requires : tie.Need-judge-first-requires
 judge-first-requires c κs = search needs

@@ -2,8 +2,8 @@ use mathlib.Core.Path.{sym}
 use native.Mathlib.Omega.{arith}
 use borrow.Author.Needs.{needs}
 use Rattle.ft12.proofs.JudgedLaws.{fixed-control, fixed-again, fixed-again-damage, fixed-end, fixed-end-damage}
-use Rattle.frames.proofs.receiver.judge_fixed.Statement.{statement}
-use Rattle.frames.proofs.receiver.judge_fixed.Tie as tie
+use Rattle.receiver.proofs.receiver.judge_fixed.Statement.{statement}
+use Rattle.receiver.proofs.receiver.judge_fixed.Tie as tie
 
 returns : tie.Need-returns
 returns c = sym (fixed-control _ _ (omega arith))

@@ -3,8 +3,8 @@ use native.Mathlib.Omega.{arith}
 use lib.ListN.{length-take}
 use borrow.Author.Needs.{needs}
 use Rattle.ft12.proofs.BeginningLaws.{counted-begins, summed-begins, summed-stops}
-use Rattle.frames.proofs.receiver.is_counted_beginning.Statement.{statement}
-use Rattle.frames.proofs.receiver.is_counted_beginning.Tie as tie
+use Rattle.receiver.proofs.receiver.is_counted_beginning.Statement.{statement}
+use Rattle.receiver.proofs.receiver.is_counted_beginning.Tie as tie
 
 returns : tie.Need-returns
 returns c = sym (counted-begins _ _ (omega arith) (omega arith) (omega arith))
