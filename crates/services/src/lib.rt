@@ -1,3 +1,2 @@
-// A message carried out, and the indication.
-pub mod indication;
+// A message carried out.
 pub mod service;

@@ -49,10 +49,10 @@ use Rattle.baos.specs.Inner.Promise.{MarkedTold}
 use Rattle.baos.specs.Table.{tableOk}
 use Rattle.baos.proofs.Types.{datapointD, toldD, told-good, byteD, placeD, datapoint-mark-fits, datapoint-offset-fits, fits-next}
 use Rattle.baos.proofs.IndicationLaws.{Telling, telling-begins, telling-done, telling-code, telling-waits, telling-other, telling-room, telling-next}
-use Rattle.services.proofs.indication.waits as waits
-use Rattle.services.proofs.indication.waits.Symbol as waits-def
-use Rattle.services.proofs.indication.waits.Symbol.{name as #services·indication·waits}
-use Rattle.services.proofs.indication.waits.Met as waits-thm
+use Rattle.indications.proofs.indication.waits as waits
+use Rattle.indications.proofs.indication.waits.Symbol as waits-def
+use Rattle.indications.proofs.indication.waits.Symbol.{name as #indications·indication·waits}
+use Rattle.indications.proofs.indication.waits.Met as waits-thm
 use Rattle.entries.proofs.entry.put_value as put-value
 use Rattle.entries.proofs.entry.put_value.Symbol as put-value-def
 use Rattle.entries.proofs.entry.put_value.Symbol.{name as #entries·entry·put-value}
@@ -61,11 +61,11 @@ use Rattle.records.proofs.datapoint.reported as reported
 use Rattle.records.proofs.datapoint.reported.Symbol as reported-def
 use Rattle.records.proofs.datapoint.reported.Symbol.{name as #records·datapoint·reported}
 use Rattle.records.proofs.datapoint.reported.Met as reported-thm
-use Rattle.services.proofs.indication.tell_marked.Key.{name as #services·indication·tell-marked}
-use Rattle.services.proofs.indication.tell_marked as f
-use Rattle.services.proofs.indication.tell_marked.Statement as stated
-use Rattle.services.proofs.indication.tell_marked.Code as code
-use Rattle.services.proofs.indication.tell_marked.Code.Mir as part
+use Rattle.indications.proofs.indication.tell_marked.Key.{name as #indications·indication·tell-marked}
+use Rattle.indications.proofs.indication.tell_marked as f
+use Rattle.indications.proofs.indication.tell_marked.Statement as stated
+use Rattle.indications.proofs.indication.tell_marked.Code as code
+use Rattle.indications.proofs.indication.tell_marked.Code.Mir as part
 
 abbrev ps : List (Param 2)
 ps = mutSliceP 2 0 tt datapointD ∷ mutSliceP 2 1 tt byteD ∷ dataP 2 placeD ∷ []
@@ -75,7 +75,7 @@ abbrev loc : ℕ → ℕ
 loc j = 42 - 2 * j
 
 record Known {M : Type 1} (𝓤 : URA M) (H : Heap 𝓤) (A : Atoms 𝓤) (mem : Memory → SProp 𝓤) (run : Routine → Fun 𝓤) (C : Calls 𝓤 H) : Type 1 where
-  pub waits : Triple 𝓤 (C #services·indication·waits) (tripleOf 𝓤 H A waits.signature (waits.spec 𝓤 H A mem run))
+  pub waits : Triple 𝓤 (C #indications·indication·waits) (tripleOf 𝓤 H A waits.signature (waits.spec 𝓤 H A mem run))
   pub put-value : Triple 𝓤 (C #entries·entry·put-value) (tripleOf 𝓤 H A put-value.signature (put-value.spec 𝓤 H A mem run))
   pub reported : Triple 𝓤 (C #records·datapoint·reported) (tripleOf 𝓤 H A reported.signature (reported.spec 𝓤 H A mem run))
 
@@ -279,10 +279,10 @@ tell-marked-spec 𝓤 H 𝓜 𝓖 𝓡 =
     let W : Given 𝓤 H (𝓖 .A) = givenOf 𝓤 H 𝓜 𝓖 in
     let 𝓣 : Tables 𝓤 H = tablesOf 𝓤 H 𝓜 (tables 𝓤 H 𝓜 𝓡 code.env) in
     entered 𝓤 H (tripleOf 𝓤 H (𝓖 .A) f.signature (f.spec 𝓤 H (𝓖 .A) (𝓜 .mem) (𝓡 .run)))
-    (tables 𝓤 H 𝓜 𝓡 code.env .C) (tables 𝓤 H 𝓜 𝓡 code.env .Λ) #services·indication·tell-marked code.function (code.unfolded 𝓤 H 𝓜 𝓡)
+    (tables 𝓤 H 𝓜 𝓡 code.env .C) (tables 𝓤 H 𝓜 𝓡 code.env .Λ) #indications·indication·tell-marked code.function (code.unfolded 𝓤 H 𝓜 𝓡)
     (meets-by 2 𝓤 H (𝓖 .A) W ps toldD (f.clauses 𝓤 H (𝓖 .A) (𝓜 .mem) (𝓡 .run)) 𝓣 code.function (λ κs qs a _ are. needs 𝓤 _ _ (λ ok. walk 𝓤 H (𝓖 .A) W (𝓜 .mem) (𝓡 .run) 𝓣
     record {
-      waits = cited 𝓤 H (tripleOf 𝓤 H (𝓖 .A) waits.signature (waits.spec 𝓤 H (𝓖 .A) (𝓜 .mem) (𝓡 .run))) 𝓜 𝓡 code.env #services·indication·waits waits-def.routine code.calls-services·indication·waits (waits-thm.met 𝓤 H 𝓜 𝓖 𝓡);
+      waits = cited 𝓤 H (tripleOf 𝓤 H (𝓖 .A) waits.signature (waits.spec 𝓤 H (𝓖 .A) (𝓜 .mem) (𝓡 .run))) 𝓜 𝓡 code.env #indications·indication·waits waits-def.routine code.calls-indications·indication·waits (waits-thm.met 𝓤 H 𝓜 𝓖 𝓡);
       put-value = cited 𝓤 H (tripleOf 𝓤 H (𝓖 .A) put-value.signature (put-value.spec 𝓤 H (𝓖 .A) (𝓜 .mem) (𝓡 .run))) 𝓜 𝓡 code.env #entries·entry·put-value put-value-def.routine code.calls-entries·entry·put-value (put-value-thm.met 𝓤 H 𝓜 𝓖 𝓡);
       reported = cited 𝓤 H (tripleOf 𝓤 H (𝓖 .A) reported.signature (reported.spec 𝓤 H (𝓖 .A) (𝓜 .mem) (𝓡 .run))) 𝓜 𝓡 code.env #records·datapoint·reported reported-def.routine code.calls-records·datapoint·reported (reported-thm.met 𝓤 H 𝓜 𝓖 𝓡);
     }

@@ -45,18 +45,18 @@ use Rattle.baos.proofs.Types.{datapointD, toldD, byteD, idD, placeD}
 use Rattle.baos.specs.declared.inner.Told.{Told}
 use Rattle.baos.specs.Get.{roomForEntries}
 use Rattle.baos.proofs.IndicationLaws.{told-is, carried, bytes, bytes-few, carried-few, indicated-nothing, indicated-all}
-use Rattle.services.proofs.indication.tell_marked as tell-marked
-use Rattle.services.proofs.indication.tell_marked.Symbol as tell-marked-def
-use Rattle.services.proofs.indication.tell_marked.Symbol.{name as #services·indication·tell-marked}
-use Rattle.services.proofs.indication.tell_marked.Met as tell-marked-thm
+use Rattle.indications.proofs.indication.tell_marked as tell-marked
+use Rattle.indications.proofs.indication.tell_marked.Symbol as tell-marked-def
+use Rattle.indications.proofs.indication.tell_marked.Symbol.{name as #indications·indication·tell-marked}
+use Rattle.indications.proofs.indication.tell_marked.Met as tell-marked-thm
 use Rattle.messages.proofs.message.put_indication_head as put-indication-head
 use Rattle.messages.proofs.message.put_indication_head.Symbol as put-indication-head-def
 use Rattle.messages.proofs.message.put_indication_head.Symbol.{name as #messages·message·put-indication-head}
 use Rattle.messages.proofs.message.put_indication_head.Met as put-indication-head-thm
-use Rattle.services.proofs.indication.indicate.Key.{name as #services·indication·indicate}
-use Rattle.services.proofs.indication.indicate as f
-use Rattle.services.proofs.indication.indicate.Statement as stated
-use Rattle.services.proofs.indication.indicate.Code as code
+use Rattle.indications.proofs.indication.indicate.Key.{name as #indications·indication·indicate}
+use Rattle.indications.proofs.indication.indicate as f
+use Rattle.indications.proofs.indication.indicate.Statement as stated
+use Rattle.indications.proofs.indication.indicate.Code as code
 
 abbrev ps : List (Param 2)
 ps = mutSliceP 2 0 tt datapointD ∷ mutSliceP 2 1 tt byteD ∷ dataP 2 placeD ∷ []
@@ -66,7 +66,7 @@ abbrev loc : ℕ → ℕ
 loc j = 30 - 2 * j
 
 record Known {M : Type 1} (𝓤 : URA M) (H : Heap 𝓤) (A : Atoms 𝓤) (mem : Memory → SProp 𝓤) (run : Routine → Fun 𝓤) (C : Calls 𝓤 H) : Type 1 where
-  pub tell-marked : Triple 𝓤 (C #services·indication·tell-marked) (tripleOf 𝓤 H A tell-marked.signature (tell-marked.spec 𝓤 H A mem run))
+  pub tell-marked : Triple 𝓤 (C #indications·indication·tell-marked) (tripleOf 𝓤 H A tell-marked.signature (tell-marked.spec 𝓤 H A mem run))
   pub put-indication-head : Triple 𝓤 (C #messages·message·put-indication-head) (tripleOf 𝓤 H A put-indication-head.signature (put-indication-head.spec 𝓤 H A mem run))
 
 module _ {M : Type 1} (𝓤 : URA M) (H : Heap 𝓤) (A : Atoms 𝓤) (W : Given 𝓤 H A) (mem : Memory → SProp 𝓤) (run : Routine → Fun 𝓤) (𝓣 : Tables 𝓤 H) (known : Known 𝓤 H A mem run (𝓣 .C))
@@ -184,10 +184,10 @@ indicate-spec 𝓤 H 𝓜 𝓖 𝓡 =
     let W : Given 𝓤 H (𝓖 .A) = givenOf 𝓤 H 𝓜 𝓖 in
     let 𝓣 : Tables 𝓤 H = tablesOf 𝓤 H 𝓜 (tables 𝓤 H 𝓜 𝓡 code.env) in
     entered 𝓤 H (tripleOf 𝓤 H (𝓖 .A) f.signature (f.spec 𝓤 H (𝓖 .A) (𝓜 .mem) (𝓡 .run)))
-    (tables 𝓤 H 𝓜 𝓡 code.env .C) (tables 𝓤 H 𝓜 𝓡 code.env .Λ) #services·indication·indicate code.function (code.unfolded 𝓤 H 𝓜 𝓡)
+    (tables 𝓤 H 𝓜 𝓡 code.env .C) (tables 𝓤 H 𝓜 𝓡 code.env .Λ) #indications·indication·indicate code.function (code.unfolded 𝓤 H 𝓜 𝓡)
     (meets-by 2 𝓤 H (𝓖 .A) W ps placeD (f.clauses 𝓤 H (𝓖 .A) (𝓜 .mem) (𝓡 .run)) 𝓣 code.function (λ κs qs a _ are. needs 𝓤 _ _ (λ ok. walk 𝓤 H (𝓖 .A) W (𝓜 .mem) (𝓡 .run) 𝓣
     record {
-      tell-marked = cited 𝓤 H (tripleOf 𝓤 H (𝓖 .A) tell-marked.signature (tell-marked.spec 𝓤 H (𝓖 .A) (𝓜 .mem) (𝓡 .run))) 𝓜 𝓡 code.env #services·indication·tell-marked tell-marked-def.routine code.calls-services·indication·tell-marked (tell-marked-thm.met 𝓤 H 𝓜 𝓖 𝓡);
+      tell-marked = cited 𝓤 H (tripleOf 𝓤 H (𝓖 .A) tell-marked.signature (tell-marked.spec 𝓤 H (𝓖 .A) (𝓜 .mem) (𝓡 .run))) 𝓜 𝓡 code.env #indications·indication·tell-marked tell-marked-def.routine code.calls-indications·indication·tell-marked (tell-marked-thm.met 𝓤 H 𝓜 𝓖 𝓡);
       put-indication-head = cited 𝓤 H (tripleOf 𝓤 H (𝓖 .A) put-indication-head.signature (put-indication-head.spec 𝓤 H (𝓖 .A) (𝓜 .mem) (𝓡 .run))) 𝓜 𝓡 code.env #messages·message·put-indication-head put-indication-head-def.routine code.calls-messages·message·put-indication-head (put-indication-head-thm.met 𝓤 H 𝓜 𝓖 𝓡);
     }
     (κs .0) (κs .1 .0) (qs .0) (qs .1 .0) (a .0) (a .1 .0) (a .1 .1 .0) (are .0 .0 .1) (are .1 .0 .0 .1) (are .1 .1 .0) (ok .0) (ok .1))))

@@ -6,8 +6,8 @@ use borrow.Author.Needs.{needs}
 use Rattle.baos.proofs.DatapointLaws.{size-fits}
 use Rattle.baos.proofs.IndicationLaws.{waits-is}
 use Rattle.values.proofs.value.size_of.Reads as size-of-reads
-use Rattle.services.proofs.indication.waits.Statement.{statement}
-use Rattle.services.proofs.indication.waits.Tie as tie
+use Rattle.indications.proofs.indication.waits.Statement.{statement}
+use Rattle.indications.proofs.indication.waits.Tie as tie
 
 sub-result : tie.Need-sub-result
 sub-result c = search needs
