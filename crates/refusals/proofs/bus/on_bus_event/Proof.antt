@@ -74,10 +74,10 @@ use Rattle.tables.proofs.table.put_datapoint_at as put-datapoint-at
 use Rattle.tables.proofs.table.put_datapoint_at.Symbol as put-datapoint-at-def
 use Rattle.tables.proofs.table.put_datapoint_at.Symbol.{name as #tables·table·put-datapoint-at}
 use Rattle.tables.proofs.table.put_datapoint_at.Met as put-datapoint-at-thm
-use Rattle.server.proofs.bus.on_bus_event.Key.{name as #server·bus·on-bus-event}
-use Rattle.server.proofs.bus.on_bus_event as f
-use Rattle.server.proofs.bus.on_bus_event.Statement as stated
-use Rattle.server.proofs.bus.on_bus_event.Code as code
+use Rattle.refusals.proofs.bus.on_bus_event.Key.{name as #refusals·bus·on-bus-event}
+use Rattle.refusals.proofs.bus.on_bus_event as f
+use Rattle.refusals.proofs.bus.on_bus_event.Statement as stated
+use Rattle.refusals.proofs.bus.on_bus_event.Code as code
 
 abbrev C-datapoint-place : {M : Type 1} (𝓤 : URA M) (H : Heap 𝓤) (A : Atoms 𝓤) (mem : Memory → SProp 𝓤) (run : Routine → Fun 𝓤) → Contract 𝓤
 C-datapoint-place 𝓤 H A mem run = tripleOf 𝓤 H A datapoint-place.signature (datapoint-place.spec 𝓤 H A mem run)
@@ -242,7 +242,7 @@ on-bus-event-spec 𝓤 H 𝓜 𝓖 𝓡 =
     let W : Given 𝓤 H (𝓖 .A) = givenOf 𝓤 H 𝓜 𝓖 in
     let 𝓣 : Tables 𝓤 H = tablesOf 𝓤 H 𝓜 (tables 𝓤 H 𝓜 𝓡 code.env) in
     entered 𝓤 H (tripleOf 𝓤 H (𝓖 .A) f.signature (f.spec 𝓤 H (𝓖 .A) (𝓜 .mem) (𝓡 .run)))
-    (tables 𝓤 H 𝓜 𝓡 code.env .C) (tables 𝓤 H 𝓜 𝓡 code.env .Λ) #server·bus·on-bus-event code.function (code.unfolded 𝓤 H 𝓜 𝓡)
+    (tables 𝓤 H 𝓜 𝓡 code.env .C) (tables 𝓤 H 𝓜 𝓡 code.env .Λ) #refusals·bus·on-bus-event code.function (code.unfolded 𝓤 H 𝓜 𝓡)
     (meets-by 2 𝓤 H (𝓖 .A) W ps replyD (f.clauses 𝓤 H (𝓖 .A) (𝓜 .mem) (𝓡 .run)) 𝓣 code.function (λ κs qs a _ are. needs 𝓤 _ _ (λ ok. walk 𝓤 H (𝓖 .A) W (𝓜 .mem) (𝓡 .run) 𝓣
     (cited 𝓤 H (C-datapoint-place 𝓤 H (𝓖 .A) (𝓜 .mem) (𝓡 .run)) 𝓜 𝓡 code.env #tables·table·datapoint-place datapoint-place-def.routine code.calls-tables·table·datapoint-place (datapoint-place-thm.met 𝓤 H 𝓜 𝓖 𝓡))
     (cited 𝓤 H (C-datapoint-at 𝓤 H (𝓖 .A) (𝓜 .mem) (𝓡 .run)) 𝓜 𝓡 code.env #tables·table·datapoint-at datapoint-at-def.routine code.calls-tables·table·datapoint-at (datapoint-at-thm.met 𝓤 H 𝓜 𝓖 𝓡))

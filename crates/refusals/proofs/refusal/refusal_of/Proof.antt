@@ -45,10 +45,10 @@ use Rattle.link.proofs.range.in_range as in-range
 use Rattle.link.proofs.range.in_range.Symbol as in-range-def
 use Rattle.link.proofs.range.in_range.Symbol.{name as #link·range·in-range}
 use Rattle.link.proofs.range.in_range.Met as in-range-thm
-use Rattle.server.proofs.refusal.refusal_of.Key.{name as #server·refusal·refusal-of}
-use Rattle.server.proofs.refusal.refusal_of as f
-use Rattle.server.proofs.refusal.refusal_of.Statement as stated
-use Rattle.server.proofs.refusal.refusal_of.Code as code
+use Rattle.refusals.proofs.refusal.refusal_of.Key.{name as #refusals·refusal·refusal-of}
+use Rattle.refusals.proofs.refusal.refusal_of as f
+use Rattle.refusals.proofs.refusal.refusal_of.Statement as stated
+use Rattle.refusals.proofs.refusal.refusal_of.Code as code
 
 abbrev ps : List (Param 4)
 ps = shrSliceP 4 0 tt datapointD ∷ shrSliceP 4 1 tt itemD ∷ shrSliceP 4 2 tt byteD ∷ dataP 4 idD ∷ shrP 4 3 tt linkD ∷ dataP 4 sizeD ∷ []
@@ -146,7 +146,7 @@ refusal-of-spec 𝓤 H 𝓜 𝓖 𝓡 =
     let W : Given 𝓤 H (𝓖 .A) = givenOf 𝓤 H 𝓜 𝓖 in
     let 𝓣 : Tables 𝓤 H = tablesOf 𝓤 H 𝓜 (tables 𝓤 H 𝓜 𝓡 code.env) in
     entered 𝓤 H (tripleOf 𝓤 H (𝓖 .A) f.signature (f.spec 𝓤 H (𝓖 .A) (𝓜 .mem) (𝓡 .run)))
-    (tables 𝓤 H 𝓜 𝓡 code.env .C) (tables 𝓤 H 𝓜 𝓡 code.env .Λ) #server·refusal·refusal-of code.function (code.unfolded 𝓤 H 𝓜 𝓡)
+    (tables 𝓤 H 𝓜 𝓡 code.env .C) (tables 𝓤 H 𝓜 𝓡 code.env .Λ) #refusals·refusal·refusal-of code.function (code.unfolded 𝓤 H 𝓜 𝓡)
     (meets-by 4 𝓤 H (𝓖 .A) W ps byteD (f.clauses 𝓤 H (𝓖 .A) (𝓜 .mem) (𝓡 .run)) 𝓣 code.function (λ κs qs a _ are. via 𝓤 _ (fst∗ 𝓤 _ (emp 𝓤)) (walk 𝓤 H (𝓖 .A) W (𝓜 .mem) (𝓡 .run) 𝓣
     (cited 𝓤 H (C-tables-ok 𝓤 H (𝓖 .A) (𝓜 .mem) (𝓡 .run)) 𝓜 𝓡 code.env #tables·table·tables-ok tables-ok-def.routine code.calls-tables·table·tables-ok (tables-ok-thm.met 𝓤 H 𝓜 𝓖 𝓡))
     (cited 𝓤 H (C-in-range 𝓤 H (𝓖 .A) (𝓜 .mem) (𝓡 .run)) 𝓜 𝓡 code.env #link·range·in-range in-range-def.routine code.calls-link·range·in-range (in-range-thm.met 𝓤 H 𝓜 𝓖 𝓡))
