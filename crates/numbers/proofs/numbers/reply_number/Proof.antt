@@ -4,8 +4,8 @@ use Rattle.calls.specs.Numbers.{replyNumber}
 use Rattle.calls.proofs.NumberLaws.{fits-minus, is-minus, fits-plus, is-plus, count-small}
 use native.Mathlib.Omega.{arith}
 use borrow.Author.Needs.{needs}
-use Rattle.tagobrelin.proofs.numbers.reply_number.Statement.{statement}
-use Rattle.tagobrelin.proofs.numbers.reply_number.Tie as tie
+use Rattle.numbers.proofs.numbers.reply_number.Statement.{statement}
+use Rattle.numbers.proofs.numbers.reply_number.Tie as tie
 
 enum-known-reply : tie.Need-enum-known-reply
 enum-known-reply c = search needs

@@ -2,8 +2,8 @@
 use mathlib.Core.Path.{sym, ap}
 use Rattle.calls.specs.Numbers.{outcomeNumbered}
 use Rattle.calls.proofs.NumberLaws.{last-outcome}
-use Rattle.tagobrelin.proofs.numbers.outcome_numbered.Statement.{statement}
-use Rattle.tagobrelin.proofs.numbers.outcome_numbered.Tie as tie
+use Rattle.numbers.proofs.numbers.outcome_numbered.Statement.{statement}
+use Rattle.numbers.proofs.numbers.outcome_numbered.Tie as tie
 
 returns : tie.Need-returns
 unfolding outcomeNumbered

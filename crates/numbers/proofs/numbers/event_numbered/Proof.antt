@@ -3,8 +3,8 @@ use mathlib.Core.Path.{sym, ap, _∙_}
 use Rattle.calls.specs.declared.event.Event.the-variants.{TransmissionOutcome}
 use Rattle.calls.proofs.NumberLaws.{first, second, third, fourth, fifth, sixth}
 use borrow.Author.Needs.{needs}
-use Rattle.tagobrelin.proofs.numbers.event_numbered.Statement.{statement}
-use Rattle.tagobrelin.proofs.numbers.event_numbered.Tie as tie
+use Rattle.numbers.proofs.numbers.event_numbered.Statement.{statement}
+use Rattle.numbers.proofs.numbers.event_numbered.Tie as tie
 
 outcome-numbered-requires : tie.Need-outcome-numbered-requires
 outcome-numbered-requires c κs = search needs

@@ -1,8 +1,8 @@
 -- Each test as the definition has it: the laws of isEvent.
 use mathlib.Core.Path.{sym}
 use Rattle.calls.proofs.NumberLaws.{is-sixth, is-none, is-other}
-use Rattle.tagobrelin.proofs.numbers.is_event.Statement.{statement}
-use Rattle.tagobrelin.proofs.numbers.is_event.Tie as tie
+use Rattle.numbers.proofs.numbers.is_event.Statement.{statement}
+use Rattle.numbers.proofs.numbers.is_event.Tie as tie
 
 returns : tie.Need-returns
 returns c = sym (is-sixth _ _ (c .if1 .taken))
