@@ -2,9 +2,9 @@
 use mathlib.Core.Path.{_≡_, refl, sym, subst}
 use mathlib.Core.List.{List, [], _∷_, map, List·Memᴰ, List·Memᴰ·head, List·Memᴰ·tail, List·Memᴰ·not-nil, List·Memᴰ·cases-cons, List·Memᴰ·append-cases}
 use mathlib.Core.Logic.{_⊎_, inl, inr}
-use Rattle.demands.specs.Example.{Case, Example, computed, last-id-only, empty-tables, Holds, cases, examples, runOf, stated}
-use Rattle.demands.proofs.ComputedExamples.{computed-hold}
-use Rattle.demands.proofs.GeneralExamples.{last-id-holds, empty-table}
+use Rattle.examples.specs.Example.{Case, Example, computed, last-id-only, empty-tables, Holds, cases, examples, runOf, stated}
+use Rattle.examples.proofs.ComputedExamples.{computed-hold}
+use Rattle.examples.proofs.GeneralExamples.{last-id-holds, empty-table}
 
 of-case : (x : Example) (cs : List Case) → ((c : Case) → List·Memᴰ c cs → runOf c ≡ stated c) → List·Memᴰ x (map computed cs) → Holds x
 of-case x [] h m = absurd (List·Memᴰ·not-nil m)

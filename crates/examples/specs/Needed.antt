@@ -14,9 +14,9 @@ use Rattle.ft12.specs.Delivery.{Delivery, changed, lost, arrives}
 use Rattle.baos.specs.Table.{Tables, wellFormed}
 use Rattle.calls.specs.declared.event.Event.{Event}
 use Rattle.calls.specs.declared.event.Event.the-variants.{HostByte}
-use Rattle.demands.specs.Example.{lineAt, item1, ask1, answer1, datapoint5, set5, answer3}
+use Rattle.examples.specs.Example.{lineAt, item1, ask1, answer1, datapoint5, set5, answer3}
 use Rattle.demands.specs.Exchange.{Lent, Start, Request, requestFrame, EachPossible, someSound, calls, thenIdle}
 use Rattle.demands.specs.Exchange.{delivery, Once, Demand3}
 
 -- demand 3 with other premises in the places of its own
 abbrev pub Demand3For : ((ℕ → ℕ → Lent) → Tables → Link → Type 0) → (List ℕ → Type 0)

@@ -3,9 +3,9 @@ use mathlib.Core.Path.{_≡_}
 use mathlib.Core.Bool.{true, false}
 use mathlib.Core.List.{[], _∷_, _++_}
 use Rattle.ft12.specs.Frame.{fixedFrame, dataFrame}
-use Rattle.demands.specs.Example.{Case, runOf, stated, lineAt, datapoint, datapoint5, answer3, set5}
-use Rattle.demands.proofs.Opened.{opened}
-use Rattle.demands.proofs.ComputedExamples.{sameDatapoint, sameItem, sameLink, sameTables, agrees, case-holds}
+use Rattle.examples.specs.Example.{Case, runOf, stated, lineAt, datapoint, datapoint5, answer3, set5}
+use Rattle.examples.proofs.Opened.{opened}
+use Rattle.examples.proofs.ComputedExamples.{sameDatapoint, sameItem, sameLink, sameTables, agrees, case-holds}
 
 unfoldable pub secondSet : Case
 secondSet =

@@ -24,7 +24,7 @@ use Rattle.baos.proofs.TableLaws.{ids-rise, entries-ok}
 use Rattle.baos.proofs.KeepLaws.{parts}
 use Rattle.baos.proofs.LastLaws.{last-in-request, keep-same, keep-both, keep-found}
 use Rattle.baos.proofs.ServiceLaws.{is-get-item, is-get-description, is-get-value, is-get-parameter}
-use Rattle.demands.specs.Example.{TwoByteIds, AnsweredWith, LastId, RefusedWith, EmptyTable}
+use Rattle.examples.specs.Example.{TwoByteIds, AnsweredWith, LastId, RefusedWith, EmptyTable}
 
 -- ---- 7
 -- no element, or one that passes the test

@@ -14,9 +14,9 @@ use Rattle.baos.specs.declared.datapoint.Datapoint.{Datapoint}
 use Rattle.baos.specs.declared.item.Item.{Item}
 use Rattle.baos.specs.Table.{Tables}
 use Rattle.baos.proofs.TableLaws.{same-tables}
 use Rattle.demands.specs.Run.{Ran}
-use Rattle.demands.specs.Example.{Case, runOf, stated, lineAt, exchange, item1, ask1, answer1, case1, case2, ask1even, case2even, datapoint, datapoint5, answer3, set5, case3, case4, oneByteFrom, oneBytes, entriesFrom, case5, case5more, parameterBytes, case6, case6more, case9, case9one, cases}
-use Rattle.demands.proofs.Opened.{opened}
+use Rattle.examples.specs.Example.{Case, runOf, stated, lineAt, exchange, item1, ask1, answer1, case1, case2, ask1even, case2even, datapoint, datapoint5, answer3, set5, case3, case4, oneByteFrom, oneBytes, entriesFrom, case5, case5more, parameterBytes, case6, case6more, case9, case9one, cases}
+use Rattle.examples.proofs.Opened.{opened}
 
 -- ---- the tests
 abbrev pub all-pass : List Bool → Bool

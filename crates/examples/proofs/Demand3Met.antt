@@ -14,11 +14,11 @@ use Rattle.ft12.proofs.RecordLaws.{line-in-range}
 use Rattle.words.specs.Words.{isYes}
 use Rattle.baos.specs.Table.{Tables, wellFormed}
 use Rattle.baos.specs.Service.{carriedOut}
-use Rattle.demands.specs.Example.{lineAt, item1, answer1, datapoint, datapoint5}
+use Rattle.examples.specs.Example.{lineAt, item1, answer1, datapoint, datapoint5}
 use Rattle.demands.specs.Exchange.{Lent, calls, thenIdle, delivery, exchange, Start, Request, requestFrame, EachPossible, someSound, answerFrame, draws, Once}
-use Rattle.demands.proofs.Opened.{opened}
-use Rattle.demands.proofs.ComputedExamples.{sameDatapoint, sameItem, sameTables, tables-eq}
+use Rattle.examples.proofs.Opened.{opened}
+use Rattle.examples.proofs.ComputedExamples.{sameDatapoint, sameItem, sameTables, tables-eq}
 use Rattle.demands.proofs.Demand3.{demand-3}
 
 unfoldable pub lent : ℕ → ℕ → Lent
 lent i n = record { value = []; output = replicate 262 0 }

@@ -14,12 +14,12 @@ use Rattle.words.proofs.WordLaws.{left, right, same→eq}
 use Rattle.ft12.proofs.RecordLaws.{line-in-range}
 use Rattle.baos.specs.Datapoint.{zeroDatapoint}
 use Rattle.baos.specs.Table.{Tables, datapointsOnly, wellFormed}
 use Rattle.demands.specs.Run.{Ran}
-use Rattle.demands.specs.Example.{lineAt, item1, ask1, answer1, datapoint, datapoint5, set5, answer3}
+use Rattle.examples.specs.Example.{lineAt, item1, ask1, answer1, datapoint, datapoint5, set5, answer3}
 use Rattle.demands.specs.Exchange.{Lent, calls, thenIdle, delivery, exchange, isAccepted, allAccepted, noneRefused, Start, Request, requestFrame, EachPossible, someSound, answerFrame, draws}
-use Rattle.demands.specs.Needed.{Demand3For, StartAnyTables, StartAnyLink, StartAnyRoom, StartAnywhere, StartHolding, AnyRequest, AtLeastOneSound, AnyNumberSound, AnyDeliveries, restingLink, roomy, unmarked, marked, twoChanged, statusEntries, spelt, spelling, Needed}
-use Rattle.demands.proofs.Opened.{opened}
-use Rattle.demands.proofs.ComputedExamples.{sameDatapoint, sameItem, sameTables, tables-eq}
+use Rattle.examples.specs.Needed.{Demand3For, StartAnyTables, StartAnyLink, StartAnyRoom, StartAnywhere, StartHolding, AnyRequest, AtLeastOneSound, AnyNumberSound, AnyDeliveries, restingLink, roomy, unmarked, marked, twoChanged, statusEntries, spelt, spelling, Needed}
+use Rattle.examples.proofs.Opened.{opened}
+use Rattle.examples.proofs.ComputedExamples.{sameDatapoint, sameItem, sameTables, tables-eq}
 
 -- ---- the idle mark, two bytes changed, and a frame spelt
 with-mark : calls roomy marked item1 restingLink .sent ≡ 0xE5 ∷ answer1
