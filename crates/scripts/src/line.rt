@@ -1,7 +1,7 @@
 // A script is text, in lines. Each has its end, \n, in it. A line is text for the trace, which begins with a blank or
 // a digit; or a letter and the bytes behind it, each a blank and two hexadecimal digits, as the papers have them.
 ghost use mathlib.Core.Path.{_≡_};
-ghost use Rattle.trials.specs.Line.{digitOf, byteOf, readLine, lineEnd};
+ghost use Rattle.scripts.specs.Line.{digitOf, byteOf, readLine, lineEnd};
 
 pub struct Line {
     pub letter: u8,

@@ -8,7 +8,7 @@ use Rattle.words.specs.Words.{if_then_else_, ofTwoBytes, put}
 use Rattle.baos.specs.declared.datapoint.Datapoint.{Datapoint}
 use Rattle.baos.specs.declared.item.Item.{Item}
 use Rattle.bench.specs.declared.bench.Bench.{Bench}
-use Rattle.trials.specs.declared.line.Line.{Line}
+use Rattle.scripts.specs.declared.line.Line.{Line}
 use Rattle.bench.specs.Bench.{emptyBench, withDatapoint, withItem, withParameters}
 use Rattle.bench.specs.Run.{busValued}
 

@@ -1,9 +1,9 @@
 use Prim.Native.Nat.{_-_}
 use lib.ListN.{length}
-use Rattle.trials.proofs.LineLaws.{Seeking, seeking-begins, seeking-goes, seeking-found, seeking-ends}
+use Rattle.scripts.proofs.LineLaws.{Seeking, seeking-begins, seeking-goes, seeking-found, seeking-ends}
 use borrow.Author.Needs.{needs}
-use Rattle.trials.proofs.line.line_end.Statement.{statement}
-use Rattle.trials.proofs.line.line_end.Tie as tie
+use Rattle.scripts.proofs.line.line_end.Statement.{statement}
+use Rattle.scripts.proofs.line.line_end.Tie as tie
 
 abbrev Inv-loop : tie.InvT-loop
 Inv-loop s i₀ i = Seeking s i

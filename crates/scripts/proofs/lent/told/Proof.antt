@@ -1,8 +1,8 @@
 use mathlib.Core.Path.{sym, _∙_}
-use Rattle.trials.proofs.LentLaws.{told-empty, told-item, told-datapoints, told-parameters, told-nothing}
+use Rattle.scripts.proofs.LentLaws.{told-empty, told-item, told-datapoints, told-parameters, told-nothing}
 use borrow.Author.Needs.{needs}
-use Rattle.trials.proofs.lent.told.Statement.{statement}
-use Rattle.trials.proofs.lent.told.Tie as tie
+use Rattle.scripts.proofs.lent.told.Statement.{statement}
+use Rattle.scripts.proofs.lent.told.Tie as tie
 
 empty-requires : tie.Need-empty-requires
 empty-requires c κs = search needs

@@ -7,10 +7,10 @@ use native.Mathlib.Numerals.{add-one}
 use lib.ListN.{getD, set, replicate}
 use borrow.Author.Tests.{ne-eqb}
 use Rattle.bench.specs.declared.bench.Bench.{Bench}
-use Rattle.trials.specs.declared.line.Line.{Line}
+use Rattle.scripts.specs.declared.line.Line.{Line}
 use Rattle.bench.specs.Bench.{emptyBench, withDatapoint, withItem, withParameters}
 use Rattle.bench.specs.Run.{busValued}
-use Rattle.trials.specs.Lent.{raised, risen, itemOf, datapointOf, filled, rising, bussed, built}
+use Rattle.scripts.specs.Lent.{raised, risen, itemOf, datapointOf, filled, rising, bussed, built}
 
 pub filled-none : (a : List ℕ) (b : Bench) → filled a 0 b ≡ b
 unfolding filled

@@ -1,11 +1,11 @@
 use Prim.Native.Nat.{ℕ, _-_, _≤_}
 use mathlib.Core.Path.{_≡_, sym, ap, _∙_}
 use native.Mathlib.Omega.{arith}
-use Rattle.trials.specs.Lent.{filled}
-use Rattle.trials.proofs.LentLaws.{filled-none, filled-next}
+use Rattle.scripts.specs.Lent.{filled}
+use Rattle.scripts.proofs.LentLaws.{filled-none, filled-next}
 use borrow.Author.Needs.{needs}
-use Rattle.trials.proofs.lent.with_datapoints.Statement.{statement}
-use Rattle.trials.proofs.lent.with_datapoints.Tie as tie
+use Rattle.scripts.proofs.lent.with_datapoints.Statement.{statement}
+use Rattle.scripts.proofs.lent.with_datapoints.Tie as tie
 
 abbrev Inv-loop : tie.InvT-loop
 Inv-loop a n b₀ k₀ b k = (k ≤ n) × (b ≡ filled a k b₀)

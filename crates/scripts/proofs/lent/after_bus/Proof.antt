@@ -1,11 +1,11 @@
 use Prim.Native.Nat.{ℕ, _-_, _≤_}
 use mathlib.Core.Path.{_≡_, sym, ap, _∙_}
 use native.Mathlib.Omega.{arith}
-use Rattle.trials.specs.Lent.{bussed}
-use Rattle.trials.proofs.LentLaws.{bussed-none, bussed-next}
+use Rattle.scripts.specs.Lent.{bussed}
+use Rattle.scripts.proofs.LentLaws.{bussed-none, bussed-next}
 use borrow.Author.Needs.{needs}
-use Rattle.trials.proofs.lent.after_bus.Statement.{statement}
-use Rattle.trials.proofs.lent.after_bus.Tie as tie
+use Rattle.scripts.proofs.lent.after_bus.Statement.{statement}
+use Rattle.scripts.proofs.lent.after_bus.Tie as tie
 
 abbrev Inv-loop : tie.InvT-loop
 Inv-loop n a b₀ k₀ b k = (k ≤ n) × (b ≡ bussed a k b₀)

@@ -2,10 +2,10 @@ use Prim.Native.Nat.{_-_}
 use mathlib.Core.Path.{_≡_, refl}
 use lib.ListN.{length, getD}
 use native.Mathlib.Omega.{arith}
-use Rattle.trials.proofs.LineLaws.{Reading, reading-begins, reading-goes, reading-ends, reading-full, nothing-read}
+use Rattle.scripts.proofs.LineLaws.{Reading, reading-begins, reading-goes, reading-ends, reading-full, nothing-read}
 use borrow.Author.Needs.{needs}
-use Rattle.trials.proofs.line.read.Statement.{statement}
-use Rattle.trials.proofs.line.read.Tie as tie
+use Rattle.scripts.proofs.line.read.Statement.{statement}
+use Rattle.scripts.proofs.line.read.Tie as tie
 
 abbrev Inv-loop : tie.InvT-loop
 Inv-loop s n bytes₀ letter k₀ bytes k = (n ≡ length s) × (letter ≡ getD s 0 0) × Reading s bytes k

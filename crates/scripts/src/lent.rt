@@ -2,7 +2,7 @@
 ghost use mathlib.Core.Path.{_≡_};
 ghost use Prim.Native.Nat.{_+_, _%_};
 ghost use Rattle.words.specs.Words.{ofTwoBytes};
-ghost use Rattle.trials.specs.Lent.{risen, itemOf, datapointOf, filled, rising, built, bussed};
+ghost use Rattle.scripts.specs.Lent.{risen, itemOf, datapointOf, filled, rising, built, bussed};
 use crate::line::Line;
 use baos::datapoint::Datapoint;
 use baos::item::Item;

@@ -1,8 +1,8 @@
 use mathlib.Core.Path.{refl}
-use Rattle.trials.specs.Lent.{datapointOf}
+use Rattle.scripts.specs.Lent.{datapointOf}
 use borrow.Author.Needs.{needs}
-use Rattle.trials.proofs.lent.datapoint_of.Statement.{statement}
-use Rattle.trials.proofs.lent.datapoint_of.Tie as tie
+use Rattle.scripts.proofs.lent.datapoint_of.Statement.{statement}
+use Rattle.scripts.proofs.lent.datapoint_of.Tie as tie
 
 array-read-risen : tie.Need-array-read-risen
 array-read-risen c = search needs

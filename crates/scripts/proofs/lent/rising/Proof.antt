@@ -2,10 +2,10 @@ use borrow.Author.Needs.{needs}
 use Prim.Native.Nat.{ℕ, _-_, _≤_}
 use mathlib.Core.Path.{_≡_, sym, ap, _∙_}
 use native.Mathlib.Omega.{arith}
-use Rattle.trials.specs.Lent.{rising}
-use Rattle.trials.proofs.LentLaws.{rising-none, rising-next}
-use Rattle.trials.proofs.lent.rising.Statement.{statement}
-use Rattle.trials.proofs.lent.rising.Tie as tie
+use Rattle.scripts.specs.Lent.{rising}
+use Rattle.scripts.proofs.LentLaws.{rising-none, rising-next}
+use Rattle.scripts.proofs.lent.rising.Statement.{statement}
+use Rattle.scripts.proofs.lent.rising.Tie as tie
 
 abbrev Inv-loop : tie.InvT-loop
 Inv-loop first all₀ i₀ all i = (i ≤ 255) × (all ≡ rising first i)

@@ -1,8 +1,8 @@
 use borrow.Author.Needs.{needs}
 use mathlib.Core.Path.{refl}
-use Rattle.trials.specs.Lent.{risen}
-use Rattle.trials.proofs.lent.risen.Statement.{statement}
-use Rattle.trials.proofs.lent.risen.Tie as tie
+use Rattle.scripts.specs.Lent.{risen}
+use Rattle.scripts.proofs.lent.risen.Statement.{statement}
+use Rattle.scripts.proofs.lent.risen.Tie as tie
 
 wrapping-add-u8-requires : tie.Need-wrapping-add-u8-requires
 wrapping-add-u8-requires c κs = search needs

@@ -1,8 +1,8 @@
 use mathlib.Core.Path.{refl}
-use Rattle.trials.specs.Lent.{itemOf}
+use Rattle.scripts.specs.Lent.{itemOf}
 use borrow.Author.Needs.{needs}
-use Rattle.trials.proofs.lent.item_of.Statement.{statement}
-use Rattle.trials.proofs.lent.item_of.Tie as tie
+use Rattle.scripts.proofs.lent.item_of.Statement.{statement}
+use Rattle.scripts.proofs.lent.item_of.Tie as tie
 
 slice-aggregate-put-bytes : tie.Need-slice-aggregate-put-bytes
 slice-aggregate-put-bytes c = search needs
