@@ -12,16 +12,16 @@ use borrow.Author.Tests.{ne-eqb}
 use Rattle.ft12.specs.declared.record.Link.{Link}
 use Rattle.calls.specs.declared.event.Event.the-variants.{IdleMark}
 use Rattle.bench.specs.declared.bench.Bench.{Bench}
-use Rattle.trials.specs.declared.line.Line.{Line}
+use Rattle.scripts.specs.declared.line.Line.{Line}
 use Rattle.trials.specs.declared.trial.Trial.{Trial}
 use Rattle.bench.specs.Bench.{idleLink, emptyBench, withLink}
-use Rattle.trials.specs.Line.{lines, lineEnd, readLine}
+use Rattle.scripts.specs.Line.{lines, lineEnd, readLine}
 use Rattle.bench.specs.Run.{happened, quiet, heard}
 use Rattle.bench.specs.Same.{Decides, SameTables, LinkIs}
-use Rattle.trials.specs.Lent.{built, bussed}
+use Rattle.scripts.specs.Lent.{built, bussed}
 use Rattle.trials.specs.Trial.{Goes, Draws, Damaged}
 use Rattle.cases.specs.Script.{listed, keptOf, benchAfter, Right, AllRight, Played}
-use Rattle.trials.proofs.LineLaws.{lines-next, count-fits, end-within, end-some}
+use Rattle.scripts.proofs.LineLaws.{lines-next, count-fits, end-within, end-some}
 use Rattle.bench.proofs.SameLaws.{left-to}
 
 goes-as : (t r : Trial) (b b′ : Bench) {P Q : Type 0} → b ≡ b′ → (P → Q) → (Q → P) → Goes t b P r → Goes t b′ Q r

@@ -8,12 +8,12 @@ use lib.Dec.{eqb}
 use Rattle.words.specs.Words.{if_then_else_}
 use Rattle.calls.specs.declared.event.Event.the-variants.{IdleMark}
 use Rattle.bench.specs.declared.bench.Bench.{Bench}
-use Rattle.trials.specs.declared.line.Line.{Line}
+use Rattle.scripts.specs.declared.line.Line.{Line}
 use Rattle.bench.specs.Bench.{idleLink, emptyBench, withLink}
-use Rattle.trials.specs.Line.{lines, readLine}
+use Rattle.scripts.specs.Line.{lines, readLine}
 use Rattle.bench.specs.Run.{happened, quiet, heard}
 use Rattle.bench.specs.Same.{SameTables, LinkIs}
-use Rattle.trials.specs.Lent.{built, bussed}
+use Rattle.scripts.specs.Lent.{built, bussed}
 use Rattle.trials.specs.Trial.{Draws, Damaged}
 
 -- the bytes of a line

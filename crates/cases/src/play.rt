@@ -9,13 +9,13 @@ use bench::bench::Bench;
 use bench::bench::empty;
 use bench::bench::idle_link;
 use bench::bench::with_link;
+use scripts::lent::after_bus;
+use scripts::lent::told;
+use scripts::line::Line;
+use scripts::line::line_end;
+use scripts::line::read;
 use trace::print;
 use trace::show;
-use trials::lent::after_bus;
-use trials::lent::told;
-use trials::line::Line;
-use trials::line::line_end;
-use trials::line::read;
 use trials::trial;
 use trials::trial::Trial;
 

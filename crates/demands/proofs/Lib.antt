@@ -1,13 +1,7 @@
-pub mod Opened
-pub mod ComputedExamples
-pub mod GeneralExamples
-pub mod Examples
-pub mod SecondRequest
 pub mod ExchangeLaws
 pub mod CallRuns
 pub mod OneDelivery
 pub mod Demand3
-pub mod Demand3Met
 pub mod Demand1
 pub mod ErrorLaws
 pub mod HostLaws
@@ -15,4 +9,3 @@ pub mod ReadBack
 pub mod HostHearsLaws
 pub mod HandedOutLaws
 pub mod Demand2
-pub mod PremisesNeeded

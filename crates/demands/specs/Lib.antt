@@ -1,5 +1,4 @@
 pub mod Run
-pub mod Example
 pub mod Host
 pub mod Refusals
 pub mod SentFrames
@@ -7,4 +6,3 @@ pub mod HostHears
 pub mod HandedOut
 pub mod Answers
 pub mod Exchange
-pub mod Needed

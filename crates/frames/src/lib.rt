@@ -1,3 +1,2 @@
-// The frames of FT1.2 and the byte-wise receiver.
+// The frames of FT1.2: built into a lent buffer, and tested.
 pub mod frame;
-pub mod receiver;

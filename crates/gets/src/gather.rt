@@ -18,13 +18,13 @@ use baos::inner::Gathered;
 use baos::inner::Wanted;
 use baos::item::Item;
 use baos::service::ROOM_FOR_ENTRIES;
+use entries::entry::put_description;
+use entries::entry::put_item;
+use entries::entry::put_value;
+use entries::entry::put_wide_value;
 use records::datapoint::handed_out;
 use records::datapoint::passes_filter;
-use records::entry::put_description;
-use records::entry::put_item;
-use records::entry::put_value;
-use records::entry::put_wide_value;
-use records::value::size_of;
+use values::value::size_of;
 
 // Whether the ID is behind the range.
 fn is_behind(w: Wanted, id: u16) -> bool

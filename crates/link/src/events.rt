@@ -7,12 +7,12 @@ ghost use lib.Dec.{T};
 ghost use Rattle.ft12.specs.Record.{lineOf, linkOf, inRange};
 ghost use Rattle.ft12.specs.Rules.{atStart, onIdleMark};
 ghost use Rattle.ft12.specs.Promise.{HostByteHeard, AckWaited, MessageTaken};
-use crate::parts::ack_wait_over_at;
-use crate::parts::host_byte_at;
-use crate::parts::idle_mark_at;
-use crate::parts::message_at;
 use ft12::record::Link;
 use ft12::rules::Heard;
+use parts::parts::ack_wait_over_at;
+use parts::parts::host_byte_at;
+use parts::parts::idle_mark_at;
+use parts::parts::message_at;
 
 // A host byte. Where it ends a request, its message stands among the receiver's bytes, where `request_message` finds
 // it, until `clear_request`.

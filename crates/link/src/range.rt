@@ -4,11 +4,11 @@ ghost use mathlib.Core.Bool.{_&&_};
 ghost use lib.ListN.{length, take};
 ghost use Rattle.words.specs.Words.{isYes, isPadded};
 ghost use Rattle.ft12.specs.Record.{twoValued, receiverOk, outstandingOk, inRange};
-use crate::case::server_control;
 use frames::frame::is_whole;
-use frames::receiver::is_beginning;
 use ft12::frame::MOST_RESENDS;
 use ft12::record::Link;
+use receiver::receiver::is_beginning;
+use rules::case::server_control;
 use words::bytes::are_zero;
 
 // Whether each of the three is 0 or 1.

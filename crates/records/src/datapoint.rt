@@ -6,8 +6,8 @@ ghost use Prim.Native.Nat.{_+_, _≤_};
 ghost use lib.ListN.{length};
 ghost use Rattle.baos.specs.Datapoint.{handedOut, busValue, outcome, withMark};
 ghost use Rattle.baos.specs.Get.{passes};
-use crate::value::padded;
 use baos::datapoint::Datapoint;
+use values::value::padded;
 
 // The value was handed out.
 pub fn handed_out(d: Datapoint) -> Datapoint

@@ -1,6 +1,4 @@
-// One record, by value: its size, how it changes, its entry in an answer. Nothing here knows of a table.
-pub mod command;
+// One datapoint record, by value: how it changes when it is handed out or the bus has something for it, and which
+// filters it passes. Nothing here knows of a table.
+pub mod bus;
 pub mod datapoint;
-pub mod entry;
-pub mod item;
-pub mod value;

@@ -2,10 +2,8 @@
 ghost use Rattle.baos.specs.Table.{tablesOf};
 ghost use Rattle.calls.specs.Call.{call};
 ghost use Rattle.calls.specs.Promise.{Leaves};
-use crate::bus::on_bus_event;
 use crate::host_byte::on_host_byte;
 use crate::poll::on_poll;
-use crate::refusal::refusal_of;
 use baos::bus::BusEvent;
 use baos::datapoint::Datapoint;
 use baos::item::Item;
@@ -14,6 +12,8 @@ use calls::reply::Reply;
 use ft12::record::Link;
 use link::events::ack_wait_over;
 use link::events::idle_mark;
+use refusals::bus::on_bus_event;
+use refusals::refusal::refusal_of;
 
 // One event. Checks what is lent in every call: the refusals' numbers, the lowest first; then what the event does.
 // Answers the refusal's number, with nothing altered, or how many bytes of the output are to be sent. The value is

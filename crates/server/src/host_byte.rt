@@ -18,9 +18,9 @@ use ft12::rules::Heard;
 use link::events::clear_request;
 use link::events::host_byte;
 use link::events::take_message;
-use link::request::ANSWER_AT;
-use link::request::ANSWER_FRAME_AT;
-use link::request::request_message;
+use rules::request::ANSWER_AT;
+use rules::request::ANSWER_FRAME_AT;
+use rules::request::request_message;
 use services::service::carry_out;
 
 // The acknowledgement, where one is due; answers how many bytes it has.

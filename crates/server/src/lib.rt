@@ -1,6 +1,4 @@
 // The server: one call takes an event and answers with the bytes to send.
-pub mod bus;
 pub mod call;
 pub mod host_byte;
 pub mod poll;
-pub mod refusal;

@@ -1,4 +1,2 @@
-// A message carried out, and the indication.
-pub mod bus;
-pub mod indication;
+// A message carried out.
 pub mod service;

@@ -3,12 +3,12 @@ ghost use mathlib.Core.Path.{_≡_};
 ghost use Rattle.ft12.specs.Record.{linkOf};
 ghost use Rattle.baos.specs.Table.{tablesOf};
 ghost use Rattle.calls.specs.Exported.{calledBy, Gives, freshLine};
-use crate::numbers::event_numbered;
-use crate::numbers::is_event;
-use crate::numbers::reply_number;
 use baos::datapoint::Datapoint;
 use baos::item::Item;
 use ft12::record::Link;
+use numbers::numbers::event_numbered;
+use numbers::numbers::is_event;
+use numbers::numbers::reply_number;
 use server::call::call;
 
 // One event, by numbers. Answers how many bytes of the output are to be sent, or a number below 0, with nothing

@@ -3,7 +3,7 @@ use crate::print;
 use baos::datapoint::Datapoint;
 use baos::item::Item;
 use ft12::record::Link;
-use records::value::size_of;
+use values::value::size_of;
 
 // ID and data.
 pub fn item(i: Item) {

@@ -1,3 +1,1 @@
 pub mod TrialLaws
-pub mod LineLaws
-pub mod LentLaws

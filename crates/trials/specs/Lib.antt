@@ -1,3 +1,1 @@
 pub mod Trial
-pub mod Line
-pub mod Lent

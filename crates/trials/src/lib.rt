@@ -1,4 +1,2 @@
-// Trials: the lines of a script read, the tables that it tells, and a server tried against what it asks.
-pub mod lent;
-pub mod line;
+// Trials: a server tried against what a script asks.
 pub mod trial;

@@ -1,7 +1,7 @@
 use Prim.Native.Nat.{_-_}
 use lib.ListN.{length}
 use native.Mathlib.Omega.{arith}
-use Rattle.trials.proofs.LineLaws.{count-fits}
+use Rattle.scripts.proofs.LineLaws.{count-fits}
 use Rattle.cases.proofs.ScriptLaws.{Playing, playing-begins, line-within, line-some, playing-goes, playing-ends}
 use borrow.Author.Needs.{needs}
 use Rattle.cases.proofs.play.play.Statement.{statement}

@@ -56,10 +56,10 @@ use Rattle.gets.proofs.gather.is_behind as is-behind
 use Rattle.gets.proofs.gather.is_behind.Symbol as is-behind-def
 use Rattle.gets.proofs.gather.is_behind.Symbol.{name as #gets·gather·is-behind}
 use Rattle.gets.proofs.gather.is_behind.Met as is-behind-thm
-use Rattle.records.proofs.entry.put_item as put-item
-use Rattle.records.proofs.entry.put_item.Symbol as put-item-def
-use Rattle.records.proofs.entry.put_item.Symbol.{name as #records·entry·put-item}
-use Rattle.records.proofs.entry.put_item.Met as put-item-thm
+use Rattle.entries.proofs.entry.put_item as put-item
+use Rattle.entries.proofs.entry.put_item.Symbol as put-item-def
+use Rattle.entries.proofs.entry.put_item.Symbol.{name as #entries·entry·put-item}
+use Rattle.entries.proofs.entry.put_item.Met as put-item-thm
 use Rattle.gets.proofs.gather.build_items.Key.{name as #gets·gather·build-items}
 use Rattle.gets.proofs.gather.build_items as f
 use Rattle.gets.proofs.gather.build_items.Statement as stated
@@ -75,7 +75,7 @@ loc j = 34 - 2 * j
 
 record Known {M : Type 1} (𝓤 : URA M) (H : Heap 𝓤) (A : Atoms 𝓤) (mem : Memory → SProp 𝓤) (run : Routine → Fun 𝓤) (C : Calls 𝓤 H) : Type 1 where
   pub is-behind : Triple 𝓤 (C #gets·gather·is-behind) (tripleOf 𝓤 H A is-behind.signature (is-behind.spec 𝓤 H A mem run))
-  pub put-item : Triple 𝓤 (C #records·entry·put-item) (tripleOf 𝓤 H A put-item.signature (put-item.spec 𝓤 H A mem run))
+  pub put-item : Triple 𝓤 (C #entries·entry·put-item) (tripleOf 𝓤 H A put-item.signature (put-item.spec 𝓤 H A mem run))
 
 module _ {M : Type 1} (𝓤 : URA M) (H : Heap 𝓤) (A : Atoms 𝓤) (W : Given 𝓤 H A) (mem : Memory → SProp 𝓤) (run : Routine → Fun 𝓤) (𝓣 : Tables 𝓤 H) (known : Known 𝓤 H A mem run (𝓣 .C))
     (κ κ′ : Lft) (q q′ : Share) (p : RefT (List Item)) (start : ℕ) (w : Wanted) (p′ : RefT (List ℕ)) (at : ℕ)
@@ -261,6 +261,6 @@ build-items-spec 𝓤 H 𝓜 𝓖 𝓡 =
     (meets-by 2 𝓤 H (𝓖 .A) W ps placeD (f.clauses 𝓤 H (𝓖 .A) (𝓜 .mem) (𝓡 .run)) 𝓣 code.function (λ κs qs a _ are. needs 𝓤 _ _ (λ ok. walk 𝓤 H (𝓖 .A) W (𝓜 .mem) (𝓡 .run) 𝓣
     record {
       is-behind = cited 𝓤 H (tripleOf 𝓤 H (𝓖 .A) is-behind.signature (is-behind.spec 𝓤 H (𝓖 .A) (𝓜 .mem) (𝓡 .run))) 𝓜 𝓡 code.env #gets·gather·is-behind is-behind-def.routine code.calls-gets·gather·is-behind (is-behind-thm.met 𝓤 H 𝓜 𝓖 𝓡);
-      put-item = cited 𝓤 H (tripleOf 𝓤 H (𝓖 .A) put-item.signature (put-item.spec 𝓤 H (𝓖 .A) (𝓜 .mem) (𝓡 .run))) 𝓜 𝓡 code.env #records·entry·put-item put-item-def.routine code.calls-records·entry·put-item (put-item-thm.met 𝓤 H 𝓜 𝓖 𝓡);
+      put-item = cited 𝓤 H (tripleOf 𝓤 H (𝓖 .A) put-item.signature (put-item.spec 𝓤 H (𝓖 .A) (𝓜 .mem) (𝓡 .run))) 𝓜 𝓡 code.env #entries·entry·put-item put-item-def.routine code.calls-entries·entry·put-item (put-item-thm.met 𝓤 H 𝓜 𝓖 𝓡);
     }
     (κs .0) (κs .1 .0) (qs .0) (qs .1 .0) (a .0) (a .1 .0) (a .1 .1 .0) (a .1 .1 .1 .0) (a .1 .1 .1 .1 .0) (are .0 .0 .1) (are .1 .0) (are .1 .1 .0) (are .1 .1 .1 .0 .0 .1) (are .1 .1 .1 .1 .0) (ok .0) (ok .1) (ok .2))))

@@ -5,7 +5,7 @@ use lib.ListN.{length}
 use borrow.Author.Needs.{needs}
 use Rattle.baos.proofs.DatapointLaws.{size-fits}
 use Rattle.baos.proofs.MeasureLaws.{value-length, description-length}
-use Rattle.records.proofs.value.size_of.Reads as size-of-reads
+use Rattle.values.proofs.value.size_of.Reads as size-of-reads
 use Rattle.gets.proofs.gather.entry_size.Statement.{statement}
 use Rattle.gets.proofs.gather.entry_size.Tie as tie
 

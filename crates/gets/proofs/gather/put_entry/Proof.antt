@@ -5,8 +5,8 @@ use borrow.Author.Needs.{needs}
 use Rattle.baos.specs.Get.{AnswerEntry}
 use Rattle.baos.proofs.MeasureLaws.{entry-value, entry-description, value-length, description-length}
 use Rattle.baos.proofs.WrittenLaws.{written-as}
-use Rattle.records.proofs.entry.put_description.Reads as put-description-reads
-use Rattle.records.proofs.entry.put_value.Reads as put-value-reads
+use Rattle.entries.proofs.entry.put_description.Reads as put-description-reads
+use Rattle.entries.proofs.entry.put_value.Reads as put-value-reads
 use Rattle.gets.proofs.gather.put_entry.Statement.{statement}
 use Rattle.gets.proofs.gather.put_entry.Tie as tie
 

@@ -48,10 +48,10 @@ use Rattle.ft12.proofs.record.Link as L
 use Rattle.words.specs.Words.{put}
 use Rattle.ft12.specs.Rules.{onAckWaitOver}
 use Rattle.ft12.specs.Promise.{AckWaited}
-use Rattle.link.proofs.parts.ack_wait_over_at as ack-wait-over-at
-use Rattle.link.proofs.parts.ack_wait_over_at.Symbol as ack-wait-over-at-def
-use Rattle.link.proofs.parts.ack_wait_over_at.Symbol.{name as #link·parts·ack-wait-over-at}
-use Rattle.link.proofs.parts.ack_wait_over_at.Met as ack-wait-over-at-thm
+use Rattle.parts.proofs.parts.ack_wait_over_at as ack-wait-over-at
+use Rattle.parts.proofs.parts.ack_wait_over_at.Symbol as ack-wait-over-at-def
+use Rattle.parts.proofs.parts.ack_wait_over_at.Symbol.{name as #parts·parts·ack-wait-over-at}
+use Rattle.parts.proofs.parts.ack_wait_over_at.Met as ack-wait-over-at-thm
 use Rattle.link.proofs.events.ack_wait_over.Key.{name as #link·events·ack-wait-over}
 use Rattle.link.proofs.events.ack_wait_over as f
 use Rattle.link.proofs.events.ack_wait_over.Statement as stated
@@ -64,7 +64,7 @@ abbrev C-ack-wait-over-at : {M : Type 1} (𝓤 : URA M) (H : Heap 𝓤) (A : Ato
 C-ack-wait-over-at 𝓤 H A mem run = tripleOf 𝓤 H A ack-wait-over-at.signature (ack-wait-over-at.spec 𝓤 H A mem run)
 
 module _ {M : Type 1} (𝓤 : URA M) (H : Heap 𝓤) (A : Atoms 𝓤) (W : Given 𝓤 H A) (mem : Memory → SProp 𝓤) (run : Routine → Fun 𝓤) (𝓣 : Tables 𝓤 H)
-    (known-ack-wait-over-at : Triple 𝓤 (𝓣 .C #link·parts·ack-wait-over-at) (C-ack-wait-over-at 𝓤 H A mem run))
+    (known-ack-wait-over-at : Triple 𝓤 (𝓣 .C #parts·parts·ack-wait-over-at) (C-ack-wait-over-at 𝓤 H A mem run))
     (κ0 κ1 : Lft) (q0 q1 : Share) (link : RefT Link) (out : RefT (List ℕ)) (out-room : Room (byteD .row) (length (out .now))) (lt : T (inRange (link .now)) × (262 ≤ length (out .now))) where
   abbrev x : RefT Link × (RefT (List ℕ) × Unit {0})
   x = (link, (out, tt))
@@ -197,5 +197,5 @@ ack-wait-over-spec 𝓤 H 𝓜 𝓖 𝓡 =
     entered 𝓤 H (tripleOf 𝓤 H (𝓖 .A) f.signature (f.spec 𝓤 H (𝓖 .A) (𝓜 .mem) (𝓡 .run)))
     (tables 𝓤 H 𝓜 𝓡 code.env .C) (tables 𝓤 H 𝓜 𝓡 code.env .Λ) #link·events·ack-wait-over code.function (code.unfolded 𝓤 H 𝓜 𝓡)
     (meets-by 2 𝓤 H (𝓖 .A) W ps sizeD (f.clauses 𝓤 H (𝓖 .A) (𝓜 .mem) (𝓡 .run)) 𝓣 code.function (λ κs qs a _ are. needs 𝓤 _ _ (λ lt. walk 𝓤 H (𝓖 .A) W (𝓜 .mem) (𝓡 .run) 𝓣
-    (cited 𝓤 H (C-ack-wait-over-at 𝓤 H (𝓖 .A) (𝓜 .mem) (𝓡 .run)) 𝓜 𝓡 code.env #link·parts·ack-wait-over-at ack-wait-over-at-def.routine code.calls-link·parts·ack-wait-over-at (ack-wait-over-at-thm.met 𝓤 H 𝓜 𝓖 𝓡))
+    (cited 𝓤 H (C-ack-wait-over-at 𝓤 H (𝓖 .A) (𝓜 .mem) (𝓡 .run)) 𝓜 𝓡 code.env #parts·parts·ack-wait-over-at ack-wait-over-at-def.routine code.calls-parts·parts·ack-wait-over-at (ack-wait-over-at-thm.met 𝓤 H 𝓜 𝓖 𝓡))
     (κs .0) (κs .1 .0) (qs .0) (qs .1 .0) (a .0) (a .1 .0) (are .1 .0 .0 .1) lt)))

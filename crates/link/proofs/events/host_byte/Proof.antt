@@ -41,10 +41,10 @@ use Rattle.ft12.specs.declared.rules.Heard.{Heard}
 use Rattle.ft12.specs.Rules.{heardAt, afterHostByte}
 use Rattle.ft12.specs.Promise.{HostByteHeard}
 use Rattle.ft12.proofs.record.Link as L
-use Rattle.link.proofs.parts.host_byte_at as g
-use Rattle.link.proofs.parts.host_byte_at.Symbol as g-def
-use Rattle.link.proofs.parts.host_byte_at.Symbol.{name as #link·parts·host-byte-at}
-use Rattle.link.proofs.parts.host_byte_at.Met as g-thm
+use Rattle.parts.proofs.parts.host_byte_at as g
+use Rattle.parts.proofs.parts.host_byte_at.Symbol as g-def
+use Rattle.parts.proofs.parts.host_byte_at.Symbol.{name as #parts·parts·host-byte-at}
+use Rattle.parts.proofs.parts.host_byte_at.Met as g-thm
 use Rattle.link.proofs.events.host_byte.Key.{name as #link·events·host-byte}
 use Rattle.link.proofs.events.host_byte as f
 use Rattle.link.proofs.events.host_byte.Statement as stated
@@ -57,7 +57,7 @@ abbrev C-g : {M : Type 1} (𝓤 : URA M) (H : Heap 𝓤) (A : Atoms 𝓤) (mem :
 C-g 𝓤 H A mem run = tripleOf 𝓤 H A g.signature (g.spec 𝓤 H A mem run)
 
 module _ {M : Type 1} (𝓤 : URA M) (H : Heap 𝓤) (A : Atoms 𝓤) (W : Given 𝓤 H A) (mem : Memory → SProp 𝓤) (run : Routine → Fun 𝓤) (𝓣 : Tables 𝓤 H)
-    (known : Triple 𝓤 (𝓣 .C #link·parts·host-byte-at) (C-g 𝓤 H A mem run)) (κ : Lft) (q : Share) (s : RefT Link) (n : ℕ) (n-ok : Good byteD n) (in-room : T (inRange (s .now))) where
+    (known : Triple 𝓤 (𝓣 .C #parts·parts·host-byte-at) (C-g 𝓤 H A mem run)) (κ : Lft) (q : Share) (s : RefT Link) (n : ℕ) (n-ok : Good byteD n) (in-room : T (inRange (s .now))) where
   abbrev x : RefT Link × (ℕ × Unit {0})
   x = (s, (n, tt))
 
@@ -129,5 +129,5 @@ host-byte-spec 𝓤 H 𝓜 𝓖 𝓡 =
     entered 𝓤 H (tripleOf 𝓤 H (𝓖 .A) f.signature (f.spec 𝓤 H (𝓖 .A) (𝓜 .mem) (𝓡 .run)))
     (tables 𝓤 H 𝓜 𝓡 code.env .C) (tables 𝓤 H 𝓜 𝓡 code.env .Λ) #link·events·host-byte code.function (code.unfolded 𝓤 H 𝓜 𝓡)
     (meets-by 1 𝓤 H (𝓖 .A) W ps heardD (f.clauses 𝓤 H (𝓖 .A) (𝓜 .mem) (𝓡 .run)) 𝓣 code.function (λ κs qs a _ are. needs 𝓤 _ _ (λ in-room. walk 𝓤 H (𝓖 .A) W (𝓜 .mem) (𝓡 .run) 𝓣
-    (cited 𝓤 H (C-g 𝓤 H (𝓖 .A) (𝓜 .mem) (𝓡 .run)) 𝓜 𝓡 code.env #link·parts·host-byte-at g-def.routine code.calls-link·parts·host-byte-at (g-thm.met 𝓤 H 𝓜 𝓖 𝓡))
+    (cited 𝓤 H (C-g 𝓤 H (𝓖 .A) (𝓜 .mem) (𝓡 .run)) 𝓜 𝓡 code.env #parts·parts·host-byte-at g-def.routine code.calls-parts·parts·host-byte-at (g-thm.met 𝓤 H 𝓜 𝓖 𝓡))
     (κs .0) (qs .0) (a .0) (a .1 .0) (are .1 .0) in-room)))

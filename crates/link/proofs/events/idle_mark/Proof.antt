@@ -45,10 +45,10 @@ use denote.Plain.{UInt, Boolean}
 use denote.Struct.Members.{partsAt}
 use Rattle.ft12.proofs.record.Link as L
 use Rattle.ft12.specs.Rules.{onIdleMark}
-use Rattle.link.proofs.parts.idle_mark_at as idle-mark-at
-use Rattle.link.proofs.parts.idle_mark_at.Symbol as idle-mark-at-def
-use Rattle.link.proofs.parts.idle_mark_at.Symbol.{name as #link·parts·idle-mark-at}
-use Rattle.link.proofs.parts.idle_mark_at.Met as idle-mark-at-thm
+use Rattle.parts.proofs.parts.idle_mark_at as idle-mark-at
+use Rattle.parts.proofs.parts.idle_mark_at.Symbol as idle-mark-at-def
+use Rattle.parts.proofs.parts.idle_mark_at.Symbol.{name as #parts·parts·idle-mark-at}
+use Rattle.parts.proofs.parts.idle_mark_at.Met as idle-mark-at-thm
 use Rattle.link.proofs.events.idle_mark.Key.{name as #link·events·idle-mark}
 use Rattle.link.proofs.events.idle_mark as f
 use Rattle.link.proofs.events.idle_mark.Statement as stated
@@ -61,7 +61,7 @@ abbrev C-idle-mark-at : {M : Type 1} (𝓤 : URA M) (H : Heap 𝓤) (A : Atoms �
 C-idle-mark-at 𝓤 H A mem run = tripleOf 𝓤 H A idle-mark-at.signature (idle-mark-at.spec 𝓤 H A mem run)
 
 module _ {M : Type 1} (𝓤 : URA M) (H : Heap 𝓤) (A : Atoms 𝓤) (W : Given 𝓤 H A) (mem : Memory → SProp 𝓤) (run : Routine → Fun 𝓤) (𝓣 : Tables 𝓤 H)
-    (known-idle-mark-at : Triple 𝓤 (𝓣 .C #link·parts·idle-mark-at) (C-idle-mark-at 𝓤 H A mem run))
+    (known-idle-mark-at : Triple 𝓤 (𝓣 .C #parts·parts·idle-mark-at) (C-idle-mark-at 𝓤 H A mem run))
     (κ0 : Lft) (q0 : Share) (link : RefT Link) (lt : T (inRange (link .now))) where
   abbrev x : RefT Link × Unit {0}
   x = (link, tt)
@@ -183,5 +183,5 @@ idle-mark-spec 𝓤 H 𝓜 𝓖 𝓡 =
     entered 𝓤 H (tripleOf 𝓤 H (𝓖 .A) f.signature (f.spec 𝓤 H (𝓖 .A) (𝓜 .mem) (𝓡 .run)))
     (tables 𝓤 H 𝓜 𝓡 code.env .C) (tables 𝓤 H 𝓜 𝓡 code.env .Λ) #link·events·idle-mark code.function (code.unfolded 𝓤 H 𝓜 𝓡)
     (meets-by 1 𝓤 H (𝓖 .A) W ps unitD (f.clauses 𝓤 H (𝓖 .A) (𝓜 .mem) (𝓡 .run)) 𝓣 code.function (λ κs qs a _ are. needs 𝓤 _ _ (λ lt. walk 𝓤 H (𝓖 .A) W (𝓜 .mem) (𝓡 .run) 𝓣
-    (cited 𝓤 H (C-idle-mark-at 𝓤 H (𝓖 .A) (𝓜 .mem) (𝓡 .run)) 𝓜 𝓡 code.env #link·parts·idle-mark-at idle-mark-at-def.routine code.calls-link·parts·idle-mark-at (idle-mark-at-thm.met 𝓤 H 𝓜 𝓖 𝓡))
+    (cited 𝓤 H (C-idle-mark-at 𝓤 H (𝓖 .A) (𝓜 .mem) (𝓡 .run)) 𝓜 𝓡 code.env #parts·parts·idle-mark-at idle-mark-at-def.routine code.calls-parts·parts·idle-mark-at (idle-mark-at-thm.met 𝓤 H 𝓜 𝓖 𝓡))
     (κs .0) (qs .0) (a .0) lt)))

@@ -48,10 +48,10 @@ use Rattle.ft12.proofs.record.Link as L
 use Rattle.words.specs.Words.{put}
 use Rattle.ft12.specs.Rules.{onMessage}
 use Rattle.ft12.specs.Promise.{MessageTaken}
-use Rattle.link.proofs.parts.message_at as message-at
-use Rattle.link.proofs.parts.message_at.Symbol as message-at-def
-use Rattle.link.proofs.parts.message_at.Symbol.{name as #link·parts·message-at}
-use Rattle.link.proofs.parts.message_at.Met as message-at-thm
+use Rattle.parts.proofs.parts.message_at as message-at
+use Rattle.parts.proofs.parts.message_at.Symbol as message-at-def
+use Rattle.parts.proofs.parts.message_at.Symbol.{name as #parts·parts·message-at}
+use Rattle.parts.proofs.parts.message_at.Met as message-at-thm
 use Rattle.link.proofs.events.take_message.Key.{name as #link·events·take-message}
 use Rattle.link.proofs.events.take_message as f
 use Rattle.link.proofs.events.take_message.Statement as stated
@@ -64,7 +64,7 @@ abbrev C-message-at : {M : Type 1} (𝓤 : URA M) (H : Heap 𝓤) (A : Atoms �
 C-message-at 𝓤 H A mem run = tripleOf 𝓤 H A message-at.signature (message-at.spec 𝓤 H A mem run)
 
 module _ {M : Type 1} (𝓤 : URA M) (H : Heap 𝓤) (A : Atoms 𝓤) (W : Given 𝓤 H A) (mem : Memory → SProp 𝓤) (run : Routine → Fun 𝓤) (𝓣 : Tables 𝓤 H)
-    (known-message-at : Triple 𝓤 (𝓣 .C #link·parts·message-at) (C-message-at 𝓤 H A mem run))
+    (known-message-at : Triple 𝓤 (𝓣 .C #parts·parts·message-at) (C-message-at 𝓤 H A mem run))
     (κ0 κ1 : Lft) (q0 q1 : Share) (link : RefT Link) (out : RefT (List ℕ)) (at : ℕ) (n : ℕ) (out-room : Room (byteD .row) (length (out .now))) (at-ok : Good sizeD at) (n-ok : Good sizeD n) (lt : T (inRange (link .now)) × (at ≤ 1) × (262 ≤ length (out .now))) where
   abbrev x : RefT Link × (RefT (List ℕ) × (ℕ × (ℕ × Unit {0})))
   x = (link, (out, (at, (n, tt))))
@@ -201,5 +201,5 @@ take-message-spec 𝓤 H 𝓜 𝓖 𝓡 =
     entered 𝓤 H (tripleOf 𝓤 H (𝓖 .A) f.signature (f.spec 𝓤 H (𝓖 .A) (𝓜 .mem) (𝓡 .run)))
     (tables 𝓤 H 𝓜 𝓡 code.env .C) (tables 𝓤 H 𝓜 𝓡 code.env .Λ) #link·events·take-message code.function (code.unfolded 𝓤 H 𝓜 𝓡)
     (meets-by 2 𝓤 H (𝓖 .A) W ps sizeD (f.clauses 𝓤 H (𝓖 .A) (𝓜 .mem) (𝓡 .run)) 𝓣 code.function (λ κs qs a _ are. needs 𝓤 _ _ (λ lt. walk 𝓤 H (𝓖 .A) W (𝓜 .mem) (𝓡 .run) 𝓣
-    (cited 𝓤 H (C-message-at 𝓤 H (𝓖 .A) (𝓜 .mem) (𝓡 .run)) 𝓜 𝓡 code.env #link·parts·message-at message-at-def.routine code.calls-link·parts·message-at (message-at-thm.met 𝓤 H 𝓜 𝓖 𝓡))
+    (cited 𝓤 H (C-message-at 𝓤 H (𝓖 .A) (𝓜 .mem) (𝓡 .run)) 𝓜 𝓡 code.env #parts·parts·message-at message-at-def.routine code.calls-parts·parts·message-at (message-at-thm.met 𝓤 H 𝓜 𝓖 𝓡))
     (κs .0) (κs .1 .0) (qs .0) (qs .1 .0) (a .0) (a .1 .0) (a .1 .1 .0) (a .1 .1 .1 .0) (are .1 .0 .0 .1) (are .1 .1 .0) (are .1 .1 .1 .0) lt)))

@@ -70,10 +70,10 @@ use Rattle.calls.specs.declared.reply.Reply.the-variants.{Refused, Accepted}
 use Rattle.ft12.proofs.Types.{sizeD, linkD}
 use Rattle.baos.proofs.Types.{datapointD, itemD, outcomeD, busEventD, byteD, idD}
 use Rattle.calls.proofs.Types.{replyD, eventD}
-use Rattle.server.proofs.refusal.refusal_of as refusal-of
-use Rattle.server.proofs.refusal.refusal_of.Symbol as refusal-of-def
-use Rattle.server.proofs.refusal.refusal_of.Symbol.{name as #server·refusal·refusal-of}
-use Rattle.server.proofs.refusal.refusal_of.Met as refusal-of-thm
+use Rattle.refusals.proofs.refusal.refusal_of as refusal-of
+use Rattle.refusals.proofs.refusal.refusal_of.Symbol as refusal-of-def
+use Rattle.refusals.proofs.refusal.refusal_of.Symbol.{name as #refusals·refusal·refusal-of}
+use Rattle.refusals.proofs.refusal.refusal_of.Met as refusal-of-thm
 use Rattle.server.proofs.host_byte.on_host_byte as on-host-byte
 use Rattle.server.proofs.host_byte.on_host_byte.Symbol as on-host-byte-def
 use Rattle.server.proofs.host_byte.on_host_byte.Symbol.{name as #server·host-byte·on-host-byte}
@@ -90,10 +90,10 @@ use Rattle.server.proofs.poll.on_poll as on-poll
 use Rattle.server.proofs.poll.on_poll.Symbol as on-poll-def
 use Rattle.server.proofs.poll.on_poll.Symbol.{name as #server·poll·on-poll}
 use Rattle.server.proofs.poll.on_poll.Met as on-poll-thm
-use Rattle.server.proofs.bus.on_bus_event as on-bus-event
-use Rattle.server.proofs.bus.on_bus_event.Symbol as on-bus-event-def
-use Rattle.server.proofs.bus.on_bus_event.Symbol.{name as #server·bus·on-bus-event}
-use Rattle.server.proofs.bus.on_bus_event.Met as on-bus-event-thm
+use Rattle.refusals.proofs.bus.on_bus_event as on-bus-event
+use Rattle.refusals.proofs.bus.on_bus_event.Symbol as on-bus-event-def
+use Rattle.refusals.proofs.bus.on_bus_event.Symbol.{name as #refusals·bus·on-bus-event}
+use Rattle.refusals.proofs.bus.on_bus_event.Met as on-bus-event-thm
 use Rattle.server.proofs.call.call.Key.{name as #server·call·call}
 use Rattle.server.proofs.call.call as f
 use Rattle.server.proofs.call.call.Statement as stated
@@ -163,7 +163,7 @@ abbrev C-on-bus-event : {M : Type 1} (𝓤 : URA M) (H : Heap 𝓤) (A : Atoms �
 C-on-bus-event 𝓤 H A mem run = tripleOf 𝓤 H A on-bus-event.signature (on-bus-event.spec 𝓤 H A mem run)
 
 module _ {M : Type 1} (𝓤 : URA M) (H : Heap 𝓤) (A : Atoms 𝓤) (W : Given 𝓤 H A) (mem : Memory → SProp 𝓤) (run : Routine → Fun 𝓤) (𝓣 : Tables 𝓤 H)
-    (known-refusal-of : Triple 𝓤 (𝓣 .C #server·refusal·refusal-of) (C-refusal-of 𝓤 H A mem run)) (known-on-host-byte : Triple 𝓤 (𝓣 .C #server·host-byte·on-host-byte) (C-on-host-byte 𝓤 H A mem run)) (known-idle-mark : Triple 𝓤 (𝓣 .C #link·events·idle-mark) (C-idle-mark 𝓤 H A mem run)) (known-ack-wait-over : Triple 𝓤 (𝓣 .C #link·events·ack-wait-over) (C-ack-wait-over 𝓤 H A mem run)) (known-on-poll : Triple 𝓤 (𝓣 .C #server·poll·on-poll) (C-on-poll 𝓤 H A mem run)) (known-on-bus-event : Triple 𝓤 (𝓣 .C #server·bus·on-bus-event) (C-on-bus-event 𝓤 H A mem run))
+    (known-refusal-of : Triple 𝓤 (𝓣 .C #refusals·refusal·refusal-of) (C-refusal-of 𝓤 H A mem run)) (known-on-host-byte : Triple 𝓤 (𝓣 .C #server·host-byte·on-host-byte) (C-on-host-byte 𝓤 H A mem run)) (known-idle-mark : Triple 𝓤 (𝓣 .C #link·events·idle-mark) (C-idle-mark 𝓤 H A mem run)) (known-ack-wait-over : Triple 𝓤 (𝓣 .C #link·events·ack-wait-over) (C-ack-wait-over 𝓤 H A mem run)) (known-on-poll : Triple 𝓤 (𝓣 .C #server·poll·on-poll) (C-on-poll 𝓤 H A mem run)) (known-on-bus-event : Triple 𝓤 (𝓣 .C #refusals·bus·on-bus-event) (C-on-bus-event 𝓤 H A mem run))
     (κ0 κ1 κ2 κ3 κ4 κ5 : Lft) (q0 q1 q2 q3 q4 q5 : Share) (event : Event) (value : RefT (List ℕ)) (datapoints : RefT (List Datapoint)) (items : RefT (List Item)) (parameters : RefT (List ℕ)) (link : RefT Link) (out : RefT (List ℕ)) (event-ok : Good eventD event) (value-room : Room (byteD .row) (length (value .now))) (datapoints-room : Room (datapointD .row) (length (datapoints .now))) (items-room : Room (itemD .row) (length (items .now))) (parameters-room : Room (byteD .row) (length (parameters .now))) (out-room : Room (byteD .row) (length (out .now))) where
   abbrev x : Event × (RefT (List ℕ) × (RefT (List Datapoint) × (RefT (List Item) × (RefT (List ℕ) × (RefT Link × (RefT (List ℕ) × Unit {0}))))))
   x = (event, (value, (datapoints, (items, (parameters, (link, (out, tt)))))))
@@ -442,10 +442,10 @@ call-spec 𝓤 H 𝓜 𝓖 𝓡 =
     entered 𝓤 H (tripleOf 𝓤 H (𝓖 .A) f.signature (f.spec 𝓤 H (𝓖 .A) (𝓜 .mem) (𝓡 .run)))
     (tables 𝓤 H 𝓜 𝓡 code.env .C) (tables 𝓤 H 𝓜 𝓡 code.env .Λ) #server·call·call code.function (code.unfolded 𝓤 H 𝓜 𝓡)
     (meets-by 6 𝓤 H (𝓖 .A) W ps replyD (f.clauses 𝓤 H (𝓖 .A) (𝓜 .mem) (𝓡 .run)) 𝓣 code.function (λ κs qs a _ are. via 𝓤 _ (fst∗ 𝓤 _ (emp 𝓤)) (walk 𝓤 H (𝓖 .A) W (𝓜 .mem) (𝓡 .run) 𝓣
-    (cited 𝓤 H (C-refusal-of 𝓤 H (𝓖 .A) (𝓜 .mem) (𝓡 .run)) 𝓜 𝓡 code.env #server·refusal·refusal-of refusal-of-def.routine code.calls-server·refusal·refusal-of (refusal-of-thm.met 𝓤 H 𝓜 𝓖 𝓡))
+    (cited 𝓤 H (C-refusal-of 𝓤 H (𝓖 .A) (𝓜 .mem) (𝓡 .run)) 𝓜 𝓡 code.env #refusals·refusal·refusal-of refusal-of-def.routine code.calls-refusals·refusal·refusal-of (refusal-of-thm.met 𝓤 H 𝓜 𝓖 𝓡))
     (cited 𝓤 H (C-on-host-byte 𝓤 H (𝓖 .A) (𝓜 .mem) (𝓡 .run)) 𝓜 𝓡 code.env #server·host-byte·on-host-byte on-host-byte-def.routine code.calls-server·host-byte·on-host-byte (on-host-byte-thm.met 𝓤 H 𝓜 𝓖 𝓡))
     (cited 𝓤 H (C-idle-mark 𝓤 H (𝓖 .A) (𝓜 .mem) (𝓡 .run)) 𝓜 𝓡 code.env #link·events·idle-mark idle-mark-def.routine code.calls-link·events·idle-mark (idle-mark-thm.met 𝓤 H 𝓜 𝓖 𝓡))
     (cited 𝓤 H (C-ack-wait-over 𝓤 H (𝓖 .A) (𝓜 .mem) (𝓡 .run)) 𝓜 𝓡 code.env #link·events·ack-wait-over ack-wait-over-def.routine code.calls-link·events·ack-wait-over (ack-wait-over-thm.met 𝓤 H 𝓜 𝓖 𝓡))
     (cited 𝓤 H (C-on-poll 𝓤 H (𝓖 .A) (𝓜 .mem) (𝓡 .run)) 𝓜 𝓡 code.env #server·poll·on-poll on-poll-def.routine code.calls-server·poll·on-poll (on-poll-thm.met 𝓤 H 𝓜 𝓖 𝓡))
-    (cited 𝓤 H (C-on-bus-event 𝓤 H (𝓖 .A) (𝓜 .mem) (𝓡 .run)) 𝓜 𝓡 code.env #server·bus·on-bus-event on-bus-event-def.routine code.calls-server·bus·on-bus-event (on-bus-event-thm.met 𝓤 H 𝓜 𝓖 𝓡))
+    (cited 𝓤 H (C-on-bus-event 𝓤 H (𝓖 .A) (𝓜 .mem) (𝓡 .run)) 𝓜 𝓡 code.env #refusals·bus·on-bus-event on-bus-event-def.routine code.calls-refusals·bus·on-bus-event (on-bus-event-thm.met 𝓤 H 𝓜 𝓖 𝓡))
     (κs .0) (κs .1 .0) (κs .1 .1 .0) (κs .1 .1 .1 .0) (κs .1 .1 .1 .1 .0) (κs .1 .1 .1 .1 .1 .0) (qs .0) (qs .1 .0) (qs .1 .1 .0) (qs .1 .1 .1 .0) (qs .1 .1 .1 .1 .0) (qs .1 .1 .1 .1 .1 .0) (a .0) (a .1 .0) (a .1 .1 .0) (a .1 .1 .1 .0) (a .1 .1 .1 .1 .0) (a .1 .1 .1 .1 .1 .0) (a .1 .1 .1 .1 .1 .1 .0) (are .0) (are .1 .0 .0 .1) (are .1 .1 .0 .0 .1) (are .1 .1 .1 .0 .0 .1) (are .1 .1 .1 .1 .0 .0 .1) (are .1 .1 .1 .1 .1 .1 .0 .0 .1))))

@@ -56,10 +56,10 @@ use Rattle.calls.proofs.reply.Reply as R
 use Rattle.calls.proofs.reply.Reply.Laws as R′
 use Rattle.calls.proofs.Types.{replyD}
 use Rattle.calls.proofs.PollLaws.{poll-waits, poll-says}
-use Rattle.services.proofs.indication.indicate as indicate
-use Rattle.services.proofs.indication.indicate.Symbol as indicate-def
-use Rattle.services.proofs.indication.indicate.Symbol.{name as #services·indication·indicate}
-use Rattle.services.proofs.indication.indicate.Met as indicate-thm
+use Rattle.indications.proofs.indication.indicate as indicate
+use Rattle.indications.proofs.indication.indicate.Symbol as indicate-def
+use Rattle.indications.proofs.indication.indicate.Symbol.{name as #indications·indication·indicate}
+use Rattle.indications.proofs.indication.indicate.Met as indicate-thm
 use Rattle.link.proofs.events.take_message as take-message
 use Rattle.link.proofs.events.take_message.Symbol as take-message-def
 use Rattle.link.proofs.events.take_message.Symbol.{name as #link·events·take-message}
@@ -79,7 +79,7 @@ abbrev C-take-message : {M : Type 1} (𝓤 : URA M) (H : Heap 𝓤) (A : Atoms �
 C-take-message 𝓤 H A mem run = tripleOf 𝓤 H A take-message.signature (take-message.spec 𝓤 H A mem run)
 
 module _ {M : Type 1} (𝓤 : URA M) (H : Heap 𝓤) (A : Atoms 𝓤) (W : Given 𝓤 H A) (mem : Memory → SProp 𝓤) (run : Routine → Fun 𝓤) (𝓣 : Tables 𝓤 H)
-    (known-indicate : Triple 𝓤 (𝓣 .C #services·indication·indicate) (C-indicate 𝓤 H A mem run)) (known-take-message : Triple 𝓤 (𝓣 .C #link·events·take-message) (C-take-message 𝓤 H A mem run))
+    (known-indicate : Triple 𝓤 (𝓣 .C #indications·indication·indicate) (C-indicate 𝓤 H A mem run)) (known-take-message : Triple 𝓤 (𝓣 .C #link·events·take-message) (C-take-message 𝓤 H A mem run))
     (κ0 κ1 κ2 : Lft) (q0 q1 q2 : Share) (datapoints : RefT (List Datapoint)) (link : RefT Link) (out : RefT (List ℕ)) (datapoints-room : Room (datapointD .row) (length (datapoints .now))) (out-room : Room (byteD .row) (length (out .now))) (lt : (tableOk 1000 datapointId datapointOk (datapoints .now) ≡ true) × T (inRange (link .now)) × (262 ≤ length (out .now))) where
   abbrev x : RefT (List Datapoint) × (RefT Link × (RefT (List ℕ) × Unit {0}))
   x = (datapoints, (link, (out, tt)))
@@ -209,6 +209,6 @@ on-poll-spec 𝓤 H 𝓜 𝓖 𝓡 =
     entered 𝓤 H (tripleOf 𝓤 H (𝓖 .A) f.signature (f.spec 𝓤 H (𝓖 .A) (𝓜 .mem) (𝓡 .run)))
     (tables 𝓤 H 𝓜 𝓡 code.env .C) (tables 𝓤 H 𝓜 𝓡 code.env .Λ) #server·poll·on-poll code.function (code.unfolded 𝓤 H 𝓜 𝓡)
     (meets-by 3 𝓤 H (𝓖 .A) W ps replyD (f.clauses 𝓤 H (𝓖 .A) (𝓜 .mem) (𝓡 .run)) 𝓣 code.function (λ κs qs a _ are. needs 𝓤 _ _ (λ lt. walk 𝓤 H (𝓖 .A) W (𝓜 .mem) (𝓡 .run) 𝓣
-    (cited 𝓤 H (C-indicate 𝓤 H (𝓖 .A) (𝓜 .mem) (𝓡 .run)) 𝓜 𝓡 code.env #services·indication·indicate indicate-def.routine code.calls-services·indication·indicate (indicate-thm.met 𝓤 H 𝓜 𝓖 𝓡))
+    (cited 𝓤 H (C-indicate 𝓤 H (𝓖 .A) (𝓜 .mem) (𝓡 .run)) 𝓜 𝓡 code.env #indications·indication·indicate indicate-def.routine code.calls-indications·indication·indicate (indicate-thm.met 𝓤 H 𝓜 𝓖 𝓡))
     (cited 𝓤 H (C-take-message 𝓤 H (𝓖 .A) (𝓜 .mem) (𝓡 .run)) 𝓜 𝓡 code.env #link·events·take-message take-message-def.routine code.calls-link·events·take-message (take-message-thm.met 𝓤 H 𝓜 𝓖 𝓡))
     (κs .0) (κs .1 .0) (κs .1 .1 .0) (qs .0) (qs .1 .0) (qs .1 .1 .0) (a .0) (a .1 .0) (a .1 .1 .0) (are .0 .0 .1) (are .1 .1 .0 .0 .1) lt)))

@@ -57,22 +57,22 @@ use Rattle.calls.proofs.Types.{eventD, replyD}
 use Rattle.calls.specs.Numbers.{isEvent, eventNumbered, replyNumber, noEvent}
 use Rattle.tagobrelin.proofs.Numbered.{numberD}
 use Rattle.calls.proofs.ExportedLaws.{no-event, an-event, count-fits}
-use Rattle.tagobrelin.proofs.numbers.is_event as is-event
-use Rattle.tagobrelin.proofs.numbers.is_event.Symbol as is-event-def
-use Rattle.tagobrelin.proofs.numbers.is_event.Symbol.{name as #tagobrelin·numbers·is-event}
-use Rattle.tagobrelin.proofs.numbers.is_event.Met as is-event-thm
-use Rattle.tagobrelin.proofs.numbers.event_numbered as event-numbered
-use Rattle.tagobrelin.proofs.numbers.event_numbered.Symbol as event-numbered-def
-use Rattle.tagobrelin.proofs.numbers.event_numbered.Symbol.{name as #tagobrelin·numbers·event-numbered}
-use Rattle.tagobrelin.proofs.numbers.event_numbered.Met as event-numbered-thm
+use Rattle.numbers.proofs.numbers.is_event as is-event
+use Rattle.numbers.proofs.numbers.is_event.Symbol as is-event-def
+use Rattle.numbers.proofs.numbers.is_event.Symbol.{name as #numbers·numbers·is-event}
+use Rattle.numbers.proofs.numbers.is_event.Met as is-event-thm
+use Rattle.numbers.proofs.numbers.event_numbered as event-numbered
+use Rattle.numbers.proofs.numbers.event_numbered.Symbol as event-numbered-def
+use Rattle.numbers.proofs.numbers.event_numbered.Symbol.{name as #numbers·numbers·event-numbered}
+use Rattle.numbers.proofs.numbers.event_numbered.Met as event-numbered-thm
 use Rattle.server.proofs.call.call as call
 use Rattle.server.proofs.call.call.Symbol as call-def
 use Rattle.server.proofs.call.call.Symbol.{name as #server·call·call}
 use Rattle.server.proofs.call.call.Met as call-thm
-use Rattle.tagobrelin.proofs.numbers.reply_number as reply-number
-use Rattle.tagobrelin.proofs.numbers.reply_number.Symbol as reply-number-def
-use Rattle.tagobrelin.proofs.numbers.reply_number.Symbol.{name as #tagobrelin·numbers·reply-number}
-use Rattle.tagobrelin.proofs.numbers.reply_number.Met as reply-number-thm
+use Rattle.numbers.proofs.numbers.reply_number as reply-number
+use Rattle.numbers.proofs.numbers.reply_number.Symbol as reply-number-def
+use Rattle.numbers.proofs.numbers.reply_number.Symbol.{name as #numbers·numbers·reply-number}
+use Rattle.numbers.proofs.numbers.reply_number.Met as reply-number-thm
 use Rattle.tagobrelin.proofs.exported.tagobrelin_call.Key.{name as #tagobrelin·exported·tagobrelin-call}
 use Rattle.tagobrelin.proofs.exported.tagobrelin_call as f
 use Rattle.tagobrelin.proofs.exported.tagobrelin_call.Statement as stated
@@ -94,7 +94,7 @@ abbrev C-reply-number : {M : Type 1} (𝓤 : URA M) (H : Heap 𝓤) (A : Atoms �
 C-reply-number 𝓤 H A mem run = tripleOf 𝓤 H A reply-number.signature (reply-number.spec 𝓤 H A mem run)
 
 module _ {M : Type 1} (𝓤 : URA M) (H : Heap 𝓤) (A : Atoms 𝓤) (W : Given 𝓤 H A) (mem : Memory → SProp 𝓤) (run : Routine → Fun 𝓤) (𝓣 : Tables 𝓤 H)
-    (known-is-event : Triple 𝓤 (𝓣 .C #tagobrelin·numbers·is-event) (C-is-event 𝓤 H A mem run)) (known-event-numbered : Triple 𝓤 (𝓣 .C #tagobrelin·numbers·event-numbered) (C-event-numbered 𝓤 H A mem run)) (known-call : Triple 𝓤 (𝓣 .C #server·call·call) (C-call 𝓤 H A mem run)) (known-reply-number : Triple 𝓤 (𝓣 .C #tagobrelin·numbers·reply-number) (C-reply-number 𝓤 H A mem run))
+    (known-is-event : Triple 𝓤 (𝓣 .C #numbers·numbers·is-event) (C-is-event 𝓤 H A mem run)) (known-event-numbered : Triple 𝓤 (𝓣 .C #numbers·numbers·event-numbered) (C-event-numbered 𝓤 H A mem run)) (known-call : Triple 𝓤 (𝓣 .C #server·call·call) (C-call 𝓤 H A mem run)) (known-reply-number : Triple 𝓤 (𝓣 .C #numbers·numbers·reply-number) (C-reply-number 𝓤 H A mem run))
     (κ0 κ1 κ2 κ3 κ4 κ5 : Lft) (q0 q1 q2 q3 q4 q5 : Share) (event : ℕ) (byte : ℕ) (id : ℕ) (outcome : ℕ) (value : RefT (List ℕ)) (datapoints : RefT (List Datapoint)) (items : RefT (List Item)) (parameters : RefT (List ℕ)) (link : RefT Link) (out : RefT (List ℕ)) (event-ok : Good byteD event) (byte-ok : Good byteD byte) (id-ok : Good idD id) (outcome-ok : Good byteD outcome) (value-room : Room (byteD .row) (length (value .now))) (datapoints-room : Room (datapointD .row) (length (datapoints .now))) (items-room : Room (itemD .row) (length (items .now))) (parameters-room : Room (byteD .row) (length (parameters .now))) (out-room : Room (byteD .row) (length (out .now))) where
   abbrev x : ℕ × (ℕ × (ℕ × (ℕ × (RefT (List ℕ) × (RefT (List Datapoint) × (RefT (List Item) × (RefT (List ℕ) × (RefT Link × (RefT (List ℕ) × Unit {0})))))))))
   x = (event, (byte, (id, (outcome, (value, (datapoints, (items, (parameters, (link, (out, tt))))))))))
@@ -189,8 +189,8 @@ tagobrelin-call-spec 𝓤 H 𝓜 𝓖 𝓡 =
     entered 𝓤 H (tripleOf 𝓤 H (𝓖 .A) f.signature (f.spec 𝓤 H (𝓖 .A) (𝓜 .mem) (𝓡 .run)))
     (tables 𝓤 H 𝓜 𝓡 code.env .C) (tables 𝓤 H 𝓜 𝓡 code.env .Λ) #tagobrelin·exported·tagobrelin-call code.function (code.unfolded 𝓤 H 𝓜 𝓡)
     (meets-by 6 𝓤 H (𝓖 .A) W ps numberD (f.clauses 𝓤 H (𝓖 .A) (𝓜 .mem) (𝓡 .run)) 𝓣 code.function (λ κs qs a _ are. via 𝓤 _ (fst∗ 𝓤 _ (emp 𝓤)) (walk 𝓤 H (𝓖 .A) W (𝓜 .mem) (𝓡 .run) 𝓣
-    (cited 𝓤 H (C-is-event 𝓤 H (𝓖 .A) (𝓜 .mem) (𝓡 .run)) 𝓜 𝓡 code.env #tagobrelin·numbers·is-event is-event-def.routine code.calls-tagobrelin·numbers·is-event (is-event-thm.met 𝓤 H 𝓜 𝓖 𝓡))
-    (cited 𝓤 H (C-event-numbered 𝓤 H (𝓖 .A) (𝓜 .mem) (𝓡 .run)) 𝓜 𝓡 code.env #tagobrelin·numbers·event-numbered event-numbered-def.routine code.calls-tagobrelin·numbers·event-numbered (event-numbered-thm.met 𝓤 H 𝓜 𝓖 𝓡))
+    (cited 𝓤 H (C-is-event 𝓤 H (𝓖 .A) (𝓜 .mem) (𝓡 .run)) 𝓜 𝓡 code.env #numbers·numbers·is-event is-event-def.routine code.calls-numbers·numbers·is-event (is-event-thm.met 𝓤 H 𝓜 𝓖 𝓡))
+    (cited 𝓤 H (C-event-numbered 𝓤 H (𝓖 .A) (𝓜 .mem) (𝓡 .run)) 𝓜 𝓡 code.env #numbers·numbers·event-numbered event-numbered-def.routine code.calls-numbers·numbers·event-numbered (event-numbered-thm.met 𝓤 H 𝓜 𝓖 𝓡))
     (cited 𝓤 H (C-call 𝓤 H (𝓖 .A) (𝓜 .mem) (𝓡 .run)) 𝓜 𝓡 code.env #server·call·call call-def.routine code.calls-server·call·call (call-thm.met 𝓤 H 𝓜 𝓖 𝓡))
-    (cited 𝓤 H (C-reply-number 𝓤 H (𝓖 .A) (𝓜 .mem) (𝓡 .run)) 𝓜 𝓡 code.env #tagobrelin·numbers·reply-number reply-number-def.routine code.calls-tagobrelin·numbers·reply-number (reply-number-thm.met 𝓤 H 𝓜 𝓖 𝓡))
+    (cited 𝓤 H (C-reply-number 𝓤 H (𝓖 .A) (𝓜 .mem) (𝓡 .run)) 𝓜 𝓡 code.env #numbers·numbers·reply-number reply-number-def.routine code.calls-numbers·numbers·reply-number (reply-number-thm.met 𝓤 H 𝓜 𝓖 𝓡))
     (κs .0) (κs .1 .0) (κs .1 .1 .0) (κs .1 .1 .1 .0) (κs .1 .1 .1 .1 .0) (κs .1 .1 .1 .1 .1 .0) (qs .0) (qs .1 .0) (qs .1 .1 .0) (qs .1 .1 .1 .0) (qs .1 .1 .1 .1 .0) (qs .1 .1 .1 .1 .1 .0) (a .0) (a .1 .0) (a .1 .1 .0) (a .1 .1 .1 .0) (a .1 .1 .1 .1 .0) (a .1 .1 .1 .1 .1 .0) (a .1 .1 .1 .1 .1 .1 .0) (a .1 .1 .1 .1 .1 .1 .1 .0) (a .1 .1 .1 .1 .1 .1 .1 .1 .0) (a .1 .1 .1 .1 .1 .1 .1 .1 .1 .0) (are .0) (are .1 .0) (are .1 .1 .0) (are .1 .1 .1 .0) (are .1 .1 .1 .1 .0 .0 .1) (are .1 .1 .1 .1 .1 .0 .0 .1) (are .1 .1 .1 .1 .1 .1 .0 .0 .1) (are .1 .1 .1 .1 .1 .1 .1 .0 .0 .1) (are .1 .1 .1 .1 .1 .1 .1 .1 .1 .0 .0 .1))))

@@ -1,0 +1,105 @@
+-- Stores in a row and the value's memory behind them are one write.
+use mathlib.Core.Path.{_≡_, ap, _∙_}
+use mathlib.Core.List.{[], _∷_}
+use native.Mathlib.Numerals.{towards-suc}
+use native.Mathlib.Omega.{arith}
+use lib.ListN.{length, length-set}
+use borrow.Author.Needs.{needs}
+use Rattle.words.proofs.ByteLaws.{length-put}
+use Rattle.baos.specs.Inner.Gather.{wideValue}
+use Rattle.baos.proofs.DatapointLaws.{size-fits}
+use Rattle.baos.proofs.EntryLaws.{put-behind}
+use Rattle.baos.proofs.WideLaws.{value-size}
+use Rattle.entries.proofs.entry.put_wide_value.Statement.{statement}
+use Rattle.entries.proofs.entry.put_wide_value.Tie as tie
+
+size-of-requires : tie.Need-size-of-requires
+size-of-requires c κs = search needs
+
+cast-out : tie.Need-cast-out
+cast-out c = search needs
+
+slice-write-out : tie.Need-slice-write-out
+slice-write-out c = search needs
+
+cast-out-2 : tie.Need-cast-out-2
+cast-out-2 c = search needs
+
+add-out : tie.Need-add-out
+add-out c = search needs
+
+slice-write-out-2 : tie.Need-slice-write-out-2
+slice-write-out-2 c = simp length-set (omega arith)
+
+add-out-2 : tie.Need-add-out-2
+add-out-2 c = search needs
+
+slice-write-out-3 : tie.Need-slice-write-out-3
+slice-write-out-3 c = simp length-set (omega arith)
+
+cast-out-3 : tie.Need-cast-out-3
+cast-out-3 c = omega (arith, size-fits (c .before .before .before .before .before .args .d .typecode))
+
+add-out-3 : tie.Need-add-out-3
+add-out-3 c = search needs
+
+slice-write-out-4 : tie.Need-slice-write-out-4
+slice-write-out-4 c = simp length-set (omega arith)
+
+add-put-bytes : tie.Need-add-put-bytes
+add-put-bytes c = search needs
+
+slice-aggregate-put-bytes : tie.Need-slice-aggregate-put-bytes
+slice-aggregate-put-bytes c = search needs
+
+put-bytes-requires : tie.Need-put-bytes-requires
+put-bytes-requires c κs =
+    let d = c .before .before .before .before .before .before .before .args .d in
+    let h : length (d .value) ≡ 14 = search needs in
+    simp length-set (omega (arith, h))
+
+add-result : tie.Need-add-result
+add-result c = search needs
+
+add-result-2 : tie.Need-add-result-2
+add-result-2 c = omega (arith, size-fits (c .before .before .before .before .before .before .before .before .before .before .args .d .typecode), c .before .before .before .before .before .before .before .before .size-of .ensures)
+
+same-length : tie.Need-same-length
+same-length c =
+    let d = c .before .before .before .before .before .before .before .before .before .before .args .d in
+    let h : length (d .value) ≡ 14 = search needs in
+    ap length (c .before .before .put-bytes .ensures) ∙ length-put _ _ _ (simp length-set (omega (arith, h))) ∙ simp length-set
+
+returns : tie.Need-returns
+unfolding wideValue
+returns c =
+    let a = c .before .before .before .before .before .before .before .before .before .before .args in
+    let s = c .before .before .before .before .before .before .before .before .size-of in
+    let h : length (a .d .value) ≡ 14 = search needs in
+    record {
+      buffer = rw (← s .ensures) (rw (c .before .before .put-bytes .ensures) (simp towards-suc (put-behind (a .out .now) (a .at) _ (_ ∷ _ ∷ _ ∷ _ ∷ []) (a .d .value) (omega arith) (omega (arith, h)))));
+      ends = omega (arith, value-size (a .d) h, s .ensures);
+    }
+
+pub put-wide-value-spec : {M : Type 1} → statement M
+put-wide-value-spec =
+    tie.close
+    (tie.spec
+    size-of-requires
+    cast-out
+    slice-write-out
+    cast-out-2
+    add-out
+    slice-write-out-2
+    add-out-2
+    slice-write-out-3
+    cast-out-3
+    add-out-3
+    slice-write-out-4
+    add-put-bytes
+    slice-aggregate-put-bytes
+    put-bytes-requires
+    add-result
+    add-result-2
+    same-length
+    returns)

@@ -1,0 +1,2 @@
+// The entries of answers, one record each.
+pub mod entry;

@@ -1,0 +1,2 @@
+// The events of the link on the parts of its record, where they lie.
+pub mod parts;
