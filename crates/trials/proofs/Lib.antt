@@ -1,3 +1,0 @@
-pub mod TrialLaws
-pub mod LineLaws
-pub mod LentLaws

@@ -1,3 +1,0 @@
-pub mod Trial
-pub mod Line
-pub mod Lent
