@@ -41,11 +41,13 @@ emptyBench =
       reply = Accepted 0;
     }
 
--- the bench b with other tables, another link record or another value
-unfoldable pub withLink : Link → Bench → Bench
-withLink k b =
+-- the bench b with other count bits, other tables or another value
+unfoldable pub withBits : ℕ → ℕ → Bench → Bench
+withBits expected send b =
     record {
-      link = k;
+      link =
+          linkWith (b .link .receiver) (b .link .received) (b .link .dropping) expected send (b .link .outstanding)
+          (b .link .held) (b .link .resends);
       datapoints = b .datapoints;
       datapointcount = b .datapointcount;
       items = b .items;

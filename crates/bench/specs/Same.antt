@@ -3,7 +3,7 @@ use Prim.Native.Nat.{ℕ, _≤_}
 use mathlib.Core.Path.{_≡_}
 use mathlib.Core.Bool.{Bool, true}
 use mathlib.Core.List.{List}
-use lib.ListN.{take}
+use lib.ListN.{length, getD, take, drop}
 use Rattle.ft12.specs.declared.record.Link.{Link}
 use Rattle.bench.specs.declared.bench.Bench.{Bench}
 
@@ -20,10 +20,11 @@ pub record SameTables (a b : Bench) : Type 0 where
   pub parameters : a .parameters ≡ b .parameters
   pub parametercount : a .parametercount ≡ b .parametercount
 
--- the link record has these bits, drops or not, and has this frame outstanding
-pub record LinkIs (k : Link) (expected send dropping : ℕ) (outstanding : List ℕ) : Type 0 where
-  pub expects : k .expected ≡ expected
-  pub sends : k .send ≡ send
-  pub drops : k .dropping ≡ dropping
+-- the link record has these bits, drops or not, and has the bytes behind them outstanding
+pub record LinkIs (k : Link) (asked : List ℕ) : Type 0 where
+  pub told : 3 ≤ length asked
+  pub expects : k .expected ≡ getD asked 0 0
+  pub sends : k .send ≡ getD asked 1 0
+  pub drops : k .dropping ≡ getD asked 2 0
   pub within : k .held ≤ 261
-  pub holds : take (k .held) (k .outstanding) ≡ outstanding
+  pub holds : take (k .held) (k .outstanding) ≡ drop 3 asked

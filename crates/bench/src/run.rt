@@ -1,100 +1,86 @@
 // Events on the bench, one after the other.
 ghost use mathlib.Core.Path.{_≡_};
-ghost use mathlib.Core.Bool.{_&&_};
-ghost use Rattle.calls.specs.Reply.{sentCount};
-ghost use Rattle.bench.specs.Bench.{isWithin};
-ghost use Rattle.bench.specs.Run.{happened, busValued, quiet as isQuiet, fed};
+ghost use Rattle.bench.specs.Run.{happened, countSent, Sends, standAfter};
+ghost use Rattle.bench.specs.Same.{Decides};
 use crate::bench::Bench;
-use crate::bench::with_value;
 use crate::step::step;
 use calls::event::Event;
 use calls::reply::Reply;
 
-// A bench after some bytes from the host, and whether none of them drew a byte or a refusal.
-pub struct Fed {
+// A bench after what happened; whether all was quiet that was to be; and at which of the bytes that the host sent last
+// the receiver found damage.
+pub struct Stand {
     pub bench: Bench,
     pub quiet: bool,
-}
-
-// Whether no count goes beyond the width of its table.
-fn is_within(bench: Bench) -> bool
-    ensures { λ r. ⌜ r ≡ isWithin bench ⌝ }
-{
-    if 50 < bench.datapointcount {
-        return false;
-    }
-    if 4 < bench.itemcount {
-        return false;
-    }
-    if 255 < bench.parametercount {
-        return false;
-    }
-    bench.valuesize <= 14
+    pub place: usize,
 }
 
 // The bench after this event. One whose counts go beyond its widths makes no call and stays.
 pub fn happens(bench: Bench, event: Event) -> Bench
     ensures { λ r. ⌜ r ≡ happened event bench ⌝ }
 {
-    if is_within(bench) {
-        return step(bench, event);
+    if 50 < bench.datapointcount {
+        return bench;
     }
-    bench
-}
-
-// The bench after a bus value of one byte for this datapoint.
-pub fn bus_value(bench: Bench, id: u16, value: u8) -> Bench
-    ensures { λ r. ⌜ r ≡ busValued id value bench ⌝ }
-{
-    happens(with_value(bench, value), Event::BusValue(id))
-}
-
-// Whether the last call was accepted and sends nothing.
-pub fn is_quiet(bench: Bench) -> bool
-    ensures { λ r. ⌜ r ≡ isQuiet (bench .reply) ⌝ }
-{
-    let reply = bench.reply;
-    match reply {
-        Reply::Refused(_) => false,
-        Reply::Accepted(count) => count == 0,
+    if 4 < bench.itemcount {
+        return bench;
     }
+    if 255 < bench.parametercount {
+        return bench;
+    }
+    if 14 < bench.valuesize {
+        return bench;
+    }
+    step(bench, event)
 }
 
-// How many bytes of the output the last call sends.
+// How many bytes of the output the last call sends; where it was refused, more than the output has.
 pub fn sent_count(bench: Bench) -> usize
-    ensures { λ r. ⌜ r ≡ sentCount (bench .reply) ⌝ }
+    ensures { λ r. ⌜ r ≡ countSent (bench .reply) ⌝ }
 {
     let reply = bench.reply;
     match reply {
-        Reply::Refused(_) => 0,
+        Reply::Refused(_) => 263,
         Reply::Accepted(count) => count,
     }
 }
 
-// Whether all was quiet before, and the last call too.
-fn still_quiet(quiet: bool, bench: Bench) -> bool
-    ensures { λ r. ⌜ r ≡ (quiet && isQuiet (bench .reply)) ⌝ }
+// Whether the last call sends these bytes.
+pub fn has_sent(bench: Bench, wanted: &[u8]) -> bool
+    ensures { λ r. ⌜ Decides r (Sends bench (now (wanted .entry))) ⌝ }
 {
-    if quiet {
-        return is_quiet(bench);
+    let n = sent_count(bench);
+    if 262 < n {
+        return false;
     }
-    false
+    let out = bench.out;
+    check::same(&out[..n], wanted)
 }
 
-// The bench after each of these bytes from the host, in turn.
-pub fn feed(bench: Bench, bytes: &[u8]) -> Fed
-    ensures { λ r. ⌜ r ≡ fed (now (bytes .entry)) bench ⌝ }
+// The bench after each of these bytes from the host, in turn. All is quiet where there are some, and none but the last
+// draws anything. Damage is found at the last byte before which the receiver does not drop; 1000 is no place.
+pub fn hear(bench: Bench, bytes: &[u8]) -> Stand
+    ensures { λ r. ⌜ r ≡ standAfter (now (bytes .entry)) bench ⌝ }
 {
     let mut b = bench;
+    let mut before = false;
     let mut quiet = true;
+    let mut place: usize = 1000;
     let mut i: usize = 0;
     while i < bytes.len() {
+        before = quiet;
+        if b.link.dropping != 1 {
+            place = i;
+        }
         b = happens(b, Event::HostByte(bytes[i]));
-        quiet = still_quiet(quiet, b);
+        if sent_count(b) != 0 {
+            quiet = false;
+        }
         i = i + 1;
     }
-    Fed {
+    Stand {
         bench: b,
-        quiet: quiet,
+        quiet: before,
+        place: place,
     }
 }

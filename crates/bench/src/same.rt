@@ -103,17 +103,20 @@ pub fn same_tables(a: Bench, b: Bench) -> bool
     same_datapoints(d, e)
 }
 
-// Whether a link record has these bits, drops or not, and has this frame outstanding.
-pub fn is_link(link: Link, expected: u8, send: u8, dropping: u8, outstanding: &[u8]) -> bool
-    ensures { λ r. ⌜ Decides r (LinkIs link expected send dropping (now (outstanding .entry))) ⌝ }
+// Whether a link record has these bits, drops or not, and has the bytes behind them outstanding.
+pub fn is_link(link: Link, asked: &[u8]) -> bool
+    ensures { λ r. ⌜ Decides r (LinkIs link (now (asked .entry))) ⌝ }
 {
-    if link.expected != expected {
+    if asked.len() < 3 {
         return false;
     }
-    if link.send != send {
+    if link.expected != asked[0] {
         return false;
     }
-    if link.dropping != dropping {
+    if link.send != asked[1] {
+        return false;
+    }
+    if link.dropping != asked[2] {
         return false;
     }
     let n = link.held as usize;
@@ -121,5 +124,5 @@ pub fn is_link(link: Link, expected: u8, send: u8, dropping: u8, outstanding: &[
         return false;
     }
     let frame = link.outstanding;
-    check::same(&frame[..n], outstanding)
+    check::same(&frame[..n], &asked[3..])
 }

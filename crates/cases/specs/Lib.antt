@@ -1,1 +1,3 @@
+pub mod Line
+pub mod Lent
 pub mod Script

@@ -2,12 +2,16 @@
 // out as a line trace; what the server sends and what its tables and its link then hold is compared with what the script
 // says. The file stdin beside src has the examples of document 01, section "Examples", and the worked exchange of
 // document 000, section 4.1.
+mod lent;
+mod line;
 mod play;
+mod print;
 
 use crate::play::play;
+use crate::print::number;
+use crate::print::text;
 use libc::STDIN_FILENO;
 use std::num::wrapping_add_u8;
-use trace::print;
 
 // Plays the scripts, up to a tilde each, and says how many of them went as the papers say.
 fn cases(s: &[u8]) {
@@ -17,25 +21,20 @@ fn cases(s: &[u8]) {
     let mut i: usize = 0;
     while i < s.len() {
         if s[i] == b'~' {
-            let holds = play(&s[from..i]);
-            right = wrapping_add_u8(right, holds as u8);
+            right = wrapping_add_u8(right, play(&s[from..i]) as u8);
             count = wrapping_add_u8(count, 1);
             from = i + 1;
         }
         i = i + 1;
     }
-    print::text(&s[from..]);
-    print::pattern(b"{1} cases, {1} as the paper says\n", &[count, right]);
+    text(&s[from..]);
+    number(count);
+    text(b" cases, ");
+    number(right);
+    text(b" as the paper says\n");
 }
 
 fn main() {
-    print::text(
-        b"The examples of document 01 and the exchange of document 000, section 4.1, through the server's call.\n",
-    );
-    print::text(
-        b"Each byte from the host is one call. What is sent is compared byte by byte, the tables record by record.\n",
-    );
-    print::text(b"Frames, states, flags and values are hexadecimal, IDs and counts decimal.\n\n");
     let mut input = io::large_buffer();
     let n = io::read_full(STDIN_FILENO, &mut input);
     cases(&input[..n]);

@@ -1,133 +1,171 @@
 // A script is played: its lines in turn, and what each of them asks.
 ghost use mathlib.Core.Path.{_≡_};
+ghost use mathlib.Core.Bool.{true};
 ghost use Prim.Native.Nat.{_≤_};
-ghost use lib.ListN.{getD, drop};
+ghost use lib.ListN.{getD};
+ghost use Rattle.bench.specs.Run.{Sends, standAfter};
 ghost use Rattle.bench.specs.Same.{Decides, LinkIs};
-ghost use Rattle.trials.specs.Trial.{Goes};
-ghost use Rattle.cases.specs.Script.{keptOf, benchAfter, Right, Played};
+ghost use Rattle.cases.specs.Lent.{bussed};
+ghost use Rattle.cases.specs.Script.{listed, standing, started, marked, acted, Damaged, Right, Played};
+use crate::lent::after_bus;
+use crate::lent::first;
+use crate::lent::told;
+use crate::line::Line;
+use crate::line::line_end;
+use crate::line::read;
+use crate::print::noted;
+use crate::print::shown;
+use crate::print::verdict;
 use bench::bench::Bench;
 use bench::bench::empty;
-use bench::bench::idle_link;
-use bench::bench::with_link;
-use scripts::lent::after_bus;
-use scripts::lent::told;
-use scripts::line::Line;
-use scripts::line::line_end;
-use scripts::line::read;
-use trace::print;
-use trace::show;
-use trials::trial;
-use trials::trial::Trial;
+use bench::run::Stand;
+use bench::run::happens;
+use bench::run::has_sent;
+use bench::run::hear;
+use bench::run::sent_count;
+use bench::same::is_link;
+use bench::same::same_tables;
+use calls::event::Event;
+use ft12::record::Link;
 
-// The host sends these bytes, all of them at what is asked next.
-const HOST: u8 = b'h';
-// The server is to send these bytes at the last of the host's.
-const REPLY: u8 = b'r';
-// The receiver is to find damage at this place of the host's bytes.
-const DAMAGE: u8 = b'x';
-// The line is silent for an idle mark.
-const MARK: u8 = b'm';
 // The tables that were told, and a link that expects and sends these bits, 01 for odd, with nothing outstanding.
 const START: u8 = b's';
+// The host sends these bytes. None of them but the last is to draw anything.
+const HOST: u8 = b'h';
+// The line is silent for an idle mark. Nothing is to be sent.
+const MARK: u8 = b'm';
 // Values come from the bus.
 const BUS: u8 = b'b';
+// The server is to have sent these bytes.
+const REPLY: u8 = b'r';
+// The receiver is to have found damage at this place of the host's bytes, to drop, and to have sent nothing.
+const DAMAGE: u8 = b'x';
 // The link is to expect and to send these bits, is to drop, 01, or not, and is to have these bytes outstanding.
 const LINK: u8 = b'l';
 // The tables are to be those that were told.
 const TABLES: u8 = b't';
 
-// The line that the host sent last, after this one.
-fn kept(said: Line, line: Line) -> Line
-    ensures { λ r. ⌜ r ≡ keptOf said line ⌝ }
-{
-    if line.letter == HOST {
-        return line;
-    }
-    said
-}
-
-// The bits and the bytes of a line that asks for the link.
-fn link_asked(t: Trial, a: [u8; 264], asked: &[u8]) -> Trial
-    ensures { λ r. ⌜ Goes t (t .bench) (LinkIs (t .bench .link) (getD a 0 0) (getD a 1 0) (getD a 2 0)
-        (drop 3 (now (asked .entry)))) r ⌝ }
-{
-    let expected = a[0];
-    let send = a[1];
-    let dropping = a[2];
-    if asked.len() < 3 {
-        return trial::link(t, expected, send, dropping, b"");
-    }
-    trial::link(t, expected, send, dropping, &asked[3..])
-}
-
-// What this line does to the bench, and whether what it asks holds.
-fn acted(t: Trial, wanted: Bench, said: Line, line: Line) -> Trial
-    requires { ⌜ (said .size ≤ 264) × (line .size ≤ 264) ⌝ }
-    ensures { λ r. ⌜ Goes t (benchAfter line said wanted (t .bench)) (Right line said wanted (t .bench)) r ⌝ }
+// A server starts with the tables that are wanted.
+fn started(wanted: Bench, line: Line) -> Stand
+    ensures { λ r. ⌜ r ≡ started wanted (line .bytes) ⌝ }
 {
     let a = line.bytes;
-    let b = line.bytes;
-    let n = line.size;
-    let asked = &b[..n];
-    let s = said.bytes;
-    let k = said.size;
-    let sent = &s[..k];
-    if line.letter == REPLY {
-        return trial::host(t, sent, asked);
+    let mut b = wanted;
+    b.link.expected = a[0];
+    b.link.send = a[1];
+    Stand {
+        bench: b,
+        quiet: true,
+        place: 1000,
     }
-    if line.letter == DAMAGE {
-        return trial::damaged(t, sent, a[0]);
+}
+
+fn heard(bench: Bench, line: Line) -> Stand
+    requires { ⌜ line .size ≤ 264 ⌝ }
+    ensures { λ r. ⌜ r ≡ standAfter (listed line) bench ⌝ }
+{
+    let a = line.bytes;
+    let n = line.size;
+    hear(bench, &a[..n])
+}
+
+fn marked(bench: Bench) -> Stand
+    ensures { λ r. ⌜ r ≡ marked bench ⌝ }
+{
+    let b = happens(bench, Event::IdleMark);
+    Stand {
+        bench: b,
+        quiet: sent_count(b) == 0,
+        place: 1000,
+    }
+}
+
+fn bussed(bench: Bench, line: Line) -> Stand
+    ensures { λ r. ⌜ r ≡ standing (bussed (line .bytes) (getD (line .bytes) 0 0) bench) true 1000 ⌝ }
+{
+    Stand {
+        bench: after_bus(bench, line, first(line)),
+        quiet: true,
+        place: 1000,
+    }
+}
+
+// What happens by this line.
+fn acted(stand: Stand, wanted: Bench, line: Line) -> Stand
+    requires { ⌜ line .size ≤ 264 ⌝ }
+    ensures { λ r. ⌜ r ≡ acted line wanted stand ⌝ }
+{
+    let b = stand.bench;
+    if line.letter == START {
+        return started(wanted, line);
+    }
+    if line.letter == HOST {
+        return heard(b, line);
     }
     if line.letter == MARK {
-        return trial::idle_mark(t);
-    }
-    if line.letter == START {
-        return trial::after(t, with_link(wanted, idle_link(a[0], a[1])), true);
+        return marked(b);
     }
     if line.letter == BUS {
-        return trial::after(t, after_bus(t.bench, a, a[0]), true);
+        return bussed(b, line);
+    }
+    stand
+}
+
+// ---- what a line asks
+
+fn replied(bench: Bench, line: Line) -> bool
+    requires { ⌜ line .size ≤ 264 ⌝ }
+    ensures { λ r. ⌜ Decides r (Sends bench (listed line)) ⌝ }
+{
+    let a = line.bytes;
+    let n = line.size;
+    has_sent(bench, &a[..n])
+}
+
+fn damaged(bench: Bench, place: usize, line: Line) -> bool
+    ensures { λ r. ⌜ Decides r (Damaged (getD (line .bytes) 0 0) place bench) ⌝ }
+{
+    let a = line.bytes;
+    if place != a[0] as usize {
+        return false;
+    }
+    if bench.link.dropping != 1 {
+        return false;
+    }
+    sent_count(bench) == 0
+}
+
+fn linked(link: Link, line: Line) -> bool
+    requires { ⌜ line .size ≤ 264 ⌝ }
+    ensures { λ r. ⌜ Decides r (LinkIs link (listed line)) ⌝ }
+{
+    let a = line.bytes;
+    let n = line.size;
+    is_link(link, &a[..n])
+}
+
+// Whether what this line asks holds.
+fn holds(stand: Stand, wanted: Bench, line: Line) -> bool
+    requires { ⌜ line .size ≤ 264 ⌝ }
+    ensures { λ r. ⌜ Decides r (Right line wanted stand) ⌝ }
+{
+    if !stand.quiet {
+        return false;
+    }
+    let b = stand.bench;
+    if line.letter == REPLY {
+        return replied(b, line);
+    }
+    if line.letter == DAMAGE {
+        return damaged(b, stand.place, line);
     }
     if line.letter == LINK {
-        return link_asked(t, a, asked);
+        return linked(b.link, line);
     }
     if line.letter == TABLES {
-        return trial::unaltered(t, wanted);
+        return same_tables(b, wanted);
     }
-    t
-}
-
-// The records of a bench in words: I and D with a place and a label, L with a label.
-fn show_record(line: Line, bench: Bench) {
-    let a = line.bytes;
-    let place = a[0] as usize;
-    print::choice(
-        b"   given  : |   tables : |            |   anew   : tables as before; ",
-        a[1],
-    );
-    if line.letter == b'L' {
-        show::link(bench.link);
-        return;
-    }
-    if line.letter == b'D' {
-        if place < 50 {
-            show::datapoint(bench.datapoints[place]);
-        }
-        return;
-    }
-    if place < 4 {
-        show::item(bench.items[place]);
-    }
-}
-
-// What this line shows.
-fn shown(line: Line, text: &[u8], bench: Bench) {
-    if line.letter < b'A' {
-        print::text(text);
-        return;
-    }
-    if line.letter < b'a' {
-        show_record(line, bench);
-    }
+    true
 }
 
 // Whether all that the lines of a script ask holds, with a last line that says so.
@@ -135,18 +173,23 @@ pub fn play(script: &[u8]) -> bool
     ensures { λ r. ⌜ Decides r (Played (now (script .entry))) ⌝ }
 {
     let mut wanted = empty();
-    let mut said = read(b"");
-    let mut t = trial::start(wanted);
+    let mut stand = Stand {
+        bench: wanted,
+        quiet: true,
+        place: 1000,
+    };
+    let mut right = true;
     let mut at: usize = 0;
     while at < script.len() {
         let end = at + line_end(&script[at..]);
-        let text = &script[at..end];
-        let line = read(text);
-        shown(line, text, t.bench);
+        let line = read(&script[at..end]);
         wanted = told(wanted, line);
-        t = acted(t, wanted, said, line);
-        said = kept(said, line);
+        stand = acted(stand, wanted, line);
+        let b = stand.bench;
+        shown(line, &script[at..end], b);
+        right = noted(right, holds(stand, wanted, line), b);
         at = end;
     }
-    trial::verdict(t)
+    verdict(right);
+    right
 }

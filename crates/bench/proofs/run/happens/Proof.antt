@@ -1,20 +1,29 @@
-use borrow.Author.Needs.{needs}
 use mathlib.Core.Path.{sym, _∙_}
-use Rattle.bench.proofs.BenchLaws.{within, happened-within, happened-beyond}
+use native.Mathlib.Omega.{arith}
+use Rattle.bench.specs.Bench.{Within}
+use Rattle.bench.proofs.BenchLaws.{too-many-datapoints, too-many-items, too-many-parameters, too-large-a-value, happened-within}
 use Rattle.bench.proofs.run.happens.Statement.{statement}
 use Rattle.bench.proofs.run.happens.Tie as tie
 
-is-within-requires : tie.Need-is-within-requires
-is-within-requires c κs = search needs
-
-step-requires : tie.Need-step-requires
-step-requires c κs = within _ (sym (c .before .is-within .ensures) ∙ c .if1 .taken)
-
 returns : tie.Need-returns
-returns c = c .step .ensures ∙ sym (happened-within _ _ (sym (c .before .before .is-within .ensures) ∙ c .before .if1 .taken))
+returns c = sym (too-many-datapoints _ _ (omega arith))
 
 returns-2 : tie.Need-returns-2
-returns-2 c = sym (happened-beyond _ _ (sym (c .before .is-within .ensures) ∙ c .if1 .left))
+returns-2 c = sym (too-many-items _ _ (omega arith))
+
+returns-3 : tie.Need-returns-3
+returns-3 c = sym (too-many-parameters _ _ (omega arith))
+
+returns-4 : tie.Need-returns-4
+returns-4 c = sym (too-large-a-value _ _ (omega arith))
+
+step-requires : tie.Need-step-requires
+step-requires c κs = record { datapoints = omega arith; items = omega arith; parameters = omega arith; value = omega arith }
+
+returns-5 : tie.Need-returns-5
+returns-5 c =
+    c .step .ensures
+    ∙ sym (happened-within _ _ (record { datapoints = omega arith; items = omega arith; parameters = omega arith; value = omega arith }))
 
 pub happens-spec : {M : Type 1} → statement M
-happens-spec = tie.close (tie.spec is-within-requires step-requires returns returns-2)
+happens-spec = tie.close (tie.spec returns returns-2 returns-3 returns-4 step-requires returns-5)

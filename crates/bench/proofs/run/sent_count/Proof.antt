@@ -1,5 +1,5 @@
 use borrow.Author.Needs.{needs}
-use Rattle.calls.specs.Reply.{sentCount}
+use Rattle.bench.specs.Run.{countSent}
 use Rattle.bench.proofs.run.sent_count.Statement.{statement}
 use Rattle.bench.proofs.run.sent_count.Tie as tie
 
@@ -10,11 +10,11 @@ enum-known-reply : tie.Need-enum-known-reply
 enum-known-reply c = search needs
 
 returns : tie.Need-returns
-unfolding sentCount
+unfolding countSent
 returns c = search needs
 
 returns-2 : tie.Need-returns-2
-unfolding sentCount
+unfolding countSent
 returns-2 c = search needs
 
 pub sent-count-spec : {M : Type 1} → statement M

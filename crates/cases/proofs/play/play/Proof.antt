@@ -1,32 +1,25 @@
+use borrow.Author.Needs.{needs}
 use Prim.Native.Nat.{_-_}
 use lib.ListN.{length}
+use mathlib.Core.Path.{sym, _∙_}
 use native.Mathlib.Omega.{arith}
-use Rattle.scripts.proofs.LineLaws.{count-fits}
+use Rattle.cases.proofs.LineLaws.{count-fits}
 use Rattle.cases.proofs.ScriptLaws.{Playing, playing-begins, line-within, line-some, playing-goes, playing-ends}
-use borrow.Author.Needs.{needs}
+use Rattle.bench.proofs.SameLaws.{left-to}
 use Rattle.cases.proofs.play.play.Statement.{statement}
 use Rattle.cases.proofs.play.play.Tie as tie
 
 abbrev Inv-loop : tie.InvT-loop
-Inv-loop script wanted₀ said₀ t₀ at₀ wanted said t at = Playing script wanted said t at
+Inv-loop script wanted₀ stand₀ right₀ at₀ wanted stand right at = Playing script wanted stand right at
 
 abbrev μ-loop : tie.MeasureT-loop
-μ-loop script wanted₀ said₀ t₀ at₀ wanted said t at = length script - at
+μ-loop script wanted₀ stand₀ right₀ at₀ wanted stand right at = length script - at
 
 empty-requires : tie.Need-empty-requires Inv-loop μ-loop
 empty-requires c κs = search needs
 
-slice-aggregate-read : tie.Need-slice-aggregate-read Inv-loop μ-loop
-slice-aggregate-read c = search needs
-
-read-requires : tie.Need-read-requires Inv-loop μ-loop
-read-requires c κs = search needs
-
-start-requires : tie.Need-start-requires Inv-loop μ-loop
-start-requires c κs = search needs
-
 loop-holds : tie.Need-loop-holds Inv-loop μ-loop
-loop-holds c = playing-begins _ _ _ _ (c .before .before .before .empty .ensures) (c .before .read .ensures) (c .start .ensures .0) (c .start .ensures .1)
+loop-holds c = playing-begins _ _ (c .empty .ensures)
 
 sub-line-end : tie.Need-sub-line-end Inv-loop μ-loop
 sub-line-end c = search needs
@@ -41,70 +34,55 @@ line-end-requires : tie.Need-line-end-requires Inv-loop μ-loop
 line-end-requires c κs = search needs
 
 add-end : tie.Need-add-end Inv-loop μ-loop
-add-end c = omega (arith, line-within (c .before .before .before .before .before .before .before .before .before .args .script .now) (c .before .before .before .loop .at) (c .line-end .result) (c .before .before .loop-test .taken) (c .line-end .ensures))
+add-end c = omega (arith, line-within (c .before .before .before .before .before .before .args .script .now) (c .before .before .before .loop .at) (c .line-end .result) (c .before .before .loop-test .taken) (c .line-end .ensures))
 
-sub-text : tie.Need-sub-text Inv-loop μ-loop
-sub-text c = search needs
+sub-read : tie.Need-sub-read Inv-loop μ-loop
+sub-read c = search needs
 
-part-text-start : tie.Need-part-text-start Inv-loop μ-loop
-part-text-start c = search needs
+part-read-start : tie.Need-part-read-start Inv-loop μ-loop
+part-read-start c = search needs
 
-part-text-end : tie.Need-part-text-end Inv-loop μ-loop
-part-text-end c = omega (arith, line-within (c .before .before .before .before .before .before .before .before .before .args .script .now) (c .before .before .before .loop .at) (c .line-end .result) (c .before .before .loop-test .taken) (c .line-end .ensures))
+part-read-end : tie.Need-part-read-end Inv-loop μ-loop
+part-read-end c = omega (arith, line-within (c .before .before .before .before .before .before .args .script .now) (c .before .before .before .loop .at) (c .line-end .result) (c .before .before .loop-test .taken) (c .line-end .ensures))
 
-read-requires-2 : tie.Need-read-requires-2 Inv-loop μ-loop
-read-requires-2 c κs = search needs
-
-shown-requires : tie.Need-shown-requires Inv-loop μ-loop
-shown-requires c κs = search needs
+read-requires : tie.Need-read-requires Inv-loop μ-loop
+read-requires c κs = search needs
 
 told-requires : tie.Need-told-requires Inv-loop μ-loop
 told-requires c κs = search needs
 
 acted-requires : tie.Need-acted-requires Inv-loop μ-loop
-acted-requires c κs = (c .before .before .before .before .before .before .before .loop .inv .fits, rw (c .before .before .read2 .ensures) (count-fits _))
+acted-requires c κs = rw (c .before .read .ensures) (count-fits _)
 
-kept-requires : tie.Need-kept-requires Inv-loop μ-loop
-kept-requires c κs = search needs
+sub-shown : tie.Need-sub-shown Inv-loop μ-loop
+sub-shown c = search needs
+
+part-shown-start : tie.Need-part-shown-start Inv-loop μ-loop
+part-shown-start c = search needs
+
+part-shown-end : tie.Need-part-shown-end Inv-loop μ-loop
+part-shown-end c = omega (arith, line-within (c .before .before .before .before .before .before .before .before .before .before .before .args .script .now) (c .before .before .before .before .before .before .before .before .loop .at) (c .before .before .before .before .before .line-end .result) (c .before .before .before .before .before .before .before .loop-test .taken) (c .before .before .before .before .before .line-end .ensures))
+
+shown-requires : tie.Need-shown-requires Inv-loop μ-loop
+shown-requires c κs = search needs
+
+holds-requires : tie.Need-holds-requires Inv-loop μ-loop
+holds-requires c κs = rw (c .before .before .before .before .before .read .ensures) (count-fits _)
+
+noted-requires : tie.Need-noted-requires Inv-loop μ-loop
+noted-requires c κs = search needs
 
 loop-less : tie.Need-loop-less Inv-loop μ-loop
-loop-less c = omega (arith, line-within (c .before .before .before .before .before .before .before .before .before .before .before .before .before .before .before .args .script .now) (c .before .before .before .before .before .before .before .before .before .loop .at) (c .before .before .before .before .before .before .line-end .result) (c .before .before .before .before .before .before .before .before .loop-test .taken) (c .before .before .before .before .before .before .line-end .ensures), line-some (c .before .before .before .before .before .before .before .before .before .before .before .before .before .before .before .args .script .now) (c .before .before .before .before .before .before .before .before .before .loop .at) (c .before .before .before .before .before .before .line-end .result) (c .before .before .before .before .before .before .before .before .loop-test .taken) (c .before .before .before .before .before .before .line-end .ensures))
+loop-less c = omega (arith, line-within (c .before .before .before .before .before .before .before .before .before .before .before .before .before .before .before .args .script .now) (c .before .before .before .before .before .before .before .before .before .before .before .before .loop .at) (c .before .before .before .before .before .before .before .before .before .line-end .result) (c .before .before .before .before .before .before .before .before .before .before .before .loop-test .taken) (c .before .before .before .before .before .before .before .before .before .line-end .ensures), line-some (c .before .before .before .before .before .before .before .before .before .before .before .before .before .before .before .args .script .now) (c .before .before .before .before .before .before .before .before .before .before .before .before .loop .at) (c .before .before .before .before .before .before .before .before .before .line-end .result) (c .before .before .before .before .before .before .before .before .before .before .before .loop-test .taken) (c .before .before .before .before .before .before .before .before .before .line-end .ensures))
 
 loop-again : tie.Need-loop-again Inv-loop μ-loop
-loop-again c =
-    playing-goes _ _ _ (c .before .before .before .before .before .before .before .before .loop-test .taken) (c .before .before .before .before .before .before .line-end .ensures) _ _ _ _ _ _ _ (c .before .before .before .before .read2 .ensures) (c .before .before .told .ensures) (c .kept .ensures) (c .before .acted .ensures) (c .before .before .before .before .before .before .before .before .before .loop .inv)
+loop-again c = playing-goes _ _ _ (c .before .before .before .before .before .before .before .before .before .before .before .loop-test .taken) (c .before .before .before .before .before .before .before .before .before .line-end .ensures) _ _ _ _ _ _ _ _ (c .before .before .before .before .before .before .before .read .ensures) (c .before .before .before .before .before .before .told .ensures) (c .before .before .before .before .before .acted .ensures) (c .before .holds .ensures) (c .noted .ensures) (c .before .before .before .before .before .before .before .before .before .before .before .before .loop .inv)
 
 verdict-requires : tie.Need-verdict-requires Inv-loop μ-loop
 verdict-requires c κs = search needs
 
 returns : tie.Need-returns Inv-loop μ-loop
-returns c = playing-ends _ _ _ _ _ _ (c .before .loop-test .left) (c .verdict .ensures) (c .before .before .loop .inv)
+returns c = playing-ends _ _ _ _ _ (c .before .loop-test .left) (c .before .before .loop .inv)
 
 pub play-spec : {M : Type 1} → statement M
-play-spec =
-    tie.close
-    (tie.spec
-    Inv-loop
-    μ-loop
-    empty-requires
-    slice-aggregate-read
-    read-requires
-    start-requires
-    loop-holds
-    sub-line-end
-    part-line-end-start
-    part-line-end-end
-    line-end-requires
-    add-end
-    sub-text
-    part-text-start
-    part-text-end
-    read-requires-2
-    shown-requires
-    told-requires
-    acted-requires
-    kept-requires
-    loop-less
-    loop-again
-    verdict-requires
-    returns)
+play-spec = tie.close (tie.spec Inv-loop μ-loop empty-requires loop-holds sub-line-end part-line-end-start part-line-end-end line-end-requires add-end sub-read part-read-start part-read-end read-requires told-requires acted-requires sub-shown part-shown-start part-shown-end shown-requires holds-requires noted-requires loop-less loop-again verdict-requires returns)

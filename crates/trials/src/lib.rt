@@ -1,2 +1,0 @@
-// Trials: a server tried against what a script asks.
-pub mod trial;
