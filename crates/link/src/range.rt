@@ -7,8 +7,8 @@ ghost use Rattle.ft12.specs.Record.{twoValued, receiverOk, outstandingOk, inRan
 use frames::frame::is_whole;
 use ft12::frame::MOST_RESENDS;
 use ft12::record::Link;
-use receiver::receiver::is_beginning;
-use rules::case::server_control;
+use hearing::case::server_control;
+use judging::receiver::is_beginning;
 use words::bytes::are_zero;
 
 // Whether each of the three is 0 or 1.

@@ -16,10 +16,10 @@ use ft12::frame::MOST_RESENDS;
 use ft12::frame::SERVER_RESET;
 use ft12::rules::Bits;
 use ft12::rules::Heard;
-use receiver::receiver::judge_at;
-use rules::case::bits_after;
-use rules::case::case_of;
-use rules::case::server_control;
+use hearing::case::bits_after;
+use hearing::case::case_of;
+use hearing::case::server_control;
+use judging::receiver::judge_at;
 use words::bytes::blank;
 use words::bytes::put_bytes;
 

@@ -15,12 +15,12 @@ use calls::reply::Reply;
 use frames::frame::put_acknowledgement;
 use ft12::record::Link;
 use ft12::rules::Heard;
+use hearing::request::ANSWER_AT;
+use hearing::request::ANSWER_FRAME_AT;
+use hearing::request::request_message;
 use link::events::clear_request;
 use link::events::host_byte;
 use link::events::take_message;
-use rules::request::ANSWER_AT;
-use rules::request::ANSWER_FRAME_AT;
-use rules::request::request_message;
 use services::service::carry_out;
 
 // The acknowledgement, where one is due; answers how many bytes it has.

@@ -12,10 +12,10 @@ ghost use Rattle.calls.specs.Promise.{Leaves};
 use baos::datapoint::Datapoint;
 use calls::reply::Reply;
 use ft12::record::Link;
+use hearing::request::INDICATION_AT;
+use hearing::request::INDICATION_FRAME_AT;
 use indications::indication::indicate;
 use link::events::take_message;
-use rules::request::INDICATION_AT;
-use rules::request::INDICATION_FRAME_AT;
 
 // A poll. With nothing outstanding, the indication is built in the output behind the room for its frame's head, and
 // framed there.

@@ -12,7 +12,7 @@ use Rattle.link.proofs.range.is_outstanding_ok.Tie as tie
 use Rattle.link.proofs.range.is_outstanding_ok.Reads as reads
 use Rattle.link.proofs.range.is_outstanding_ok.Lts as lts
 use Rattle.frames.proofs.frame.is_whole.Reads as is-whole-reads
-use Rattle.rules.proofs.case.server_control.Reads as server-control-reads
+use Rattle.hearing.proofs.case.server_control.Reads as server-control-reads
 use Rattle.words.proofs.bytes.are_zero.Reads as are-zero-reads
 
 returns : tie.Need-returns

@@ -10,7 +10,7 @@ use Rattle.link.proofs.range.is_receiver_ok.Statement.{statement}
 use Rattle.link.proofs.range.is_receiver_ok.Tie as tie
 use Rattle.link.proofs.range.is_receiver_ok.Reads as reads
 use Rattle.link.proofs.range.is_receiver_ok.Lts as lts
-use Rattle.receiver.proofs.receiver.is_beginning.Reads as is-beginning-reads
+use Rattle.judging.proofs.receiver.is_beginning.Reads as is-beginning-reads
 use Rattle.words.proofs.bytes.are_zero.Reads as are-zero-reads
 
 returns : tie.Need-returns

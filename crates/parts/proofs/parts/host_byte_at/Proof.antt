@@ -10,9 +10,9 @@ use Rattle.parts.proofs.parts.host_byte_at.Statement.{statement}
 use Rattle.parts.proofs.parts.host_byte_at.Tie as tie
 use Rattle.parts.proofs.parts.host_byte_at.Reads as reads
 use Rattle.parts.proofs.parts.host_byte_at.Lts as lts
-use Rattle.receiver.proofs.receiver.judge_at.Reads as judge-at-reads
-use Rattle.rules.proofs.case.bits_after.Reads as bits-after-reads
-use Rattle.rules.proofs.case.case_of.Reads as case-of-reads
+use Rattle.judging.proofs.receiver.judge_at.Reads as judge-at-reads
+use Rattle.hearing.proofs.case.bits_after.Reads as bits-after-reads
+use Rattle.hearing.proofs.case.case_of.Reads as case-of-reads
 use Rattle.parts.proofs.parts.clear_outstanding.Reads as clear-outstanding-reads
 use Rattle.parts.proofs.parts.empty_receiver.Reads as empty-receiver-reads
 

@@ -9,7 +9,7 @@ use Rattle.parts.proofs.parts.message_at.Tie as tie
 use Rattle.parts.proofs.parts.message_at.Reads as reads
 use Rattle.parts.proofs.parts.message_at.Lts as lts
 use Rattle.frames.proofs.frame.frame_in_place.Reads as frame-in-place-reads
-use Rattle.rules.proofs.case.server_control.Reads as server-control-reads
+use Rattle.hearing.proofs.case.server_control.Reads as server-control-reads
 use Rattle.parts.proofs.parts.keep_frame.Reads as keep-frame-reads
 
 returns : tie.Need-returns

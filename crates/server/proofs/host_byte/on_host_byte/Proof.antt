@@ -69,10 +69,10 @@ use Rattle.link.proofs.events.take_message as take-message
 use Rattle.link.proofs.events.take_message.Symbol as take-message-def
 use Rattle.link.proofs.events.take_message.Symbol.{name as #link·events·take-message}
 use Rattle.link.proofs.events.take_message.Met as take-message-thm
-use Rattle.rules.proofs.request.request_message as request-message
-use Rattle.rules.proofs.request.request_message.Symbol as request-message-def
-use Rattle.rules.proofs.request.request_message.Symbol.{name as #rules·request·request-message}
-use Rattle.rules.proofs.request.request_message.Met as request-message-thm
+use Rattle.hearing.proofs.request.request_message as request-message
+use Rattle.hearing.proofs.request.request_message.Symbol as request-message-def
+use Rattle.hearing.proofs.request.request_message.Symbol.{name as #hearing·request·request-message}
+use Rattle.hearing.proofs.request.request_message.Met as request-message-thm
 use Rattle.server.proofs.host_byte.acknowledge as acknowledge
 use Rattle.server.proofs.host_byte.acknowledge.Symbol as acknowledge-def
 use Rattle.server.proofs.host_byte.acknowledge.Symbol.{name as #server·host-byte·acknowledge}
@@ -133,7 +133,7 @@ abbrev C-carry-out : {M : Type 1} (𝓤 : URA M) (H : Heap 𝓤) (A : Atoms 𝓤
 C-carry-out 𝓤 H A mem run = tripleOf 𝓤 H A carry-out.signature (carry-out.spec 𝓤 H A mem run)
 
 module _ {M : Type 1} (𝓤 : URA M) (H : Heap 𝓤) (A : Atoms 𝓤) (W : Given 𝓤 H A) (mem : Memory → SProp 𝓤) (run : Routine → Fun 𝓤) (𝓣 : Tables 𝓤 H)
-    (known-clear-request : Triple 𝓤 (𝓣 .C #link·events·clear-request) (C-clear-request 𝓤 H A mem run)) (known-host-byte : Triple 𝓤 (𝓣 .C #link·events·host-byte) (C-host-byte 𝓤 H A mem run)) (known-take-message : Triple 𝓤 (𝓣 .C #link·events·take-message) (C-take-message 𝓤 H A mem run)) (known-request-message : Triple 𝓤 (𝓣 .C #rules·request·request-message) (C-request-message 𝓤 H A mem run)) (known-acknowledge : Triple 𝓤 (𝓣 .C #server·host-byte·acknowledge) (C-acknowledge 𝓤 H A mem run)) (known-request-l : Triple 𝓤 (𝓣 .C #server·host-byte·request-l) (C-request-l 𝓤 H A mem run)) (known-carry-out : Triple 𝓤 (𝓣 .C #services·service·carry-out) (C-carry-out 𝓤 H A mem run))
+    (known-clear-request : Triple 𝓤 (𝓣 .C #link·events·clear-request) (C-clear-request 𝓤 H A mem run)) (known-host-byte : Triple 𝓤 (𝓣 .C #link·events·host-byte) (C-host-byte 𝓤 H A mem run)) (known-take-message : Triple 𝓤 (𝓣 .C #link·events·take-message) (C-take-message 𝓤 H A mem run)) (known-request-message : Triple 𝓤 (𝓣 .C #hearing·request·request-message) (C-request-message 𝓤 H A mem run)) (known-acknowledge : Triple 𝓤 (𝓣 .C #server·host-byte·acknowledge) (C-acknowledge 𝓤 H A mem run)) (known-request-l : Triple 𝓤 (𝓣 .C #server·host-byte·request-l) (C-request-l 𝓤 H A mem run)) (known-carry-out : Triple 𝓤 (𝓣 .C #services·service·carry-out) (C-carry-out 𝓤 H A mem run))
     (κ0 κ1 κ2 κ3 κ4 : Lft) (q0 q1 q2 q3 q4 : Share) (b : ℕ) (datapoints : RefT (List Datapoint)) (items : RefT (List Item)) (parameters : RefT (List ℕ)) (link : RefT Link) (out : RefT (List ℕ)) (b-ok : Good byteD b) (datapoints-room : Room (datapointD .row) (length (datapoints .now))) (items-room : Room (itemD .row) (length (items .now))) (parameters-room : Room (byteD .row) (length (parameters .now))) (out-room : Room (byteD .row) (length (out .now))) (lt : T (wellFormed (tablesWith (datapoints .now) (items .now) (parameters .now))) × T (inRange (link .now)) × (262 ≤ length (out .now))) where
   abbrev x : ℕ × (RefT (List Datapoint) × (RefT (List Item) × (RefT (List ℕ) × (RefT Link × (RefT (List ℕ) × Unit {0})))))
   x = (b, (datapoints, (items, (parameters, (link, (out, tt))))))
@@ -342,7 +342,7 @@ on-host-byte-spec 𝓤 H 𝓜 𝓖 𝓡 =
     (cited 𝓤 H (C-clear-request 𝓤 H (𝓖 .A) (𝓜 .mem) (𝓡 .run)) 𝓜 𝓡 code.env #link·events·clear-request clear-request-def.routine code.calls-link·events·clear-request (clear-request-thm.met 𝓤 H 𝓜 𝓖 𝓡))
     (cited 𝓤 H (C-host-byte 𝓤 H (𝓖 .A) (𝓜 .mem) (𝓡 .run)) 𝓜 𝓡 code.env #link·events·host-byte host-byte-def.routine code.calls-link·events·host-byte (host-byte-thm.met 𝓤 H 𝓜 𝓖 𝓡))
     (cited 𝓤 H (C-take-message 𝓤 H (𝓖 .A) (𝓜 .mem) (𝓡 .run)) 𝓜 𝓡 code.env #link·events·take-message take-message-def.routine code.calls-link·events·take-message (take-message-thm.met 𝓤 H 𝓜 𝓖 𝓡))
-    (cited 𝓤 H (C-request-message 𝓤 H (𝓖 .A) (𝓜 .mem) (𝓡 .run)) 𝓜 𝓡 code.env #rules·request·request-message request-message-def.routine code.calls-rules·request·request-message (request-message-thm.met 𝓤 H 𝓜 𝓖 𝓡))
+    (cited 𝓤 H (C-request-message 𝓤 H (𝓖 .A) (𝓜 .mem) (𝓡 .run)) 𝓜 𝓡 code.env #hearing·request·request-message request-message-def.routine code.calls-hearing·request·request-message (request-message-thm.met 𝓤 H 𝓜 𝓖 𝓡))
     (cited 𝓤 H (C-acknowledge 𝓤 H (𝓖 .A) (𝓜 .mem) (𝓡 .run)) 𝓜 𝓡 code.env #server·host-byte·acknowledge acknowledge-def.routine code.calls-server·host-byte·acknowledge (acknowledge-thm.met 𝓤 H 𝓜 𝓖 𝓡))
     (cited 𝓤 H (C-request-l 𝓤 H (𝓖 .A) (𝓜 .mem) (𝓡 .run)) 𝓜 𝓡 code.env #server·host-byte·request-l request-l-def.routine code.calls-server·host-byte·request-l (request-l-thm.met 𝓤 H 𝓜 𝓖 𝓡))
     (cited 𝓤 H (C-carry-out 𝓤 H (𝓖 .A) (𝓜 .mem) (𝓡 .run)) 𝓜 𝓡 code.env #services·service·carry-out carry-out-def.routine code.calls-services·service·carry-out (carry-out-thm.met 𝓤 H 𝓜 𝓖 𝓡))
