@@ -1,5 +1,5 @@
 // Tables and services as definitions: records, tables, requests, answers, the indication. No function: the code is in
-// `masks`, `records`, `tables`, `messages`, `gets`, `sets` and `services`.
+// `services` and the crates that it stands on.
 pub mod bus;
 pub mod code;
 pub mod datapoint;
