@@ -16,17 +16,8 @@ text-requires c κs = search needs
 sent-requires : tie.Need-sent-requires
 sent-requires c κs = search needs
 
-slice-aggregate-bytes : tie.Need-slice-aggregate-bytes
-slice-aggregate-bytes c = search needs
-
-slice-aggregate-bytes-2 : tie.Need-slice-aggregate-bytes-2
-slice-aggregate-bytes-2 c = search needs
-
-bytes-requires : tie.Need-bytes-requires
-bytes-requires c κs = search needs
-
 returns-2 : tie.Need-returns-2
-returns-2 c = rw (c .before .before .before .before .before .before .if1 .left) (sym (and-false (c .before .before .before .before .before .before .before .args .right)))
+returns-2 c = rw (c .before .before .before .if1 .left) (sym (and-false (c .before .before .before .before .args .right)))
 
 pub noted-spec : {M : Type 1} → statement M
-noted-spec = tie.close (tie.spec returns slice-aggregate-text text-requires sent-requires slice-aggregate-bytes slice-aggregate-bytes-2 bytes-requires returns-2)
+noted-spec = tie.close (tie.spec returns slice-aggregate-text text-requires sent-requires returns-2)
