@@ -8,7 +8,7 @@ mod print;
 
 use crate::play::play;
 use libc::STDIN_FILENO;
-use script::print::number;
+use script::print::counted;
 use script::print::text;
 use std::num::wrapping_add_u8;
 
@@ -27,10 +27,7 @@ fn cases(s: &[u8]) {
         i = i + 1;
     }
     text(&s[from..]);
-    number(count);
-    text(b" cases, ");
-    number(right);
-    text(b" as the paper says\n");
+    counted(count, right);
 }
 
 fn main() {

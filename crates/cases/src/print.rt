@@ -4,17 +4,15 @@ ghost use mathlib.Core.Bool.{_&&_};
 use bench::bench::Bench;
 use bench::run::sent_count;
 use script::line::Line;
-use script::print::frames;
 use script::print::host;
+use script::print::server;
 use script::print::text;
+use script::print::wrong;
 
 // What the last call sends.
 fn sent(bench: Bench) {
-    let n = sent_count(bench);
     let out = bench.out;
-    if n <= 262 {
-        frames(b"   server : ", &out[..n]);
-    }
+    server(out, sent_count(bench));
 }
 
 // What a line shows: its text, what the host sends, or what the server sent.
@@ -39,7 +37,7 @@ pub fn noted(right: bool, holds: bool, bench: Bench) -> bool
     if holds {
         return right;
     }
-    text(b"            NOT what the paper says\n");
+    wrong();
     sent(bench);
     false
 }

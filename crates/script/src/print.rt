@@ -6,7 +6,7 @@ pub fn text(s: &[u8]) {
     io::write_all(STDOUT_FILENO, s);
 }
 
-pub fn number(n: u8) {
+fn number(n: u8) {
     io::print_decimal(STDOUT_FILENO, n as u64);
 }
 
@@ -56,6 +56,26 @@ pub fn host(line: Line) {
     if n <= 264 {
         frames(b"   host   : ", &s[..n]);
     }
+}
+
+// What the server sent: the first n bytes of its output; nothing where it was refused.
+pub fn server(out: [u8; 262], n: usize) {
+    let s = out;
+    if n <= 262 {
+        frames(b"   server : ", &s[..n]);
+    }
+}
+
+pub fn wrong() {
+    text(b"            NOT what the paper says\n");
+}
+
+// How many cases there are, and how many of them went as the papers say.
+pub fn counted(count: u8, right: u8) {
+    number(count);
+    text(b" cases, ");
+    number(right);
+    text(b" as the paper says\n");
 }
 
 // The last words of a case.
