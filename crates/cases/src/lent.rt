@@ -1,6 +1,6 @@
 // The lines of a script that say what the tables hold, and those that bring values from the bus.
 ghost use mathlib.Core.Path.{_≡_};
-ghost use Rattle.bench.specs.Bench.{withParameters};
+ghost use Rattle.bench.specs.Bench.{withParameters, withValue};
 ghost use Rattle.script.specs.Record.{parametersOf};
 ghost use Rattle.cases.specs.Lent.{withItem, withDatapoint, filled, built, bussed};
 use baos::datapoint::Datapoint;
@@ -95,6 +95,18 @@ pub fn told(wanted: Bench, line: Line) -> Bench
     wanted
 }
 
+// A value of one byte to lend beside a bus value event.
+fn with_value(bench: Bench, value: u8) -> Bench
+    ensures { λ r. ⌜ r ≡ withValue value bench ⌝ }
+{
+    let mut v = [0u8; 14];
+    v[0] = value;
+    let mut b = bench;
+    b.value = v;
+    b.valuesize = 1;
+    b
+}
+
 // n values from the bus, of one byte each. Behind their number stand the first datapoint's ID and the first value;
 // both rise by one.
 pub fn after_bus(bench: Bench, line: Line, n: u8) -> Bench
@@ -104,10 +116,7 @@ pub fn after_bus(bench: Bench, line: Line, n: u8) -> Bench
     let mut b = bench;
     let mut k: u8 = 0;
     while k < n {
-        let mut value = [0u8; 14];
-        value[0] = risen(a[3], true, k);
-        b.value = value;
-        b.valuesize = 1;
+        b = with_value(b, risen(a[3], true, k));
         b = happens(b, Event::BusValue(raised(a[1], a[2], k)));
         k = k + 1;
     }
