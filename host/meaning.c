@@ -1,5 +1,5 @@
-/* The words are those of crates/trace/src/meaning.rt, which has none for indications and for some services: these are
- * called as document 000 calls them. host/meaning_test holds the two together. */
+/* The words are those of the scripts of the cases, crates/cases/stdin, which have none for indications and for some
+ * services: these are called as document 000 calls them. host/meaning_test holds the two together. */
 #include "meaning.h"
 
 #include <stdbool.h>

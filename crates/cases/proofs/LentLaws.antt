@@ -12,8 +12,9 @@ use Rattle.calls.specs.declared.event.Event.the-variants.{BusValue}
 use Rattle.bench.specs.declared.bench.Bench.{Bench}
 use Rattle.bench.specs.Bench.{emptyBench, withDatapoints, withItems, withParameters, withValue}
 use Rattle.bench.specs.Run.{happened}
-use Rattle.cases.specs.declared.line.Line.{Line}
-use Rattle.cases.specs.Lent.{raised, risen, itemOf, datapointOf, parametersOf, withItem, withDatapoint, filled, built, bussed}
+use Rattle.script.specs.declared.line.Line.{Line}
+use Rattle.script.specs.Record.{raised, risen, itemOf, datapointOf, parametersOf}
+use Rattle.cases.specs.Lent.{withItem, withDatapoint, filled, built, bussed}
 
 pub item-full : (i : Item) (b : Bench) → 4 ≤ b .itemcount → withItem i b ≡ b
 unfolding withItem

@@ -1,3 +1,2 @@
-pub mod LineLaws
 pub mod LentLaws
 pub mod ScriptLaws

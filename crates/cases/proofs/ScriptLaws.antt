@@ -15,11 +15,11 @@ use Rattle.bench.specs.Bench.{emptyBench}
 use Rattle.bench.specs.Run.{happened, countSent, quiet, Sends, standAfter}
 use Rattle.bench.specs.Same.{Decides, SameTables, LinkIs}
 use Rattle.bench.proofs.SameLaws.{false-true, refuted, shown, left-to}
-use Rattle.cases.specs.declared.line.Line.{Line}
-use Rattle.cases.specs.Line.{lines, lineEnd, readLine}
+use Rattle.script.specs.declared.line.Line.{Line}
+use Rattle.script.specs.Line.{lines, lineEnd, readLine}
 use Rattle.cases.specs.Lent.{built, bussed}
 use Rattle.cases.specs.Script.{listed, standing, started, marked, acted, Damaged, Right, AllRight, Played}
-use Rattle.cases.proofs.LineLaws.{lines-next, end-within, end-some}
+use Rattle.script.proofs.LineLaws.{lines-next, end-within, end-some}
 
 -- ---- what happens by a line: a law for each letter
 pub mark-quiet : (b b′ : Bench) (n : ℕ) → b′ ≡ happened IdleMark b → n ≡ countSent (b′ .reply) → standing b′ (eqb n 0) 1000 ≡ marked b

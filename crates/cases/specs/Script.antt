@@ -12,8 +12,8 @@ use Rattle.bench.specs.declared.run.Stand.{Stand}
 use Rattle.bench.specs.Bench.{emptyBench, withBits}
 use Rattle.bench.specs.Run.{happened, quiet, Sends, standAfter}
 use Rattle.bench.specs.Same.{SameTables, LinkIs}
-use Rattle.cases.specs.declared.line.Line.{Line}
-use Rattle.cases.specs.Line.{lines, readLine}
+use Rattle.script.specs.declared.line.Line.{Line}
+use Rattle.script.specs.Line.{lines, readLine}
 use Rattle.cases.specs.Lent.{built, bussed}
 
 -- the bytes of a line

@@ -1,19 +1,21 @@
 // The lines of a script that say what the tables hold, and those that bring values from the bus.
 ghost use mathlib.Core.Path.{_≡_};
-ghost use Prim.Native.Nat.{_+_, _%_};
-ghost use lib.ListN.{getD};
-ghost use Rattle.words.specs.Words.{ofTwoBytes};
-ghost use Rattle.bench.specs.Bench.{withParameters};
-ghost use Rattle.cases.specs.Lent.{risen, itemOf, datapointOf, parametersOf, withItem, withDatapoint, filled, built, bussed};
-use crate::line::Line;
+ghost use Rattle.bench.specs.Bench.{withParameters, withValue};
+ghost use Rattle.script.specs.Record.{parametersOf};
+ghost use Rattle.cases.specs.Lent.{withItem, withDatapoint, filled, built, bussed};
 use baos::datapoint::Datapoint;
 use baos::item::Item;
 use bench::bench::Bench;
 use bench::bench::empty;
 use bench::run::happens;
 use calls::event::Event;
-use std::num::wrapping_add_u8;
-use words::bytes::put_bytes;
+use script::line::Line;
+use script::record::datapoint_of;
+use script::record::first;
+use script::record::item_of;
+use script::record::parameters_of;
+use script::record::raised;
+use script::record::risen;
 
 // No record in any table.
 const EMPTY: u8 = b'e';
@@ -24,73 +26,6 @@ const ITEM: u8 = b'i';
 const DATAPOINTS: u8 = b'd';
 // The parameter bytes.
 const PARAMETERS: u8 = b'p';
-
-// The first byte of a line: how many records it tells, or values.
-pub fn first(line: Line) -> u8
-    ensures { λ r. ⌜ r ≡ getD (line .bytes) 0 0 ⌝ }
-{
-    let a = line.bytes;
-    a[0]
-}
-
-// The number of two bytes and k more, in 16 bits.
-fn raised(high: u8, low: u8, k: u8) -> u16
-    ensures { λ r. ⌜ r ≡ (ofTwoBytes high low + k) % 65536 ⌝ }
-{
-    ((high as u32 * 256 + low as u32 + k as u32) % 65536) as u16
-}
-
-// A byte that rises by one k times, or stays.
-fn risen(byte: u8, rises: bool, k: u8) -> u8
-    ensures { λ r. ⌜ r ≡ risen byte rises k ⌝ }
-{
-    if rises {
-        return wrapping_add_u8(byte, k);
-    }
-    byte
-}
-
-fn item_of(line: Line) -> Item
-    ensures { λ r. ⌜ r ≡ itemOf (line .bytes) ⌝ }
-{
-    let a = line.bytes;
-    let mut bytes = [0u8; 16];
-    put_bytes(&mut bytes, 0, &a[4..20]);
-    Item {
-        id: raised(a[0], a[1], 0),
-        size: a[2],
-        writable: a[3],
-        bytes: bytes,
-    }
-}
-
-// The datapoint behind k others of its line.
-fn datapoint_of(line: Line, k: u8) -> Datapoint
-    ensures { λ r. ⌜ r ≡ datapointOf (line .bytes) k ⌝ }
-{
-    let a = line.bytes;
-    let mut value = [0u8; 14];
-    put_bytes(&mut value, 0, &a[9..23]);
-    value[0] = risen(a[9], a[8] == 1, k);
-    Datapoint {
-        id: raised(a[1], a[2], k),
-        typecode: a[3],
-        flags: a[4],
-        dpt: a[5],
-        state: a[6],
-        value: value,
-        mark: a[7],
-    }
-}
-
-fn parameters_of(line: Line) -> [u8; 255]
-    ensures { λ r. ⌜ r ≡ parametersOf (line .bytes) ⌝ }
-{
-    let a = line.bytes;
-    let mut bytes = [0u8; 255];
-    put_bytes(&mut bytes, 0, &a[0..255]);
-    bytes
-}
 
 // One record more, behind the others; a full table stays.
 fn with_item(bench: Bench, item: Item) -> Bench
@@ -160,6 +95,18 @@ pub fn told(wanted: Bench, line: Line) -> Bench
     wanted
 }
 
+// A value of one byte to lend beside a bus value event.
+fn with_value(bench: Bench, value: u8) -> Bench
+    ensures { λ r. ⌜ r ≡ withValue value bench ⌝ }
+{
+    let mut v = [0u8; 14];
+    v[0] = value;
+    let mut b = bench;
+    b.value = v;
+    b.valuesize = 1;
+    b
+}
+
 // n values from the bus, of one byte each. Behind their number stand the first datapoint's ID and the first value;
 // both rise by one.
 pub fn after_bus(bench: Bench, line: Line, n: u8) -> Bench
@@ -169,10 +116,7 @@ pub fn after_bus(bench: Bench, line: Line, n: u8) -> Bench
     let mut b = bench;
     let mut k: u8 = 0;
     while k < n {
-        let mut value = [0u8; 14];
-        value[0] = risen(a[3], true, k);
-        b.value = value;
-        b.valuesize = 1;
+        b = with_value(b, risen(a[3], true, k));
         b = happens(b, Event::BusValue(raised(a[1], a[2], k)));
         k = k + 1;
     }

@@ -3,14 +3,13 @@
 // says. The file stdin beside src has the examples of document 01, section "Examples", and the worked exchange of
 // document 000, section 4.1.
 mod lent;
-mod line;
 mod play;
 mod print;
 
 use crate::play::play;
-use crate::print::number;
-use crate::print::text;
 use libc::STDIN_FILENO;
+use script::print::counted;
+use script::print::text;
 use std::num::wrapping_add_u8;
 
 // Plays the scripts, up to a tilde each, and says how many of them went as the papers say.
@@ -28,10 +27,7 @@ fn cases(s: &[u8]) {
         i = i + 1;
     }
     text(&s[from..]);
-    number(count);
-    text(b" cases, ");
-    number(right);
-    text(b" as the paper says\n");
+    counted(count, right);
 }
 
 fn main() {

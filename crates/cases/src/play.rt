@@ -8,14 +8,9 @@ ghost use Rattle.bench.specs.Same.{Decides, LinkIs};
 ghost use Rattle.cases.specs.Lent.{bussed};
 ghost use Rattle.cases.specs.Script.{listed, standing, started, marked, acted, Damaged, Right, Played};
 use crate::lent::after_bus;
-use crate::lent::first;
 use crate::lent::told;
-use crate::line::Line;
-use crate::line::line_end;
-use crate::line::read;
 use crate::print::noted;
 use crate::print::shown;
-use crate::print::verdict;
 use bench::bench::Bench;
 use bench::bench::empty;
 use bench::run::Stand;
@@ -27,6 +22,11 @@ use bench::same::is_link;
 use bench::same::same_tables;
 use calls::event::Event;
 use ft12::record::Link;
+use script::line::Line;
+use script::line::line_end;
+use script::line::read;
+use script::print::verdict;
+use script::record::first;
 
 // The tables that were told, and a link that expects and sends these bits, 01 for odd, with nothing outstanding.
 const START: u8 = b's';

@@ -1,74 +1,18 @@
-// The trace, on standard output. No contract can say what is written: these functions are proved safe and ending.
+// What the trace shows of a server. No contract can say what is written.
 ghost use mathlib.Core.Path.{_≡_};
 ghost use mathlib.Core.Bool.{_&&_};
-use crate::line::Line;
 use bench::bench::Bench;
 use bench::run::sent_count;
-use libc::STDOUT_FILENO;
-
-pub fn text(s: &[u8]) {
-    io::write_all(STDOUT_FILENO, s);
-}
-
-pub fn number(n: u8) {
-    io::print_decimal(STDOUT_FILENO, n as u64);
-}
-
-// A label and bytes in hexadecimal, 24 in a line.
-fn bytes(label: &[u8], s: &[u8]) {
-    text(label);
-    let mut i: usize = 0;
-    while i < s.len() {
-        if i % 24 == 0 {
-            if i != 0 {
-                text(b"\n            ");
-            }
-        } else {
-            text(b" ");
-        }
-        let high = s[i] / 16;
-        let low = s[i] % 16;
-        text(&[b'0' + high + high / 10 * 7, b'0' + low + low / 10 * 7]);
-        i = i + 1;
-    }
-    text(b"\n");
-}
-
-// What is sent at once: nothing, a frame, or an acknowledgement and perhaps a frame behind it.
-fn frames(label: &[u8], s: &[u8]) {
-    let n = s.len();
-    if n == 0 {
-        text(label);
-        text(b"nothing\n");
-        return;
-    }
-    if s[0] != 0xE5 {
-        bytes(label, s);
-        return;
-    }
-    bytes(label, &s[0..1]);
-    text(b"            acknowledgement\n");
-    if 1 < n {
-        bytes(label, &s[1..]);
-    }
-}
+use script::line::Line;
+use script::print::host;
+use script::print::server;
+use script::print::text;
+use script::print::wrong;
 
 // What the last call sends.
 fn sent(bench: Bench) {
-    let n = sent_count(bench);
     let out = bench.out;
-    if n <= 262 {
-        frames(b"   server : ", &out[..n]);
-    }
-}
-
-// What the host sends.
-fn host(line: Line) {
-    let n = line.size;
-    let s = line.bytes;
-    if n <= 264 {
-        frames(b"   host   : ", &s[..n]);
-    }
+    server(out, sent_count(bench));
 }
 
 // What a line shows: its text, what the host sends, or what the server sent.
@@ -86,27 +30,14 @@ pub fn shown(line: Line, s: &[u8], bench: Bench) {
     }
 }
 
-// Whether all was right before and is now; where it is not now, what the server sent and how its link stands.
+// Whether all was right before and is now; where it is not now, what the server sent.
 pub fn noted(right: bool, holds: bool, bench: Bench) -> bool
     ensures { λ r. ⌜ r ≡ (right && holds) ⌝ }
 {
     if holds {
         return right;
     }
-    text(b"            NOT what the paper says\n");
+    wrong();
     sent(bench);
-    bytes(
-        b"   link   : ",
-        &[bench.link.expected, bench.link.send, bench.link.dropping],
-    );
     false
-}
-
-// The last words of a case.
-pub fn verdict(right: bool) {
-    if right {
-        text(b"   as the paper says");
-        return;
-    }
-    text(b"   NOT as the paper says");
 }

@@ -7,10 +7,10 @@ use Rattle.cases.proofs.cases.Statement.{statement}
 use Rattle.cases.proofs.cases.Tie as tie
 
 abbrev Inv-loop : tie.InvT-loop
-Inv-loop s count₀ right₀ from₀ i₀ t t′ count right from i = (from ≤ i) × (i ≤ length s)
+Inv-loop s count₀ right₀ from₀ i₀ count right from i = (from ≤ i) × (i ≤ length s)
 
 abbrev μ-loop : tie.MeasureT-loop
-μ-loop s count₀ right₀ from₀ i₀ t t′ count right from i = length s - i
+μ-loop s count₀ right₀ from₀ i₀ count right from i = length s - i
 
 loop-holds : tie.Need-loop-holds Inv-loop μ-loop
 loop-holds c = search needs
@@ -63,26 +63,11 @@ part-text-end c = search needs
 text-requires : tie.Need-text-requires Inv-loop μ-loop
 text-requires c κs = search needs
 
-number-requires : tie.Need-number-requires Inv-loop μ-loop
-number-requires c κs = search needs
-
-slice-aggregate-text : tie.Need-slice-aggregate-text Inv-loop μ-loop
-slice-aggregate-text c = search needs
-
-text-requires-2 : tie.Need-text-requires-2 Inv-loop μ-loop
-text-requires-2 c κs = search needs
-
-number-requires-2 : tie.Need-number-requires-2 Inv-loop μ-loop
-number-requires-2 c κs = search needs
-
-slice-aggregate-text-2 : tie.Need-slice-aggregate-text-2 Inv-loop μ-loop
-slice-aggregate-text-2 c = search needs
-
-text-requires-3 : tie.Need-text-requires-3 Inv-loop μ-loop
-text-requires-3 c κs = search needs
+counted-requires : tie.Need-counted-requires Inv-loop μ-loop
+counted-requires c κs = search needs
 
 returns : tie.Need-returns Inv-loop μ-loop
 returns c = search needs
 
 pub cases-spec : {M : Type 1} → statement M
-cases-spec = tie.close (tie.spec Inv-loop μ-loop loop-holds shared-slice-read-if1 sub-play part-play-start part-play-end play-requires cast-wrapping-add-u8 wrapping-add-u8-requires wrapping-add-u8-requires-2 add-from add-i loop-less loop-again sub-text part-text-start part-text-end text-requires number-requires slice-aggregate-text text-requires-2 number-requires-2 slice-aggregate-text-2 text-requires-3 returns)
+cases-spec = tie.close (tie.spec Inv-loop μ-loop loop-holds shared-slice-read-if1 sub-play part-play-start part-play-end play-requires cast-wrapping-add-u8 wrapping-add-u8-requires wrapping-add-u8-requires-2 add-from add-i loop-less loop-again sub-text part-text-start part-text-end text-requires counted-requires returns)

@@ -2,7 +2,6 @@ use borrow.Author.Needs.{needs}
 use Prim.Native.Nat.{ℕ, _-_, _≤_}
 use mathlib.Core.Path.{_≡_, sym, ap, _∙_}
 use native.Mathlib.Omega.{arith}
-use Rattle.bench.specs.Bench.{withValue}
 use Rattle.cases.specs.Lent.{bussed}
 use Rattle.cases.proofs.LentLaws.{bussed-none, bussed-next}
 use Rattle.cases.proofs.lent.after_bus.Statement.{statement}
@@ -23,8 +22,8 @@ array-read-risen c = search needs
 risen-requires : tie.Need-risen-requires Inv-loop μ-loop
 risen-requires c κs = search needs
 
-array-write-value : tie.Need-array-write-value Inv-loop μ-loop
-array-write-value c = search needs
+with-value-requires : tie.Need-with-value-requires Inv-loop μ-loop
+with-value-requires c κs = search needs
 
 array-read-raised : tie.Need-array-read-raised Inv-loop μ-loop
 array-read-raised c = search needs
@@ -39,17 +38,21 @@ happens-requires : tie.Need-happens-requires Inv-loop μ-loop
 happens-requires c κs = search needs
 
 add-k : tie.Need-add-k Inv-loop μ-loop
-add-k c = omega (arith, c .before .before .before .before .loop .inv .0)
+add-k c = omega (arith, c .before .before .before .before .before .loop .inv .0)
 
 loop-less : tie.Need-loop-less Inv-loop μ-loop
 loop-less c = search needs
 
 loop-again : tie.Need-loop-again Inv-loop μ-loop
-unfolding withValue
-loop-again c = let l = c .before .before .before .before .loop in (omega (arith, l .inv .0), rw (c .before .raised .ensures, c .before .before .risen .ensures, l .inv .1) at (c .happens .ensures) ∙ sym (bussed-next _ _ (l .k)))
+loop-again c =
+    let l = c .before .before .before .before .before .loop in (
+      omega (arith, l .inv .0),
+      rw (c .before .raised .ensures, c .before .before .with-value .ensures, c .before .before .before .risen .ensures, l .inv .1) at (c .happens .ensures)
+          ∙ sym (bussed-next _ _ (l .k)),
+    )
 
 returns : tie.Need-returns Inv-loop μ-loop
 returns c = let l = c .before .loop in l .inv .1 ∙ ap (λ (m : ℕ). bussed (c .before .before .before .args .line .bytes) m (c .before .before .before .args .bench)) (omega (arith, l .inv .0, c .loop-test .left))
 
 pub after-bus-spec : {M : Type 1} → statement M
-after-bus-spec = tie.close (tie.spec Inv-loop μ-loop loop-holds array-read-risen risen-requires array-write-value array-read-raised array-read-raised-2 raised-requires happens-requires add-k loop-less loop-again returns)
+after-bus-spec = tie.close (tie.spec Inv-loop μ-loop loop-holds array-read-risen risen-requires with-value-requires array-read-raised array-read-raised-2 raised-requires happens-requires add-k loop-less loop-again returns)

@@ -3,7 +3,7 @@ use Prim.Native.Nat.{_-_}
 use lib.ListN.{length}
 use mathlib.Core.Path.{sym, _∙_}
 use native.Mathlib.Omega.{arith}
-use Rattle.cases.proofs.LineLaws.{count-fits}
+use Rattle.script.proofs.LineLaws.{count-fits}
 use Rattle.cases.proofs.ScriptLaws.{Playing, playing-begins, line-within, line-some, playing-goes, playing-ends}
 use Rattle.bench.proofs.SameLaws.{left-to}
 use Rattle.cases.proofs.play.play.Statement.{statement}

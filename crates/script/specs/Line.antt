@@ -4,7 +4,7 @@ use mathlib.Core.List.{List, [], _∷_}
 use lib.ListN.{length, getD, set, replicate}
 use lib.Dec.{ltb, eqb}
 use Rattle.words.specs.Words.{if_then_else_}
-use Rattle.cases.specs.declared.line.Line.{Line}
+use Rattle.script.specs.declared.line.Line.{Line}
 
 -- ---- lines
 

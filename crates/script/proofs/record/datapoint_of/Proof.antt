@@ -2,9 +2,9 @@ use borrow.Author.Needs.{needs}
 use mathlib.Core.Path.{_≡_, refl}
 use lib.ListN.{length}
 use native.Mathlib.Omega.{arith}
-use Rattle.cases.specs.Lent.{datapointOf}
-use Rattle.cases.proofs.lent.datapoint_of.Statement.{statement}
-use Rattle.cases.proofs.lent.datapoint_of.Tie as tie
+use Rattle.script.specs.Record.{datapointOf}
+use Rattle.script.proofs.record.datapoint_of.Statement.{statement}
+use Rattle.script.proofs.record.datapoint_of.Tie as tie
 
 slice-aggregate-put-bytes : tie.Need-slice-aggregate-put-bytes
 slice-aggregate-put-bytes c = search needs

@@ -1,6 +1,6 @@
 use borrow.Author.Needs.{needs}
-use Rattle.cases.proofs.print.frames.Statement.{statement}
-use Rattle.cases.proofs.print.frames.Tie as tie
+use Rattle.script.proofs.print.frames.Statement.{statement}
+use Rattle.script.proofs.print.frames.Tie as tie
 
 text-requires : tie.Need-text-requires
 text-requires c κs = search needs

@@ -1,9 +1,9 @@
 use Prim.Native.Nat.{_-_}
 use lib.ListN.{length}
-use Rattle.cases.proofs.LineLaws.{Seeking, seeking-begins, seeking-goes, seeking-found, seeking-ends}
+use Rattle.script.proofs.LineLaws.{Seeking, seeking-begins, seeking-goes, seeking-found, seeking-ends}
 use borrow.Author.Needs.{needs}
-use Rattle.cases.proofs.line.line_end.Statement.{statement}
-use Rattle.cases.proofs.line.line_end.Tie as tie
+use Rattle.script.proofs.line.line_end.Statement.{statement}
+use Rattle.script.proofs.line.line_end.Tie as tie
 
 abbrev Inv-loop : tie.InvT-loop
 Inv-loop s i₀ i = Seeking s i

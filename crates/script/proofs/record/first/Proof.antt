@@ -1,6 +1,6 @@
 use borrow.Author.Needs.{needs}
-use Rattle.cases.proofs.lent.first.Statement.{statement}
-use Rattle.cases.proofs.lent.first.Tie as tie
+use Rattle.script.proofs.record.first.Statement.{statement}
+use Rattle.script.proofs.record.first.Tie as tie
 
 array-read-result : tie.Need-array-read-result
 array-read-result c = search needs

@@ -2,8 +2,8 @@ use borrow.Author.Needs.{needs}
 use Prim.Native.Nat.{_≤_, _-_}
 use lib.ListN.{length}
 use native.Mathlib.Omega.{arith}
-use Rattle.cases.proofs.print.bytes.Statement.{statement}
-use Rattle.cases.proofs.print.bytes.Tie as tie
+use Rattle.script.proofs.print.bytes.Statement.{statement}
+use Rattle.script.proofs.print.bytes.Tie as tie
 
 abbrev Inv-loop : tie.InvT-loop
 Inv-loop label s i₀ t t′ t″ i = i ≤ length s

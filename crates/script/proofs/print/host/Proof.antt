@@ -3,8 +3,8 @@ use mathlib.Core.Path.{_≡_, sym}
 use lib.ListN.{length}
 use lib.Seq.{length-take-le}
 use native.Mathlib.Omega.{arith}
-use Rattle.cases.proofs.print.host.Statement.{statement}
-use Rattle.cases.proofs.print.host.Tie as tie
+use Rattle.script.proofs.print.host.Statement.{statement}
+use Rattle.script.proofs.print.host.Tie as tie
 
 slice-aggregate-frames : tie.Need-slice-aggregate-frames
 slice-aggregate-frames c = search needs

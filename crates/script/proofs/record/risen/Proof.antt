@@ -1,8 +1,8 @@
 use borrow.Author.Needs.{needs}
 use mathlib.Core.Path.{refl}
-use Rattle.cases.specs.Lent.{risen}
-use Rattle.cases.proofs.lent.risen.Statement.{statement}
-use Rattle.cases.proofs.lent.risen.Tie as tie
+use Rattle.script.specs.Record.{risen}
+use Rattle.script.proofs.record.risen.Statement.{statement}
+use Rattle.script.proofs.record.risen.Tie as tie
 
 wrapping-add-u8-requires : tie.Need-wrapping-add-u8-requires
 wrapping-add-u8-requires c κs = search needs

@@ -3,9 +3,9 @@ use Prim.Native.Nat.{_-_}
 use mathlib.Core.Path.{_≡_, refl}
 use lib.ListN.{length, getD}
 use native.Mathlib.Omega.{arith}
-use Rattle.cases.proofs.LineLaws.{Reading, reading-begins, reading-goes, reading-ends, reading-full, nothing-read}
-use Rattle.cases.proofs.line.read.Statement.{statement}
-use Rattle.cases.proofs.line.read.Tie as tie
+use Rattle.script.proofs.LineLaws.{Reading, reading-begins, reading-goes, reading-ends, reading-full, nothing-read}
+use Rattle.script.proofs.line.read.Statement.{statement}
+use Rattle.script.proofs.line.read.Tie as tie
 
 abbrev Inv-loop : tie.InvT-loop
 Inv-loop s n bytes₀ letter k₀ bytes k = (n ≡ length s) × (letter ≡ getD s 0 0) × Reading s bytes k

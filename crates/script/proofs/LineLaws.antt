@@ -9,8 +9,8 @@ use lib.ListN.{length, take, drop, getD, set, replicate, drop-of-length-le}
 use lib.Seq.{drop-cons}
 use lib.Dec.{eqb, ltb}
 use borrow.Author.Tests.{lt-ltb, le-ltb, eq-eqb, ne-eqb, ltb-true}
-use Rattle.cases.specs.declared.line.Line.{Line}
-use Rattle.cases.specs.Line.{lineEnd, onto, lines, byteOf, byteCount, written, readLine}
+use Rattle.script.specs.declared.line.Line.{Line}
+use Rattle.script.specs.Line.{lineEnd, onto, lines, byteOf, byteCount, written, readLine}
 
 -- ---- the bytes of a line, one after the other
 pub record Reading (s bytes : List ℕ) (k : ℕ) : Type 0 where

@@ -2,9 +2,9 @@ use borrow.Author.Needs.{needs}
 use mathlib.Core.Path.{_≡_, refl}
 use lib.ListN.{length}
 use native.Mathlib.Omega.{arith}
-use Rattle.cases.specs.Lent.{itemOf}
-use Rattle.cases.proofs.lent.item_of.Statement.{statement}
-use Rattle.cases.proofs.lent.item_of.Tie as tie
+use Rattle.script.specs.Record.{itemOf}
+use Rattle.script.proofs.record.item_of.Statement.{statement}
+use Rattle.script.proofs.record.item_of.Tie as tie
 
 slice-aggregate-put-bytes : tie.Need-slice-aggregate-put-bytes
 slice-aggregate-put-bytes c = search needs

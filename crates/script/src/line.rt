@@ -1,7 +1,7 @@
 // A script is text, in lines. Each has its end, \n, in it. A line is text for the trace; or a small letter and the bytes
 // behind it, each a blank and two hexadecimal digits, as the papers have them.
 ghost use mathlib.Core.Path.{_≡_};
-ghost use Rattle.cases.specs.Line.{digitOf, readLine, lineEnd};
+ghost use Rattle.script.specs.Line.{digitOf, readLine, lineEnd};
 
 pub struct Line {
     pub letter: u8,
