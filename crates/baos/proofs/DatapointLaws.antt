@@ -1,18 +1,20 @@
 -- One record: the state byte's arithmetic means the paper's bits, and each change of a well-formed record leaves it well formed.
-use Prim.Native.Nat.{ℕ, zero, suc, _+_, _-_, _*_, _/_, _%_, _≤_, _<_}
+use Prim.Native.Nat.{ℕ, _+_, _-_, _*_, _/_, _%_, _≤_, _<_}
 use mathlib.Core.Path.{_≡_, refl, ap}
 use mathlib.Core.Bool.{Bool, true, false, _&&_, _||_}
-use mathlib.Core.List.{List, [], _∷_}
+use mathlib.Core.List.{List}
 use native.Mathlib.Omega.{arith}
-use lib.ListN.{length, getD, replicate}
+use lib.ListN.{length, replicate}
 use lib.Seq.{take-at}
 use lib.Dec.{T, leb, ltb, eqb, leb→le, ltb→lt, lt→ltb, eqb→eq}
-use Rattle.words.specs.Words.{isYesOrNo, pad, every, isPadded}
+use borrow.Author.Tests.{ltb-true, ltb-false}
+use Rattle.words.specs.Words.{isYesOrNo, pad, isPadded}
 use Rattle.words.proofs.WordLaws.{left, right, both, parts3, parts4, join3, join4, pad-padded, padded-decided}
 use Rattle.baos.specs.declared.datapoint.Datapoint.{Datapoint}
 use Rattle.baos.specs.declared.item.Item.{Item}
 use Rattle.baos.specs.Datapoint.{sizeOf, unusedBitsOk, isValue, valueOf, datapointOk, withValid, withoutUpdated, withRequest, withStatus, fromBus, withState, withValue, withMark, handedOut, busValue, outcome, commanded}
 use Rattle.baos.specs.Item.{itemOk, withBytes}
+use Rattle.baos.proofs.ValueLaws.{tested, size-of-none}
 
 -- ---- the state byte
 -- bit b of the state byte s, by its weight
@@ -90,15 +92,14 @@ value-bits : (k : ℕ) (v : List ℕ) → T (isValue k v) → T (unusedBitsOk k 
 unfolding isValue
 value-bits k v t = right (eqb (length v) (sizeOf k)) (unusedBitsOk k v) t
 
-at-most : (n : ℕ) (xs : List ℕ) (k : ℕ) → T (every (λ x. leb x n) xs) → getD xs k 0 ≤ n
-at-most n [] k t = omega arith
-at-most n (x ∷ xs) zero t = leb→le x n (left (leb x n) (every (λ y. leb y n) xs) t)
-at-most n (x ∷ xs) (suc k) t = at-most n xs k (right (leb x n) (every (λ y. leb y n) xs) t)
-
 -- no value is longer than its memory
 pub size-fits : (typecode : ℕ) → sizeOf typecode ≤ 14
 unfolding sizeOf
-size-fits typecode = at-most 14 (1 ∷ 1 ∷ 1 ∷ 1 ∷ 1 ∷ 1 ∷ 1 ∷ 1 ∷ 2 ∷ 3 ∷ 4 ∷ 6 ∷ 8 ∷ 10 ∷ 14 ∷ []) typecode tt
+size-fits typecode = by-test (ltb typecode 15) refl
+  where
+    by-test : (b : Bool) → ltb typecode 15 ≡ b → sizeOf typecode ≤ 14
+    by-test true e = leb→le (sizeOf typecode) 14 (tested (λ k. leb (sizeOf k) 14) 15 typecode tt (ltb-true typecode 15 e))
+    by-test false e = omega (arith, size-of-none typecode (ltb-false typecode 15 e))
 
 -- the bytes that a value takes of the record that holds it
 value-held : (v : List ℕ) (s : ℕ) (d : Datapoint) → T (isValue (d .typecode) v) → valueOf (withValue v s d) ≡ v

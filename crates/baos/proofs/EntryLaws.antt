@@ -15,6 +15,7 @@ use Rattle.baos.specs.declared.item.Item.{Item}
 use Rattle.baos.specs.Datapoint.{sizeOf, valueOf, unusedBitsOk}
 use Rattle.baos.specs.Get.{valueEntry}
 use Rattle.baos.specs.Set.{itemCode, takesCommand, datapointCode}
+use Rattle.baos.proofs.ValueLaws.{size-of-bits}
 
 -- ---- a value in memory that was 0
 drop-zeros : (k n : ℕ) → drop {A = ℕ} k (replicate n 0) ≡ replicate (n - k) 0
@@ -90,17 +91,8 @@ pub put-entry : (l : List ℕ) (at k n : ℕ) (vs a : List ℕ) → k ≡ at + l
 put-entry l at k n vs a e h m = put-behind l at k vs (take n a) e (omega (arith, m, length-take-le n a h))
 
 -- a value of one byte, as codes 0 to 7 have: its entry has five bytes
-first-of : (n x : ℕ) (ys : List ℕ) (k : ℕ) → k < n → getD (replicate n x ++ ys) k 0 ≡ x
-first-of zero x ys k h = absurd (omega arith)
-first-of (suc n) x ys zero h = refl
-first-of (suc n) x ys (suc k) h = first-of n x ys k (omega arith)
-
-pub one-byte : (typecode : ℕ) → typecode < 8 → sizeOf typecode ≡ 1
-unfolding sizeOf
-one-byte typecode h = first-of 8 1 (2 ∷ 3 ∷ 4 ∷ 6 ∷ 8 ∷ 10 ∷ 14 ∷ []) typecode h
-
 pub one-byte-entry : (d : Datapoint) → d .typecode < 8 → length (d .value) ≡ 14 → valueEntry d .bytes ≡ d .id / 256 ∷ d .id % 256 ∷ d .state ∷ 1 ∷ getD (d .value) 0 0 ∷ []
 unfolding valueEntry valueOf
 one-byte-entry d h l =
-    ap (λ (n : ℕ). d .id / 256 ∷ d .id % 256 ∷ d .state ∷ n ∷ take n (d .value)) (one-byte (d .typecode) h)
+    ap (λ (n : ℕ). d .id / 256 ∷ d .id % 256 ∷ d .state ∷ n ∷ take n (d .value)) (size-of-bits (d .typecode) h)
     ∙ ap (λ (r : List ℕ). d .id / 256 ∷ d .id % 256 ∷ d .state ∷ 1 ∷ r) (take-suc (d .value) 0 0 (omega arith))

@@ -1,6 +1,6 @@
 -- Laws of a value by its type code: its size, the limit of its first byte, its test.
 use Prim.Native.Nat.{ℕ, zero, suc, _+_, _^_, _≤_, _<_}
-use mathlib.Core.Path.{_≡_, refl, sym, subst}
+use mathlib.Core.Path.{_≡_, refl, sym, _∙_, subst}
 use mathlib.Core.Bool.{Bool, true, false, _&&_}
 use mathlib.Core.Logic.{_⊎_, inl, inr}
 use mathlib.Core.List.{List, [], _∷_}
@@ -44,18 +44,31 @@ tested f zero k t l = absurd (not-suc-le-zero l)
 tested f (suc n) k t l = elim (at-or-below k n l) [ inl u ↦ tested f n k (right (f n) (upto f n) t) u | inr e ↦ subst (λ (x : ℕ). T (f x)) (sym e) (left (f n) (upto f n) t) ]
 
 -- ---- the size
+pub size-of-bits : (k : ℕ) → k < 8 → sizeOf k ≡ 1
+unfolding sizeOf
+size-of-bits k h = simp (lt-ltb k 8 h)
+
+pub size-of-none : (k : ℕ) → 15 ≤ k → sizeOf k ≡ 0
+unfolding sizeOf
+size-of-none k h = simp (le-ltb k 8 (omega arith), le-ltb k 11 (omega arith), le-ltb k 14 (omega arith), ne-eqb k 14 (λ e. omega (arith, e)))
+
+-- the list of sizes that document 01 gives, by type code
+abbrev pub listed : List ℕ
+listed = 1 ∷ 1 ∷ 1 ∷ 1 ∷ 1 ∷ 1 ∷ 1 ∷ 1 ∷ 2 ∷ 3 ∷ 4 ∷ 6 ∷ 8 ∷ 10 ∷ 14 ∷ []
+
 past-end : (xs : List ℕ) (k : ℕ) → length xs ≤ k → getD xs k 0 ≡ 0
 past-end [] k h = refl
 past-end (x ∷ xs) zero h = absurd (not-suc-le-zero h)
 past-end (x ∷ xs) (suc k) h = past-end xs k (omega arith)
 
-pub size-of-bits : (k : ℕ) → k < 8 → sizeOf k ≡ 1
+-- the rule gives the list, and 0 behind it: no size moved when the rule came in its place
+pub sizes-listed : (k : ℕ) → sizeOf k ≡ getD listed k 0
 unfolding sizeOf
-size-of-bits k h = eqb→eq (sizeOf k) 1 (tested (λ k. eqb (sizeOf k) 1) 8 k tt h)
-
-pub size-of-none : (k : ℕ) → 15 ≤ k → sizeOf k ≡ 0
-unfolding sizeOf
-size-of-none k h = past-end (1 ∷ 1 ∷ 1 ∷ 1 ∷ 1 ∷ 1 ∷ 1 ∷ 1 ∷ 2 ∷ 3 ∷ 4 ∷ 6 ∷ 8 ∷ 10 ∷ 14 ∷ []) k h
+sizes-listed k = by-test (ltb k 15) refl
+  where
+    by-test : (b : Bool) → ltb k 15 ≡ b → sizeOf k ≡ getD listed k 0
+    by-test true e = eqb→eq (sizeOf k) (getD listed k 0) (tested (λ i. eqb (sizeOf i) (getD listed i 0)) 15 k tt (ltb-true k 15 e))
+    by-test false e = size-of-none k (ltb-false k 15 e) ∙ sym (past-end listed k (ltb-false k 15 e))
 
 -- ---- the limit
 pub limit-of-whole : (k : ℕ) → 7 ≤ k → limitOf k ≡ 256

@@ -1,16 +1,22 @@
 -- One datapoint record: its value's size by type code, its state byte, when it is well formed, and how it changes.
-use Prim.Native.Nat.{ℕ, _+_, _*_, _/_, _%_, _^_}
+use Prim.Native.Nat.{ℕ, _+_, _-_, _*_, _/_, _%_, _^_}
 use mathlib.Core.Bool.{Bool, true, false, _&&_}
-use mathlib.Core.List.{List, [], _∷_}
+use mathlib.Core.List.{List}
 use lib.ListN.{length, getD, take, replicate}
 use lib.Dec.{leb, ltb, eqb}
 use Rattle.words.specs.Words.{if_then_else_, isYesOrNo, pad, isPadded}
 use Rattle.baos.specs.declared.datapoint.Datapoint.{Datapoint}
 
 -- "Type codes: 0 to 6 are 1 to 7 bits in the low bits of one byte; 7 is 1 byte; 8, 9, 10, 11, 12, 13, 14 are 2, 3, 4,
--- 6, 8, 10, 14 bytes."
+-- 6, 8, 10, 14 bytes." By its rule: "codes 0 to 7 give 1, 8 to 10 the code less 6, 11 to 13 twice the code less 16, 14
+-- gives 14" (document 02, item 4). No other code has a size.
 unfoldable pub sizeOf : ℕ → ℕ
-sizeOf typecode = getD (1 ∷ 1 ∷ 1 ∷ 1 ∷ 1 ∷ 1 ∷ 1 ∷ 1 ∷ 2 ∷ 3 ∷ 4 ∷ 6 ∷ 8 ∷ 10 ∷ 14 ∷ []) typecode 0
+sizeOf typecode =
+    if ltb typecode 8 then 1
+    else if ltb typecode 11 then typecode - 6
+    else if ltb typecode 14 then 2 * typecode - 16
+    else if eqb typecode 14 then 14
+    else 0
 
 -- what the first byte of a value stays below: codes 0 to 6 use its low bits alone
 unfoldable pub limitOf : ℕ → ℕ

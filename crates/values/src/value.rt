@@ -1,34 +1,52 @@
 // A value: its size by type code, its unused bits, its place in a record.
 ghost use mathlib.Core.Path.{_≡_};
 ghost use mathlib.Core.Bool.{false};
-ghost use Prim.Native.Nat.{_≤_, _<_};
+ghost use Prim.Native.Nat.{_-_, _*_, _≤_, _<_};
 ghost use lib.ListN.{length};
-ghost use Rattle.words.specs.Words.{pad};
+ghost use lib.Dec.{ltb, eqb};
+ghost use Rattle.words.specs.Words.{if_then_else_, pad};
 ghost use Rattle.baos.specs.Datapoint.{sizeOf, limitOf, unusedBitsOk, isValue};
 use words::bytes::put_bytes;
 
-// How many bytes a value of this type code has.
+// The size by its rule up to code 10: one byte, and from 8 on the code less 6.
+fn few_bytes(typecode: u8) -> usize
+    ensures { λ r. ⌜ r ≡ (if ltb typecode 8 then 1 else typecode - 6) ⌝ }
+{
+    if typecode < 8 {
+        return 1;
+    }
+    typecode as usize - 6
+}
+
+// And from 11 on twice the code less 16.
+fn more_bytes(typecode: u8, few: usize) -> usize
+    ensures { λ r. ⌜ r ≡ (if ltb typecode 11 then few else 2 * typecode - 16) ⌝ }
+{
+    if typecode < 11 {
+        return few;
+    }
+    2 * typecode as usize - 16
+}
+
+// And 14 for code 14, none beyond.
+fn most_bytes(typecode: u8, more: usize) -> usize
+    ensures { λ r. ⌜ r ≡ (if ltb typecode 14 then more else if eqb typecode 14 then 14 else 0) ⌝ }
+{
+    if typecode < 14 {
+        return more;
+    }
+    if typecode == 14 {
+        return 14;
+    }
+    0
+}
+
+// How many bytes a value of this type code has. In steps of their own, so that each is a conditional move: the codes of
+// a table are mixed, and no jump would be foretold.
 pub fn size_of(typecode: u8) -> usize
     ensures { λ r. ⌜ r ≡ sizeOf typecode ⌝ }
 {
-    match typecode {
-        0 => 1,
-        1 => 1,
-        2 => 1,
-        3 => 1,
-        4 => 1,
-        5 => 1,
-        6 => 1,
-        7 => 1,
-        8 => 2,
-        9 => 3,
-        10 => 4,
-        11 => 6,
-        12 => 8,
-        13 => 10,
-        14 => 14,
-        _ => 0,
-    }
+    most_bytes(typecode, more_bytes(typecode, few_bytes(typecode)))
 }
 
 // What the first byte of a value of this type code stays below.

@@ -9,7 +9,8 @@ use borrow.Author.Needs.{needs}
 use Rattle.words.proofs.ByteLaws.{length-put, put-sets}
 use Rattle.baos.specs.Datapoint.{valueOf}
 use Rattle.baos.specs.Get.{valueEntry}
-use Rattle.baos.proofs.EntryLaws.{put-entry, one-byte, one-byte-entry}
+use Rattle.baos.proofs.ValueLaws.{size-of-bits}
+use Rattle.baos.proofs.EntryLaws.{put-entry, one-byte-entry}
 use Rattle.baos.proofs.DatapointLaws.{size-fits}
 use Rattle.entries.proofs.entry.put_value.Statement.{statement}
 use Rattle.entries.proofs.entry.put_value.Tie as tie
@@ -48,10 +49,10 @@ add-out-4 : tie.Need-add-out-4
 add-out-4 c = search needs
 
 slice-write-out-5 : tie.Need-slice-write-out-5
-slice-write-out-5 c = simp length-set (omega (arith, one-byte (c .before .before .before .before .before .before .args .d .typecode) (c .if1 .taken)))
+slice-write-out-5 c = simp length-set (omega (arith, size-of-bits (c .before .before .before .before .before .before .args .d .typecode) (c .if1 .taken)))
 
 add-result : tie.Need-add-result
-add-result c = omega (arith, one-byte (c .before .before .before .before .before .before .args .d .typecode) (c .if1 .taken))
+add-result c = omega (arith, size-of-bits (c .before .before .before .before .before .before .args .d .typecode) (c .if1 .taken))
 
 same-length : tie.Need-same-length
 same-length c = search needs
@@ -62,7 +63,7 @@ returns c =
     let t = c .if1 .taken in
     let h : length (a .d .value) ≡ 14 = search needs in
     record {
-      buffer = rw (one-byte-entry (a .d) t h) (simp towards-suc (put-sets (_ ∷ _ ∷ _ ∷ _ ∷ _ ∷ []) (a .out .now) (a .at) (omega (arith, one-byte (a .d .typecode) t))));
+      buffer = rw (one-byte-entry (a .d) t h) (simp towards-suc (put-sets (_ ∷ _ ∷ _ ∷ _ ∷ _ ∷ []) (a .out .now) (a .at) (omega (arith, size-of-bits (a .d .typecode) t))));
       ends = rw (one-byte-entry (a .d) t h) refl;
     }
 

@@ -1,91 +1,50 @@
--- Each arm by computing; the last by a law.
-use Prim.Native.Nat.{zero-le}
-use mathlib.Core.Path.{sym, ap}
+-- The steps one after the other give the rule.
+use Prim.Native.Nat.{ℕ, _-_, _*_}
+use mathlib.Core.Path.{_≡_, refl, _∙_, ap}
+use mathlib.Core.Bool.{Bool, true, false}
+use native.Mathlib.Omega.{arith}
+use lib.Dec.{ltb, eqb}
+use borrow.Author.Needs.{needs}
+use borrow.Author.Tests.{lt-ltb, ltb-true}
+use Rattle.words.specs.Words.{if_then_else_}
 use Rattle.baos.specs.Datapoint.{sizeOf}
-use Rattle.baos.proofs.ValueLaws.{beyond, size-of-none}
 use Rattle.values.proofs.value.size_of.Statement.{statement}
 use Rattle.values.proofs.value.size_of.Tie as tie
 
+-- what each step answers, as the functions promise it
+abbrev few : ℕ → ℕ
+few k = if ltb k 8 then 1 else k - 6
+
+abbrev more : ℕ → ℕ → ℕ
+more k n = if ltb k 11 then n else 2 * k - 16
+
+abbrev most : ℕ → ℕ → ℕ
+most k n = if ltb k 14 then n else if eqb k 14 then 14 else 0
+
+in-steps : (k : ℕ) → most k (more k (few k)) ≡ sizeOf k
+unfolding sizeOf
+in-steps k = go (ltb k 8) (ltb k 11) (ltb k 14) refl refl refl
+  where
+    go : (a b c : Bool) → ltb k 8 ≡ a → ltb k 11 ≡ b → ltb k 14 ≡ c → most k (more k (few k)) ≡ sizeOf k
+    go true b c e f g = simp (e, lt-ltb k 11 (omega (arith, ltb-true k 8 e)), lt-ltb k 14 (omega (arith, ltb-true k 8 e)))
+    go false true c e f g = simp (e, f, lt-ltb k 14 (omega (arith, ltb-true k 11 f)))
+    go false false true e f g = simp (e, f, g)
+    go false false false e f g = simp (e, f, g)
+
+stepped : (k a b r : ℕ) → a ≡ few k → b ≡ more k a → r ≡ most k b → r ≡ sizeOf k
+stepped k a b r e f g = g ∙ ap (most k) (f ∙ ap (more k) e) ∙ in-steps k
+
+few-bytes-requires : tie.Need-few-bytes-requires
+few-bytes-requires c κs = search needs
+
+more-bytes-requires : tie.Need-more-bytes-requires
+more-bytes-requires c κs = search needs
+
+most-bytes-requires : tie.Need-most-bytes-requires
+most-bytes-requires c κs = search needs
+
 returns : tie.Need-returns
-unfolding sizeOf
-returns c = sym (ap sizeOf (c .match .keys1))
-
-returns-2 : tie.Need-returns-2
-unfolding sizeOf
-returns-2 c = sym (ap sizeOf (c .match .keys2))
-
-returns-3 : tie.Need-returns-3
-unfolding sizeOf
-returns-3 c = sym (ap sizeOf (c .match .keys3))
-
-returns-4 : tie.Need-returns-4
-unfolding sizeOf
-returns-4 c = sym (ap sizeOf (c .match .keys4))
-
-returns-5 : tie.Need-returns-5
-unfolding sizeOf
-returns-5 c = sym (ap sizeOf (c .match .keys5))
-
-returns-6 : tie.Need-returns-6
-unfolding sizeOf
-returns-6 c = sym (ap sizeOf (c .match .keys6))
-
-returns-7 : tie.Need-returns-7
-unfolding sizeOf
-returns-7 c = sym (ap sizeOf (c .match .keys7))
-
-returns-8 : tie.Need-returns-8
-unfolding sizeOf
-returns-8 c = sym (ap sizeOf (c .match .keys8))
-
-returns-9 : tie.Need-returns-9
-unfolding sizeOf
-returns-9 c = sym (ap sizeOf (c .match .keys9))
-
-returns-10 : tie.Need-returns-10
-unfolding sizeOf
-returns-10 c = sym (ap sizeOf (c .match .keys10))
-
-returns-11 : tie.Need-returns-11
-unfolding sizeOf
-returns-11 c = sym (ap sizeOf (c .match .keys11))
-
-returns-12 : tie.Need-returns-12
-unfolding sizeOf
-returns-12 c = sym (ap sizeOf (c .match .keys12))
-
-returns-13 : tie.Need-returns-13
-unfolding sizeOf
-returns-13 c = sym (ap sizeOf (c .match .keys13))
-
-returns-14 : tie.Need-returns-14
-unfolding sizeOf
-returns-14 c = sym (ap sizeOf (c .match .keys14))
-
-returns-15 : tie.Need-returns-15
-unfolding sizeOf
-returns-15 c = sym (ap sizeOf (c .match .keys15))
-
-returns-16 : tie.Need-returns-16
-returns-16 c = sym (size-of-none _ (beyond 0 15 _ zero-le (c .match .rest)))
+returns c = stepped _ _ _ _ (c .before .before .few-bytes .ensures) (c .before .more-bytes .ensures) (c .most-bytes .ensures)
 
 pub size-of-spec : {M : Type 1} → statement M
-size-of-spec =
-    tie.close
-    (tie.spec
-    returns
-    returns-2
-    returns-3
-    returns-4
-    returns-5
-    returns-6
-    returns-7
-    returns-8
-    returns-9
-    returns-10
-    returns-11
-    returns-12
-    returns-13
-    returns-14
-    returns-15
-    returns-16)
+size-of-spec = tie.close (tie.spec few-bytes-requires more-bytes-requires most-bytes-requires returns)
