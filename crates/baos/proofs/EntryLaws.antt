@@ -9,7 +9,7 @@ use lib.Seq.{sets, length-take-le, take-suc}
 use lib.Dec.{eqb}
 use borrow.Author.Tests.{eq-eqb, ne-eqb}
 use Rattle.words.specs.Words.{pad, put, isEmpty}
-use Rattle.words.proofs.ByteLaws.{put-sets, put-put}
+use Rattle.words.proofs.ByteLaws.{length-put, put-sets, put-put, put-in-front}
 use Rattle.baos.specs.declared.datapoint.Datapoint.{Datapoint}
 use Rattle.baos.specs.declared.item.Item.{Item}
 use Rattle.baos.specs.Datapoint.{sizeOf, valueOf, unusedBitsOk}
@@ -86,6 +86,11 @@ module _ (i : Item) (v : List ℕ) where
 -- bytes stored one by one, and the used bytes of an array behind them, are one write
 pub put-behind : (l : List ℕ) (at k : ℕ) (vs a : List ℕ) → k ≡ at + length vs → at + length vs + length a ≤ length l → put (sets l at vs) k a ≡ put l at (vs ++ a)
 put-behind l at k vs a e m = ap (λ (r : List ℕ). put r k a) (put-sets vs l at (omega (arith, m))) ∙ put-put l at k vs a e m
+
+-- the same where the bytes behind were written first
+pub put-before : (l : List ℕ) (at k : ℕ) (vs a : List ℕ) → k ≡ at + length vs → at + length vs + length a ≤ length l → sets (put l k a) at vs ≡ put l at (vs ++ a)
+put-before l at k vs a e m =
+    put-sets vs (put l k a) at (omega (arith, m, e, length-put l k a (omega (arith, m, e)))) ∙ put-in-front l at k vs a e (omega (arith, m, e))
 
 pub put-entry : (l : List ℕ) (at k n : ℕ) (vs a : List ℕ) → k ≡ at + length vs → n ≤ length a → at + length vs + n ≤ length l → put (sets l at vs) k (take n a) ≡ put l at (vs ++ take n a)
 put-entry l at k n vs a e h m = put-behind l at k vs (take n a) e (omega (arith, m, length-take-le n a h))

@@ -67,10 +67,11 @@ pub fn put_wide_value(out: &mut [u8], at: usize, d: Datapoint) -> usize
 {
     let n = size_of(d.typecode);
     let v = d.value;
+    // The value first: it then goes from the record into the buffer, and not by way of the stack.
+    put_bytes(&mut *out, at + 4, &v);
     out[at] = (d.id / 256) as u8;
     out[at + 1] = (d.id % 256) as u8;
     out[at + 2] = d.state;
     out[at + 3] = n as u8;
-    put_bytes(&mut *out, at + 4, &v);
     at + 4 + n
 }

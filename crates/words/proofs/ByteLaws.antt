@@ -6,7 +6,7 @@ use mathlib.Core.Bool.{Bool, true, false, _&&_, and-true, and-false, and-assoc}
 use native.Mathlib.Omega.{arith}
 use native.Mathlib.Decide.{ℕ-discrete}
 use lib.ListN.{length, take, drop, getD, set, replicate, length-append, length-take, length-drop, take-append-drop}
-use lib.Seq.{take-all, take-suc, take-take, take-add, take-at, drop-at, drop-drop, drop-append-add, length-take-le, sets, sets-eq}
+use lib.Seq.{take-all, take-suc, take-take, take-add, take-append-le, take-at, drop-at, drop-drop, drop-append-add, length-take-le, sets, sets-eq}
 use lib.Bits.{bitOr, or-zero-l, or-add-and, and-le-r}
 use lib.Dec.{eqb}
 use borrow.Author.Tests.{ne-eqb}
@@ -100,6 +100,18 @@ put-put l at k vs ws e h =
     let q : drop (length ws) d ≡ drop (at + length (vs ++ ws)) l =
     drop-drop (length ws) (at + length vs) l ∙ ap (λ (j : ℕ). drop j l) {x = at + length vs + length ws} {y = at + length (vs ++ ws)} (omega (arith, length-append vs ws)) in
     rw (t, r, q) (ap (λ (x : List ℕ). x ++ drop (at + length (vs ++ ws)) l) (append-assoc (take at l) vs ws))
+
+-- a write right in front of another
+pub put-in-front : (l : List ℕ) (at k : ℕ) (vs ws : List ℕ) → k ≡ at + length vs → k + length ws ≤ length l → put (put l k ws) at vs ≡ put l at (vs ++ ws)
+unfolding put
+put-in-front l at k vs ws e h =
+    let r : List ℕ = drop (k + length ws) l in
+    let t : take at (take k l ++ ws ++ r) ≡ take at l =
+    ap (take at) (append-assoc (take k l) ws r) ∙ take-append-le at (take k l) (ws ++ r) (simp length-take (omega arith)) ∙ take-take at k l (omega arith) in
+    let d : drop (at + length vs) (take k l ++ ws ++ r) ≡ ws ++ r =
+    ap (drop (at + length vs)) (append-assoc (take k l) ws r) ∙ drop-at (take k l) (ws ++ r) (at + length vs) (length-take-le k l (omega arith) ∙ e) in
+    let q : r ≡ drop (at + length (vs ++ ws)) l = ap (λ (j : ℕ). drop j l) {x = k + length ws} {y = at + length (vs ++ ws)} (omega (arith, length-append vs ws)) in
+    rw (t, d) (ap (λ (x : List ℕ). take at l ++ vs ++ (ws ++ x)) q ∙ simp append-assoc)
 
 -- what stands behind the bytes written may count as written
 pub put-with : (l : List ℕ) (at n : ℕ) (vs : List ℕ) → at + length vs + n ≤ length l → put l at vs ≡ put l at (vs ++ take n (drop (at + length vs) l))
