@@ -84,16 +84,14 @@ module _ (i : Item) (v : List ℕ) where
 
 -- ---- entries
 -- bytes stored one by one, and the used bytes of an array behind them, are one write
-pub put-behind : (l : List ℕ) (at k : ℕ) (vs a : List ℕ) → k ≡ at + length vs → at + length vs + length a ≤ length l → put (sets l at vs) k a ≡ put l at (vs ++ a)
-put-behind l at k vs a e m = ap (λ (r : List ℕ). put r k a) (put-sets vs l at (omega (arith, m))) ∙ put-put l at k vs a e m
+pub put-entry : (l : List ℕ) (at k n : ℕ) (vs a : List ℕ) → k ≡ at + length vs → n ≤ length a → at + length vs + n ≤ length l → put (sets l at vs) k (take n a) ≡ put l at (vs ++ take n a)
+put-entry l at k n vs a e h m =
+    ap (λ (r : List ℕ). put r k (take n a)) (put-sets vs l at (omega (arith, m))) ∙ put-put l at k vs (take n a) e (omega (arith, m, length-take-le n a h))
 
--- the same where the bytes behind were written first
+-- an array, and then bytes stored one by one in front of it, are one write
 pub put-before : (l : List ℕ) (at k : ℕ) (vs a : List ℕ) → k ≡ at + length vs → at + length vs + length a ≤ length l → sets (put l k a) at vs ≡ put l at (vs ++ a)
 put-before l at k vs a e m =
     put-sets vs (put l k a) at (omega (arith, m, e, length-put l k a (omega (arith, m, e)))) ∙ put-in-front l at k vs a e (omega (arith, m, e))
-
-pub put-entry : (l : List ℕ) (at k n : ℕ) (vs a : List ℕ) → k ≡ at + length vs → n ≤ length a → at + length vs + n ≤ length l → put (sets l at vs) k (take n a) ≡ put l at (vs ++ take n a)
-put-entry l at k n vs a e h m = put-behind l at k vs (take n a) e (omega (arith, m, length-take-le n a h))
 
 -- a value of one byte, as codes 0 to 7 have: its entry has five bytes
 pub one-byte-entry : (d : Datapoint) → d .typecode < 8 → length (d .value) ≡ 14 → valueEntry d .bytes ≡ d .id / 256 ∷ d .id % 256 ∷ d .state ∷ 1 ∷ getD (d .value) 0 0 ∷ []

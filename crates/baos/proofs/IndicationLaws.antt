@@ -1,15 +1,15 @@
 -- The pass over the table, record by record as the loop goes, comes to what an indication has to be; and its head put in front of its entries.
-use Prim.Native.Nat.{ℕ, zero, suc, _+_, _-_, _≤_, _<_}
+use Prim.Native.Nat.{ℕ, suc, _+_, _-_, _≤_, _<_}
 use mathlib.Core.Path.{_≡_, refl, sym, _∙_, ap, subst}
 use mathlib.Core.Bool.{Bool, true, false, not}
 use mathlib.Core.List.{List, [], _∷_, _++_, map, flatten, append-assoc}
 use native.Mathlib.Omega.{arith}
 use lib.ListN.{length, getD, set, take, drop, length-append, length-take, length-map, length-set, drop-of-length-le, take-append-drop}
-use lib.Seq.{drop-at}
 use lib.Dec.{T, leb, ltb}
 use borrow.Author.Tests.{lt-leb, le-leb, leb-true, ltb-true, ltb-false}
 use Rattle.words.specs.Words.{isYes, put, twoBytes, every}
 use Rattle.words.proofs.WordLaws.{T-true, padded-decided}
+use Rattle.words.proofs.ByteLaws.{put-in-front}
 use Rattle.ft12.proofs.EventLaws.{put-none}
 use Rattle.walks.proofs.Branches.{no-T}
 use Rattle.baos.specs.declared.datapoint.Datapoint.{Datapoint}
@@ -258,24 +258,6 @@ module _ (ys : List Datapoint) (out : List ℕ) (at : ℕ) where
             }
 
 -- ---- a buffer
-take-short : (n k : ℕ) (l x : List ℕ) → n ≤ k → k ≤ length l → take n (take k l ++ x) ≡ take n l
-take-short zero k l x h m = refl
-take-short (suc n) zero l x h m = absurd (omega (arith, h))
-take-short (suc n) (suc k) [] x h m = absurd (omega (arith, m))
-take-short (suc n) (suc k) (y ∷ l) x h m = ap (λ (r : List ℕ). y ∷ r) (take-short n k l x (omega (arith, h)) (omega (arith, m)))
-
--- a write in front of another
-put-before : (l : List ℕ) (at k : ℕ) (hs bs : List ℕ) → k ≡ at + length hs → k + length bs ≤ length l → put (put l k bs) at hs ≡ put l at (hs ++ bs)
-unfolding put
-put-before l at k hs bs e m =
-    let r : List ℕ = drop (k + length bs) l in
-    let n : length (take k l) ≡ at + length hs = simp length-take (omega (arith, e, m)) in
-    let g : take k l ++ bs ++ r ≡ take k l ++ (bs ++ r) = append-assoc (take k l) bs r in
-    let t : take at (take k l ++ (bs ++ r)) ≡ take at l = take-short at k l (bs ++ r) (omega (arith, e)) (omega (arith, m)) in
-    let d : drop (at + length hs) (take k l ++ (bs ++ r)) ≡ bs ++ r = drop-at (take k l) (bs ++ r) (at + length hs) n in
-    let i : r ≡ drop (at + length (hs ++ bs)) l = ap (λ (j : ℕ). drop j l) {x = k + length bs} {y = at + length (hs ++ bs)} (omega (arith, e, length-append hs bs)) in
-    rw (g, t, d) (ap (λ (x : List ℕ). take at l ++ hs ++ (bs ++ x)) i ∙ simp append-assoc)
-
 read-behind : (p x : List ℕ) (i : ℕ) → getD (p ++ x) (length p + i) 0 ≡ getD x i 0
 read-behind [] x i = ap (λ (j : ℕ). getD x j 0) {x = 0 + i} {y = i} (omega arith)
 read-behind (y ∷ p) x i = ap (λ (j : ℕ). getD (y ∷ (p ++ x)) j 0) {x = suc (length p) + i} {y = suc (length p + i)} (omega arith) ∙ read-behind p x i
@@ -295,7 +277,7 @@ headed l (b ∷ []) at n h m = absurd (omega (arith, h))
 headed l (b ∷ c ∷ r) at n h m =
     let x : getD (put l (at + 6) (b ∷ c ∷ r)) (at + 6) 0 ≡ b = put-get l (at + 6) (at + 6) 0 (b ∷ c ∷ r) (omega arith) (omega (arith, m)) in
     let y : getD (put l (at + 6) (b ∷ c ∷ r)) (at + 7) 0 ≡ c = put-get l (at + 6) (at + 7) 1 (b ∷ c ∷ r) (omega arith) (omega (arith, m)) in
-    rw (x, y) (put-before l at (at + 6) (0xF0 ∷ 0xC1 ∷ b ∷ c ∷ twoBytes n) (b ∷ c ∷ r) (omega arith) m)
+    rw (x, y) (put-in-front l at (at + 6) (0xF0 ∷ 0xC1 ∷ b ∷ c ∷ twoBytes n) (b ∷ c ∷ r) (omega arith) m)
 
 headed-long : (bs : List ℕ) (n : ℕ) → 2 ≤ length bs → length (0xF0 ∷ 0xC1 ∷ take 2 bs ++ twoBytes n ++ bs) ≡ 6 + length bs
 headed-long [] n h = absurd (omega (arith, h))

@@ -1,6 +1,6 @@
 -- One datapoint record: its value's size by type code, its state byte, when it is well formed, and how it changes.
 use Prim.Native.Nat.{ℕ, _+_, _-_, _*_, _/_, _%_, _^_}
-use mathlib.Core.Bool.{Bool, true, false, _&&_}
+use mathlib.Core.Bool.{Bool, _&&_}
 use mathlib.Core.List.{List}
 use lib.ListN.{length, getD, take, replicate}
 use lib.Dec.{leb, ltb, eqb}

@@ -41,8 +41,8 @@ fn most_bytes(typecode: u8, more: usize) -> usize
     0
 }
 
-// How many bytes a value of this type code has. In steps of their own, so that each is a conditional move: the codes of
-// a table are mixed, and no jump would be foretold.
+// How many bytes a value of this type code has. In small steps, which compile to conditional moves: the type codes of a
+// table are mixed, and jumps on them would often be guessed wrong.
 pub fn size_of(typecode: u8) -> usize
     ensures { λ r. ⌜ r ≡ sizeOf typecode ⌝ }
 {
