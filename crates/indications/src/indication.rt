@@ -22,7 +22,12 @@ fn waits(d: Datapoint, end: usize, most: usize) -> bool
     requires { ⌜ (d .typecode ≤ 14) × (end ≤ most) ⌝ }
     ensures { λ r. ⌜ r ≡ not (leb (needs d) (most - end)) ⌝ }
 {
-    most - end < 4 + size_of(d.typecode)
+    let room = most - end;
+    // One byte, as most values have. put_value makes the same test: it costs no jump more.
+    if d.typecode < 8 {
+        return room < 5;
+    }
+    room < 4 + size_of(d.typecode)
 }
 
 // The entries of the marked datapoints, into the buffer at `at`, until the next one does not fit; each record that is

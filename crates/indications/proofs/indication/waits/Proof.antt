@@ -1,28 +1,35 @@
-use mathlib.Core.Path.{_≡_}
+use mathlib.Core.Path.{_≡_, sym}
 use Prim.Native.Nat.{_-_}
 use native.Mathlib.Omega.{arith}
 use lib.ListN.{length}
 use borrow.Author.Needs.{needs}
+use Rattle.baos.proofs.ValueLaws.{size-of-bits}
 use Rattle.baos.proofs.DatapointLaws.{size-fits}
 use Rattle.baos.proofs.IndicationLaws.{waits-is}
 use Rattle.values.proofs.value.size_of.Reads as size-of-reads
 use Rattle.indications.proofs.indication.waits.Statement.{statement}
 use Rattle.indications.proofs.indication.waits.Tie as tie
 
-sub-result : tie.Need-sub-result
-sub-result c = search needs
+sub-room : tie.Need-sub-room
+sub-room c = search needs
+
+returns : tie.Need-returns
+returns c =
+    let a = c .before .before .args in
+    let h : length (a .d .value) ≡ 14 = search needs in
+    waits-is (a .d) 1 (a .most - a .end) h (sym (size-of-bits (a .d .typecode) (omega arith)))
 
 size-of-requires : tie.Need-size-of-requires
 size-of-requires c κs = search needs
 
 add-result : tie.Need-add-result
-add-result c = omega (arith, c .size-of .ensures, size-fits (c .before .args .d .typecode))
+add-result c = omega (arith, c .size-of .ensures, size-fits (c .before .before .before .args .d .typecode))
 
-returns : tie.Need-returns
-returns c =
-    let a = c .before .args in
+returns-2 : tie.Need-returns-2
+returns-2 c =
+    let a = c .before .before .before .args in
     let h : length (a .d .value) ≡ 14 = search needs in
     waits-is (a .d) (c .size-of .result) (a .most - a .end) h (c .size-of .ensures)
 
 pub waits-spec : {M : Type 1} → statement M
-waits-spec = tie.close (tie.spec sub-result size-of-requires add-result returns)
+waits-spec = tie.close (tie.spec sub-room returns size-of-requires add-result returns-2)
