@@ -7,14 +7,13 @@ use native.Mathlib.Omega.{arith}
 use lib.ListN.{length, replicate}
 use lib.Seq.{take-at}
 use lib.Dec.{T, leb, ltb, eqb, leb→le, ltb→lt, lt→ltb, eqb→eq}
-use borrow.Author.Tests.{ltb-true, ltb-false}
 use Rattle.words.specs.Words.{isYesOrNo, pad, isPadded}
 use Rattle.words.proofs.WordLaws.{left, right, both, parts3, parts4, join3, join4, pad-padded, padded-decided}
 use Rattle.baos.specs.declared.datapoint.Datapoint.{Datapoint}
 use Rattle.baos.specs.declared.item.Item.{Item}
 use Rattle.baos.specs.Datapoint.{sizeOf, unusedBitsOk, isValue, valueOf, datapointOk, withValid, withoutUpdated, withRequest, withStatus, fromBus, withState, withValue, withMark, handedOut, busValue, outcome, commanded}
 use Rattle.baos.specs.Item.{itemOk, withBytes}
-use Rattle.baos.proofs.ValueLaws.{tested, size-of-none}
+use Rattle.baos.proofs.ValueLaws.{each-size}
 
 -- ---- the state byte
 -- bit b of the state byte s, by its weight
@@ -95,11 +94,7 @@ value-bits k v t = right (eqb (length v) (sizeOf k)) (unusedBitsOk k v) t
 -- no value is longer than its memory
 pub size-fits : (typecode : ℕ) → sizeOf typecode ≤ 14
 unfolding sizeOf
-size-fits typecode = by-test (ltb typecode 15) refl
-  where
-    by-test : (b : Bool) → ltb typecode 15 ≡ b → sizeOf typecode ≤ 14
-    by-test true e = leb→le (sizeOf typecode) 14 (tested (λ k. leb (sizeOf k) 14) 15 typecode tt (ltb-true typecode 15 e))
-    by-test false e = omega (arith, size-of-none typecode (ltb-false typecode 15 e))
+size-fits typecode = leb→le (sizeOf typecode) 14 (each-size (λ k n. leb n 14) tt (λ k h. tt) typecode)
 
 -- the bytes that a value takes of the record that holds it
 value-held : (v : List ℕ) (s : ℕ) (d : Datapoint) → T (isValue (d .typecode) v) → valueOf (withValue v s d) ≡ v

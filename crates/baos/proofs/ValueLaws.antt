@@ -1,6 +1,6 @@
 -- Laws of a value by its type code: its size, the limit of its first byte, its test.
 use Prim.Native.Nat.{ℕ, zero, suc, _+_, _^_, _≤_, _<_}
-use mathlib.Core.Path.{_≡_, refl, sym, _∙_, subst}
+use mathlib.Core.Path.{_≡_, refl, sym, subst}
 use mathlib.Core.Bool.{Bool, true, false, _&&_}
 use mathlib.Core.Logic.{_⊎_, inl, inr}
 use mathlib.Core.List.{List, [], _∷_}
@@ -39,7 +39,7 @@ at-or-below a b l = by-test (ltb a b) refl
     by-test true e = inl (ltb-true a b e)
     by-test false e = inr (omega (arith, ltb-false a b e))
 
-pub tested : (f : ℕ → Bool) (n k : ℕ) → T (upto f n) → k < n → T (f k)
+tested : (f : ℕ → Bool) (n k : ℕ) → T (upto f n) → k < n → T (f k)
 tested f zero k t l = absurd (not-suc-le-zero l)
 tested f (suc n) k t l = elim (at-or-below k n l) [ inl u ↦ tested f n k (right (f n) (upto f n) t) u | inr e ↦ subst (λ (x : ℕ). T (f x)) (sym e) (left (f n) (upto f n) t) ]
 
@@ -48,9 +48,17 @@ pub size-of-bits : (k : ℕ) → k < 8 → sizeOf k ≡ 1
 unfolding sizeOf
 size-of-bits k h = simp (lt-ltb k 8 h)
 
-pub size-of-none : (k : ℕ) → 15 ≤ k → sizeOf k ≡ 0
+size-of-none : (k : ℕ) → 15 ≤ k → sizeOf k ≡ 0
 unfolding sizeOf
 size-of-none k h = simp (le-ltb k 8 (omega arith), le-ltb k 11 (omega arith), le-ltb k 14 (omega arith), ne-eqb k 14 (λ e. omega (arith, e)))
+
+-- a fact of a code's size: computed for the codes that have one, and shown for the others
+pub each-size : (f : ℕ → ℕ → Bool) → T (upto (λ k. f k (sizeOf k)) 15) → ((k : ℕ) → 15 ≤ k → T (f k 0)) → (k : ℕ) → T (f k (sizeOf k))
+each-size f t none k = by-test (ltb k 15) refl
+  where
+    by-test : (b : Bool) → ltb k 15 ≡ b → T (f k (sizeOf k))
+    by-test true e = tested (λ i. f i (sizeOf i)) 15 k t (ltb-true k 15 e)
+    by-test false e = subst (λ (n : ℕ). T (f k n)) (sym (size-of-none k (ltb-false k 15 e))) (none k (ltb-false k 15 e))
 
 -- the list of sizes that document 01 gives, by type code
 abbrev pub listed : List ℕ
@@ -64,11 +72,7 @@ past-end (x ∷ xs) (suc k) h = past-end xs k (omega arith)
 -- the rule gives the list, and 0 behind it: no size moved when the rule came in its place
 pub sizes-listed : (k : ℕ) → sizeOf k ≡ getD listed k 0
 unfolding sizeOf
-sizes-listed k = by-test (ltb k 15) refl
-  where
-    by-test : (b : Bool) → ltb k 15 ≡ b → sizeOf k ≡ getD listed k 0
-    by-test true e = eqb→eq (sizeOf k) (getD listed k 0) (tested (λ i. eqb (sizeOf i) (getD listed i 0)) 15 k tt (ltb-true k 15 e))
-    by-test false e = size-of-none k (ltb-false k 15 e) ∙ sym (past-end listed k (ltb-false k 15 e))
+sizes-listed k = eqb→eq (sizeOf k) (getD listed k 0) (each-size (λ k n. eqb n (getD listed k 0)) tt (λ k h. subst (λ (n : ℕ). T (eqb 0 n)) (sym (past-end listed k h)) tt) k)
 
 -- ---- the limit
 pub limit-of-whole : (k : ℕ) → 7 ≤ k → limitOf k ≡ 256

@@ -11,7 +11,7 @@ sub-result : tie.Need-sub-result
 sub-result c = search needs
 
 returns-2 : tie.Need-returns-2
-returns-2 c = simp (le-ltb (c .before .args .typecode) 8 (omega arith))
+returns-2 c = simp (le-ltb (c .before .args .typecode) 8 (omega arith)) (omega arith)
 
 pub few-bytes-spec : {M : Type 1} → statement M
 few-bytes-spec = tie.close (tie.spec returns sub-result returns-2)

@@ -14,7 +14,7 @@ sub-result : tie.Need-sub-result
 sub-result c = search needs
 
 returns-2 : tie.Need-returns-2
-returns-2 c = simp (le-ltb (c .before .args .typecode) 11 (omega arith))
+returns-2 c = simp (le-ltb (c .before .args .typecode) 11 (omega arith)) (omega arith)
 
 pub more-bytes-spec : {M : Type 1} → statement M
 more-bytes-spec = tie.close (tie.spec returns mul-result sub-result returns-2)
