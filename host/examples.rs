@@ -85,6 +85,7 @@ fn step(server: &mut Server, event: &Event, value: &[u8], room: usize) -> Result
                     || *sent == [0x10, 0xC0, 0xC0, 0x16],
             );
             truth("the parts that no rule alters", unaltered_parts(&before, server));
+            truth("a status stands, or is requested, or had its outcome", status_stands(event, &before, server));
         }
     }
     result
@@ -103,6 +104,15 @@ fn unaltered_parts(before: &Server, after: &Server) -> bool {
             let (a, b) = (&before.datapoints[at], &after.datapoints[at]);
             a.id == b.id && a.typecode == b.typecode && a.flags == b.flags && a.dpt == b.dpt
         })
+}
+
+/// (02) item 9: "a failed status 01 stands until the next send command or outcome"; so does every other.
+fn status_stands(event: &Event, before: &Server, after: &Server) -> bool {
+    before.datapoints.iter().zip(&after.datapoints).all(|(was, is)| {
+        let outcome = matches!(event, Event::TransmissionOutcome(id, _) if *id == was.id);
+        let requested = matches!(event, Event::HostByte(_)) && is.state % 4 == 3;
+        is.state % 4 == was.state % 4 || requested || outcome
+    })
 }
 
 fn event(server: &mut Server, event: Event) -> Vec<u8> {
@@ -460,7 +470,7 @@ fn rows_5_10_6() {
         }
     }
     let good_items = set_items(2, &[(2, &[7]), (4, &[8; 16])]);
-    let good_values = set_values(10, &[(17, 1, &[7]), (24, 1, &[8; 14]), (17, 5, &[])]);
+    let good_values = set_values(10, &[(17, 1, &[7]), (24, 1, &[8; 14]), (17, 4, &[])]);
     for (good, entries) in [(&good_items, 2_u16), (&good_values, 3)] {
         // Every beginning of it, with every number near the right one, is 10 (or 6 for an empty one with number 0).
         for end in 6..=good.len() {
@@ -532,7 +542,7 @@ fn rows_7_to_8() {
     is_error("7, datapoint", &mut server, &set_values(9, &[(9, 1, &[1])]), 9, 7);
     is_error("7, datapoint 0", &mut server, &set_values(9, &[(0, 1, &[1])]), 0, 7);
     is_error("7 before 8 and 9", &mut server, &set_values(9, &[(25, 0xFF, &[1; 9])]), 25, 7);
-    for command in 6..=0xFF_u8 {
+    for command in 5..=0xFF_u8 {
         is_error("8, command", &mut server, &set_values(9, &[(17, command, &[1])]), 17, 8);
         is_error("8, command, no value", &mut server, &set_values(9, &[(17, command, &[])]), 17, 8);
         is_error("8, command, before 9", &mut server, &set_values(9, &[(17, command, &[1, 1])]), 17, 8);
@@ -540,7 +550,7 @@ fn rows_7_to_8() {
     for typecode in 0..=14_u16 {
         let id = 10 + typecode;
         let size = SIZES[usize::from(typecode)];
-        for command in 0..=5_u8 {
+        for command in 0..=4_u8 {
             for length in 0..=20_usize {
                 // 9 before 8 (value): all bits are set in a value of a wrong length.
                 if length != 0 && length != size {
@@ -574,9 +584,9 @@ fn rows_7_to_8() {
 }
 
 fn commands() {
-    // "Commands: 0 nothing; 1 value, bit 4 set; 2 status 11; 3 both; 4 bit 2 set; 5 status 00.", from every state.
+    // "Commands: 0 nothing; 1 value, bit 4 set; 2 status 11; 3 both; 4 bit 2 set; [...].", from every state.
     for state in 0..32_u8 {
-        for command in 0..=5_u8 {
+        for command in 0..=4_u8 {
             for with_value in [false, true] {
                 if !with_value && (command == 1 || command == 3) {
                     continue;
@@ -596,7 +606,6 @@ fn commands() {
                         2 => state - state % 4 + 3,
                         3 => (state | 16) - state % 4 + 3,
                         4 => state | 4,
-                        5 => state - state % 4,
                         _ => state,
                     };
                     if command == 1 || command == 3 {
@@ -610,11 +619,11 @@ fn commands() {
     }
     // "Otherwise entries apply in order; an ID given twice takes both in turn."
     let order: [(&[(u16, u8, &[u8])], u8, u8); 5] = [
-        (&[(1, 2, &[]), (1, 5, &[])], 0x08, 7),
-        (&[(1, 5, &[]), (1, 2, &[])], 0x0B, 7),
+        (&[(1, 2, &[]), (1, 4, &[])], 0x0F, 7),
+        (&[(1, 4, &[]), (1, 2, &[])], 0x0F, 7),
         (&[(1, 1, &[1]), (1, 1, &[2])], 0x18, 2),
         (&[(1, 3, &[2]), (1, 0, &[3]), (1, 1, &[1]), (1, 4, &[9])], 0x1F, 1),
-        (&[(1, 4, &[]), (1, 3, &[5]), (1, 5, &[6])], 0x1C, 5),
+        (&[(1, 4, &[]), (1, 3, &[5]), (1, 0, &[6])], 0x1F, 5),
     ];
     for (entries, state, value) in order {
         let mut server = empty_server();
@@ -622,6 +631,68 @@ fn commands() {
         same("set", ask(&mut server, &set_values(1, entries)), Some(hex("F0 86 00 01 00 00 00")));
         same("an ID given twice", server.datapoints, vec![datapoint(1, 7, state, &[value])]);
     }
+}
+
+/// (02) item 9. "command 5 gives code 8, at the command check"; "A stored request that still holds command 5 is refused
+/// whole": `is_error` sees that nothing is set.
+fn retired_command() {
+    for state in 0..32_u8 {
+        let mut server = empty_server();
+        server.datapoints = vec![datapoint(1, 7, state, &[7]), datapoint(2, 8, state, &[1, 2]), datapoint(3, 0, state, &[1])];
+        is_error("5, no value", &mut server, &set_values(1, &[(2, 5, &[])]), 2, 8);
+        is_error("5, a value", &mut server, &set_values(1, &[(2, 5, &[1, 2])]), 2, 8);
+        for length in [1, 3, 14, 200] {
+            is_error("5 before 9", &mut server, &set_values(1, &[(2, 5, &vec![0; length])]), 2, 8);
+        }
+        is_error("5, unused bits", &mut server, &set_values(1, &[(3, 5, &[0xFF])]), 3, 8);
+        is_error("7 before 5", &mut server, &set_values(1, &[(4, 5, &[])]), 4, 7);
+        is_error("5 first", &mut server, &set_values(1, &[(1, 5, &[]), (2, 3, &[8, 9]), (3, 2, &[])]), 1, 8);
+        is_error("5 last", &mut server, &set_values(1, &[(2, 3, &[8, 9]), (3, 2, &[]), (1, 5, &[])]), 1, 8);
+        is_error("5 behind an absent ID", &mut server, &set_values(1, &[(2, 1, &[8, 9]), (4, 1, &[1]), (1, 5, &[])]), 4, 7);
+        is_error("5 behind a bad length", &mut server, &set_values(1, &[(2, 1, &[8]), (1, 5, &[])]), 2, 9);
+        is_error("5 before an absent ID", &mut server, &set_values(1, &[(1, 5, &[]), (4, 1, &[1])]), 1, 8);
+        is_error("10 before 5", &mut server, &join(&[&set_values(1, &[(1, 5, &[])]), &[0]]), 1, 10);
+    }
+}
+
+/// (02) item 9. "From now on a failed status 01 stands until the next send command or outcome."
+fn failed_status() {
+    let mut server = empty_server();
+    server.datapoints = vec![datapoint(1, 7, 0x10, &[7]), datapoint(2, 7, 0x10, &[7])];
+    let status = |server: &Server| server.datapoints[0].state % 4;
+    same("sent", ask(&mut server, &set_values(1, &[(1, 3, &[8])])), Some(hex("F0 86 00 01 00 00 00")));
+    same("requested", status(&server), 3);
+    event(&mut server, Event::TransmissionOutcome(1, Outcome::Failed));
+    let stands = |what: &str, server: &Server| same(what, status(server), 1);
+    stands("failed", &server);
+    for filter in 0..=2 {
+        ask(&mut server, &get_values(1, 2, filter));
+        stands("a get", &server);
+    }
+    bus(&mut server, 1, &[9]);
+    stands("a bus value", &server);
+    truth("the poll tells", !event(&mut server, Event::Poll).is_empty());
+    stands("a poll", &server);
+    event(&mut server, Event::AckWaitOver);
+    stands("an ack wait", &server);
+    same("a reset is acknowledged", feed(&mut server, &hex("10 40 40 16")), vec![0xE5]);
+    stands("a reset", &server);
+    event(&mut server, Event::IdleMark);
+    for (command, value) in [(0, &[][..]), (0, &[3]), (1, &[4]), (4, &[]), (4, &[5])] {
+        same("taken", ask(&mut server, &set_values(1, &[(1, command, value)])), Some(hex("F0 86 00 01 00 00 00")));
+        stands("commands 0, 1 and 4", &server);
+    }
+    is_error("command 5", &mut server, &set_values(1, &[(1, 5, &[])]), 1, 8);
+    is_error("a send command that is refused", &mut server, &set_values(1, &[(1, 2, &[]), (1, 5, &[])]), 1, 8);
+    stands("what is refused", &server);
+    ask(&mut server, &set_values(1, &[(2, 2, &[])]));
+    event(&mut server, Event::TransmissionOutcome(2, Outcome::Sent));
+    stands("another datapoint's send command and outcome", &server);
+    let mut sent = server.clone();
+    event(&mut sent, Event::TransmissionOutcome(1, Outcome::Sent));
+    same("an outcome", status(&sent), 0);
+    ask(&mut server, &set_values(1, &[(1, 2, &[])]));
+    same("a send command", status(&server), 3);
 }
 
 fn gets() {
@@ -1639,7 +1710,8 @@ fn random_message(numbers: &mut Numbers, server: &Server) -> Vec<u8> {
                 if numbers.below(4) == 0 && message.len() < 200 {
                     let size = SIZES[usize::from(record.typecode)] as u64;
                     let length = [size, size, size, size, 0, numbers.below(15)][numbers.below(6) as usize];
-                    message.extend_from_slice(&[0, record.id as u8, numbers.below(6) as u8, length as u8]);
+                    let command = if numbers.below(30) == 0 { 5 } else { numbers.below(5) as u8 };
+                    message.extend_from_slice(&[0, record.id as u8, command, length as u8]);
                     message.extend((0..length).map(|_| numbers.byte() % 4));
                     count += 1;
                 }
@@ -1776,13 +1848,15 @@ fn any_fields_at_random() {
 }
 
 fn main() {
-    let parts: [(&str, fn()); 20] = [
+    let parts: [(&str, fn()); 22] = [
         ("examples of 01", examples_of_01),
         ("exchange of 000", exchange_of_000),
         ("messages without answer", messages_without_answer),
         ("rows 5, 10, 6", rows_5_10_6),
         ("rows 7 to 8", rows_7_to_8),
         ("commands", commands),
+        ("the retired command", retired_command),
+        ("a failed status", failed_status),
         ("gets", gets),
         ("limits 254 and 255", limits_254_and_255),
         ("acknowledgements", acknowledgements),

@@ -2,6 +2,7 @@
 //!
 //! Where the comments quote:
 //!   (01)   01-scope.md, which decides;
+//!   (02)   02-change-requests.md, the requests that have landed;
 //!   (000)  000_feb9994ac7e2d72b.txt, the protocol paper;
 //!   (R)    docs/DECISIONS.md, how open points are read.
 //!
@@ -816,7 +817,8 @@ fn check_datapoint_entry(datapoints: &[Datapoint], entry: &DatapointEntry) -> Re
     };
     let typecode = datapoints[at].typecode;
     // "8 | datapoint entry: command above 5, reserved bits included | that entry's"
-    if entry.command > 5 {
+    // (02) item 9: "command 5 gives code 8, at the command check."
+    if entry.command >= 5 {
         return Err((entry.id, 8));
     }
     // "9 | [...] datapoint length neither 0 nor the type's; or 0 with command 1 or 3 | that entry's"
@@ -828,15 +830,15 @@ fn check_datapoint_entry(datapoints: &[Datapoint], entry: &DatapointEntry) -> Re
         return Err((entry.id, 9));
     }
     // "8 | a value whose unused bits are set | that entry's"
-    // (01) "A value sent with 0, 2, 4 or 5 is checked and unused."
+    // (01) "A value sent with 0, 2, 4 [...] is checked and unused."
     if has_unused_bits_set(typecode, &entry.value) {
         return Err((entry.id, 8));
     }
     Ok(())
 }
 
-/// (01) "Commands: 0 nothing; 1 value, bit 4 set; 2 status 11; 3 both; 4 bit 2 set; 5 status 00. [...] The commands do not
-/// look at config flags."
+/// (01) "Commands: 0 nothing; 1 value, bit 4 set; 2 status 11; 3 both; 4 bit 2 set; [...]. The commands do not look at
+/// config flags."
 /// (R) "Command 4 sets bit 2 and leaves the status; commands 2 and 3 set the status and leave bit 2"; "Commands 1 and 3 leave
 /// bits 3 and 2 and the mark."
 fn apply_datapoint_entry(datapoint: &mut Datapoint, entry: &DatapointEntry) {
@@ -849,9 +851,6 @@ fn apply_datapoint_entry(datapoint: &mut Datapoint, entry: &DatapointEntry) {
     }
     if entry.command == 4 {
         datapoint.state |= 0b0000_0100;
-    }
-    if entry.command == 5 {
-        datapoint.state &= 0b1111_1100;
     }
 }
 

@@ -426,8 +426,8 @@ static size_t get_parameters(const uint8_t *parameters, size_t n, const uint8_t 
     return ENTRIES + count;
 }
 
-/* by command: what is kept of the state and what is set in it */
-static const uint8_t state_kept[6] = {0xff, 0xff, 0xff, 0xff, 0xff, 0xfc}, state_set[6] = {0, 0x10, 0x03, 0x13, 0x04, 0};
+/* by command: what is set in the state */
+static const uint8_t state_set[5] = {0, 0x10, 0x03, 0x13, 0x04};
 
 static size_t set_datapoints(datapoint *table, size_t n, const uint8_t *m, size_t m_size, uint8_t *f)
 {
@@ -450,7 +450,7 @@ static size_t set_datapoints(datapoint *table, size_t n, const uint8_t *m, size_
         size_t place = datapoint_place(table, n, id);
         if (RARELY(place == n) || RARELY(table[place].id != id))
             code = 7;
-        else if (RARELY(command > 5))
+        else if (RARELY(command > 4))
             code = 8;
         else if (size == 0)
             code = command == 1 || command == 3 ? 9 : 0;
@@ -472,7 +472,7 @@ static size_t set_datapoints(datapoint *table, size_t n, const uint8_t *m, size_
         datapoint *d = found[i].d;
         const uint8_t *entry = found[i].entry;
         uint32_t command = entry[2];
-        d->state = (d->state & state_kept[command]) | state_set[command];
+        d->state |= state_set[command];
         /* the bytes behind the entry are those of the link record: read, and masked away */
         if (command == 1 || command == 3) {
             put_word(d->value, word(entry + 4) & ~item_low[entry[3]]);

@@ -168,7 +168,7 @@ static size_t random_message(uint8_t *m)
             } else {
                 uint32_t i = datapoint_count ? random_below((uint32_t)datapoint_count) : 0;
                 id = one_in(60) ? some_id() : ours.datapoints[i].id;
-                entry[2] = (uint8_t)(one_in(80) ? random_below(256) : random_below(6));
+                entry[2] = (uint8_t)(one_in(80) ? random_below(256) : one_in(60) ? 5 : random_below(5));
                 typecode = ours.datapoints[i].typecode;
                 count = one_in(60) ? random_below(18) : size_of[typecode];
                 if (one_in(8) && entry[2] != 1 && entry[2] != 3)

@@ -1,6 +1,6 @@
 //! Request messages. Most are made for one row of the error table, or for one edge, and say which answer they aim at.
 
-use crate::plain::Server;
+use crate::plain::{Datapoint, Server};
 use crate::random::Random;
 use crate::tables::{absent_datapoint, absent_item, used_bits, value, SIZES};
 
@@ -71,6 +71,10 @@ pub const AIMS: &[&str] = &[
     "set item: 9, length below",
     "set item: 9, length above",
     "set item: 9, length 0",
+    "set value: 8, command 5 first",
+    "set value: 8, command 5 last",
+    "set value: 7, command 5 behind an absent ID",
+    "set value: 8, command 5 with a bad length",
     "set value: 8, command 6 to 15",
     "set value: 8, reserved bits",
     "set value: 8 (command) before 9",
@@ -638,7 +642,7 @@ fn set_values(random: &mut Random, server: &Server) -> Option<Request> {
     }
     let good = |random: &mut Random| {
         let datapoint = &datapoints[random.below(datapoints.len())];
-        let command = random.below(6) as u8;
+        let command = random.below(5) as u8;
         let empty = command != 1 && command != 3 && random.coin();
         let value = if empty { Vec::new() } else { value(random, datapoint.typecode) };
         Some(Entry { id: datapoint.id, command, value })
@@ -648,14 +652,14 @@ fn set_values(random: &mut Random, server: &Server) -> Option<Request> {
     let datapoint = &datapoints[random.below(datapoints.len())];
     let size = SIZES[usize::from(datapoint.typecode)];
     let unused = !used_bits(datapoint.typecode);
-    let mut bad = Entry { id: datapoint.id, command: random.below(6) as u8, value: value(random, datapoint.typecode) };
-    match random.below(24) {
+    let mut bad = Entry { id: datapoint.id, command: random.below(5) as u8, value: value(random, datapoint.typecode) };
+    match random.below(28) {
         0..=3 => return set.sized_wrong(random),
         4 => return Set { sub: 6, start, entries: Vec::new() }.filled(random, good),
         5 | 6 => {
             let typecode = datapoints.iter().find(|datapoint| datapoint.id == set.entries[0].id)?.typecode;
             let again =
-                Entry { id: set.entries[0].id, command: random.pick(&[1, 3, 2, 4, 5]), value: value(random, typecode) };
+                Entry { id: set.entries[0].id, command: random.pick(&[1, 3, 2, 4, 0]), value: value(random, typecode) };
             set.entries.push(again);
             return set.made("set: answered, an ID twice", 0, start);
         }
@@ -733,8 +737,41 @@ fn set_values(random: &mut Random, server: &Server) -> Option<Request> {
             set.entries.push(Entry { id: 0, command: 1, value: Vec::new() });
             return set.made("set: two bad entries, the first decides", 8, id);
         }
+        22..=25 => return retired(random, datapoints, set, bad),
         _ => {}
     }
     let aim = if set.entries.len() == 1 { "set: answered, one entry" } else { "set: answered, several entries" };
     set.made(aim, 0, start)
+}
+
+/// Command 5 among good entries, with a value or without.
+fn retired(random: &mut Random, datapoints: &[Datapoint], mut set: Set, mut bad: Entry) -> Option<Request> {
+    let (id, size) = (bad.id, bad.value.len());
+    bad.command = 5;
+    if random.coin() {
+        bad.value.clear();
+    }
+    match random.below(4) {
+        0 => {
+            set.entries.insert(0, bad);
+            set.made("set value: 8, command 5 first", 8, id)
+        }
+        1 => {
+            set.entries.push(bad);
+            set.made("set value: 8, command 5 last", 8, id)
+        }
+        2 => {
+            let absent = absent_datapoint(random, datapoints)?;
+            let command = random.below(6) as u8;
+            set.entries.push(Entry { id: absent, command, value: Vec::new() });
+            set.entries.push(bad);
+            set.made("set value: 7, command 5 behind an absent ID", 7, absent)
+        }
+        _ => {
+            let length = random.between(1, 16);
+            bad.value = random.bytes(if length == size { 17 } else { length });
+            let aim = "set value: 8, command 5 with a bad length";
+            set.spoiled(random, (aim, aim), 8, bad)
+        }
+    }
 }

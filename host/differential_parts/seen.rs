@@ -71,13 +71,13 @@ pub fn matrices() -> Vec<Matrix> {
         ),
         Matrix::new(
             "Entries of a datapoint set, by command",
-            &["0", "1", "2", "3", "4", "5"],
+            &["0", "1", "2", "3", "4"],
             &[
-                ("carried out, with a value", &[0, 1, 2, 3, 4, 5]),
-                ("carried out, without", &[0, 2, 4, 5]),
-                ("other length: 9", &[0, 1, 2, 3, 4, 5]),
+                ("carried out, with a value", &[0, 1, 2, 3, 4]),
+                ("carried out, without", &[0, 2, 4]),
+                ("other length: 9", &[0, 1, 2, 3, 4]),
                 ("no value: 9", &[1, 3]),
-                ("unused bits: 8", &[0, 1, 2, 3, 4, 5]),
+                ("unused bits: 8", &[0, 1, 2, 3, 4]),
             ],
         ),
     ]
@@ -507,16 +507,16 @@ fn entries(message: &[u8]) -> Vec<(u16, u8, &[u8])> {
 }
 
 /// Which of the two rows 8 it was: those before the first bad entry are good, so the first of this ID with a command
-/// above 5, or with unused bits set, is the bad one.
+/// above 4, or with unused bits set, is the bad one.
 fn bad_command(message: &[u8], id: u16, after: &Server) -> bool {
     let bad = first_bad_value(message, id, after);
-    bad.is_none_or(|(command, _)| command > 5)
+    bad.is_none_or(|(command, _)| command > 4)
 }
 
 fn first_bad_value<'a>(message: &'a [u8], id: u16, after: &Server) -> Option<(u8, &'a [u8])> {
     let typecode = type_of(&after.datapoints, id)?;
     let unused = |value: &[u8]| value.first().is_some_and(|byte| byte & !crate::tables::used_bits(typecode) != 0);
-    let bad = |(at, command, value): &(u16, u8, &[u8])| *at == id && (*command > 5 || unused(value));
+    let bad = |(at, command, value): &(u16, u8, &[u8])| *at == id && (*command > 4 || unused(value));
     entries(message).into_iter().find(bad).map(|(_, command, value)| (command, value))
 }
 

@@ -25,13 +25,9 @@ module _ (c : ℕ) (v : List ℕ) (d : Datapoint) (e1 : eqb c 1 ≡ false) (e3 :
   unfolding commanded
   command-4 e2 e4 = simp (e1, e2, e3, e4)
 
-  command-5 : eqb c 2 ≡ false → eqb c 4 ≡ false → eqb c 5 ≡ true → commanded c v d ≡ withState (withStatus 0 (d .state)) d
+  no-command : eqb c 2 ≡ false → eqb c 4 ≡ false → commanded c v d ≡ d
   unfolding commanded
-  command-5 e2 e4 e5 = simp (e1, e2, e3, e4, e5)
-
-  no-command : eqb c 2 ≡ false → eqb c 4 ≡ false → eqb c 5 ≡ false → commanded c v d ≡ d
-  unfolding commanded
-  no-command e2 e4 e5 = simp (e1, e2, e3, e4, e5)
+  no-command e2 e4 = simp (e1, e2, e3, e4)
 
 -- ---- the state that a command leaves of a record that had the state s
 abbrev pub stateAfter : ℕ → ℕ → ℕ
@@ -54,13 +50,9 @@ module _ (c s : ℕ) where
   unfolding commanded withState
   state-4 e = rw e
 
-  pub state-5 : c ≡ 5 → stateAfter c s ≡ withStatus 0 s
-  unfolding commanded withState
-  state-5 e = rw e
-
-  pub state-stays : (c ≡ 1 → ⊥) → (c ≡ 2 → ⊥) → (c ≡ 3 → ⊥) → (c ≡ 4 → ⊥) → (c ≡ 5 → ⊥) → stateAfter c s ≡ s
+  pub state-stays : (c ≡ 1 → ⊥) → (c ≡ 2 → ⊥) → (c ≡ 3 → ⊥) → (c ≡ 4 → ⊥) → stateAfter c s ≡ s
   unfolding withState
-  state-stays n1 n2 n3 n4 n5 = ap (λ (x : Datapoint). x .state) (no-command c [] (withState s zeroDatapoint) (ne-eqb c 1 n1) (ne-eqb c 3 n3) (ne-eqb c 2 n2) (ne-eqb c 4 n4) (ne-eqb c 5 n5))
+  state-stays n1 n2 n3 n4 = ap (λ (x : Datapoint). x .state) (no-command c [] (withState s zeroDatapoint) (ne-eqb c 1 n1) (ne-eqb c 3 n3) (ne-eqb c 2 n2) (ne-eqb c 4 n4))
 
 -- ---- a command that replaces the value, and one that leaves it as it is
 module _ (c : ℕ) (v : List ℕ) (d : Datapoint) where
@@ -74,7 +66,7 @@ module _ (c : ℕ) (v : List ℕ) (d : Datapoint) where
 
   pub value-stays : (c ≡ 1 → ⊥) → (c ≡ 3 → ⊥) → commanded c v d ≡ withState (stateAfter c (d .state)) d
   unfolding withState
-  value-stays n1 n3 = go (eqb c 2) (eqb c 4) (eqb c 5) refl refl refl
+  value-stays n1 n3 = go (eqb c 2) (eqb c 4) refl refl
     where
       e1 : eqb c 1 ≡ false
       e1 = ne-eqb c 1 n1
@@ -89,11 +81,10 @@ module _ (c : ℕ) (v : List ℕ) (d : Datapoint) where
       alike : (y : ℕ) → commanded c v d ≡ withState y d → commanded c [] blank .state ≡ y → commanded c v d ≡ withState (stateAfter c (d .state)) d
       alike y p q = p ∙ ap (λ (t : ℕ). withState t d) (sym q)
 
-      go : (x y z : Bool) → eqb c 2 ≡ x → eqb c 4 ≡ y → eqb c 5 ≡ z → commanded c v d ≡ withState (stateAfter c (d .state)) d
-      go true y z e f g = alike (withStatus 3 (d .state)) (command-2 c v d e1 e3 e) (ap (λ (t : Datapoint). t .state) (command-2 c [] blank e1 e3 e))
-      go false true z e f g = alike (withRequest (d .state)) (command-4 c v d e1 e3 e f) (ap (λ (t : Datapoint). t .state) (command-4 c [] blank e1 e3 e f))
-      go false false true e f g = alike (withStatus 0 (d .state)) (command-5 c v d e1 e3 e f g) (ap (λ (t : Datapoint). t .state) (command-5 c [] blank e1 e3 e f g))
-      go false false false e f g = alike (d .state) (no-command c v d e1 e3 e f g) (ap (λ (t : Datapoint). t .state) (no-command c [] blank e1 e3 e f g))
+      go : (x y : Bool) → eqb c 2 ≡ x → eqb c 4 ≡ y → commanded c v d ≡ withState (stateAfter c (d .state)) d
+      go true y e f = alike (withStatus 3 (d .state)) (command-2 c v d e1 e3 e) (ap (λ (t : Datapoint). t .state) (command-2 c [] blank e1 e3 e))
+      go false true e f = alike (withRequest (d .state)) (command-4 c v d e1 e3 e f) (ap (λ (t : Datapoint). t .state) (command-4 c [] blank e1 e3 e f))
+      go false false e f = alike (d .state) (no-command c v d e1 e3 e f) (ap (λ (t : Datapoint). t .state) (no-command c [] blank e1 e3 e f))
 
 -- ---- an entry with one byte of value, read from byte `at` on
 module _ (at : ℕ) (s : List ℕ) (one : getD (drop at s) 3 0 ≡ 1) where

@@ -7,7 +7,8 @@ use native.Mathlib.Omega.{arith}
 use lib.ListN.{length, replicate}
 use lib.Seq.{take-at}
 use lib.Dec.{T, leb, ltb, eqb, leb→le, ltb→lt, lt→ltb, eqb→eq}
-use Rattle.words.specs.Words.{isYesOrNo, pad, isPadded}
+use borrow.Author.Tests.{eqb-true}
+use Rattle.words.specs.Words.{if_then_else_, isYesOrNo, pad, isPadded}
 use Rattle.words.proofs.WordLaws.{left, right, both, parts3, parts4, join3, join4, pad-padded, padded-decided}
 use Rattle.baos.specs.declared.datapoint.Datapoint.{Datapoint}
 use Rattle.baos.specs.declared.item.Item.{Item}
@@ -133,19 +134,18 @@ takesValue c = eqb c 1 || eqb c 3
 
 pub command-ok : (c : ℕ) (v : List ℕ) (d : Datapoint) → (T (takesValue c) → T (isValue (d .typecode) v)) → T (datapointOk d) → T (datapointOk (commanded c v d))
 unfolding commanded takesValue
-command-ok c v d i t = go (eqb c 1) (eqb c 2) (eqb c 3) (eqb c 4) (eqb c 5) refl refl refl refl refl
+command-ok c v d i t = go (eqb c 1) (eqb c 2) (eqb c 3) (eqb c 4) refl refl refl refl
   where
     small : d .state < 32
     small = parts d t .state
 
-    go : (p q r s u : Bool) → eqb c 1 ≡ p → eqb c 2 ≡ q → eqb c 3 ≡ r → eqb c 4 ≡ s → eqb c 5 ≡ u → T (datapointOk (commanded c v d))
-    go true q r s u e1 e2 e3 e4 e5 = simp (e1, commanded) (value-ok v (withValid (d .state)) d (omega (arith, small)) (simp e1 at i tt) t)
-    go false true r s u e1 e2 e3 e4 e5 = simp (e1, e2, commanded) (state-ok (withStatus 3 (d .state)) d (omega (arith, small)) t)
-    go false false true s u e1 e2 e3 e4 e5 =
+    go : (p q r s : Bool) → eqb c 1 ≡ p → eqb c 2 ≡ q → eqb c 3 ≡ r → eqb c 4 ≡ s → T (datapointOk (commanded c v d))
+    go true q r s e1 e2 e3 e4 = simp (e1, commanded) (value-ok v (withValid (d .state)) d (omega (arith, small)) (simp e1 at i tt) t)
+    go false true r s e1 e2 e3 e4 = simp (e1, e2, commanded) (state-ok (withStatus 3 (d .state)) d (omega (arith, small)) t)
+    go false false true s e1 e2 e3 e4 =
         simp (e1, e2, e3, commanded) (value-ok v (withStatus 3 (withValid (d .state))) d (omega (arith, small)) (simp (e1, e3) at i tt) t)
-    go false false false true u e1 e2 e3 e4 e5 = simp (e1, e2, e3, e4, commanded) (state-ok (withRequest (d .state)) d (omega (arith, small)) t)
-    go false false false false true e1 e2 e3 e4 e5 = simp (e1, e2, e3, e4, e5, commanded) (state-ok (withStatus 0 (d .state)) d (omega (arith, small)) t)
-    go false false false false false e1 e2 e3 e4 e5 = simp (e1, e2, e3, e4, e5, commanded) t
+    go false false false true e1 e2 e3 e4 = simp (e1, e2, e3, e4, commanded) (state-ok (withRequest (d .state)) d (omega (arith, small)) t)
+    go false false false false e1 e2 e3 e4 = simp (e1, e2, e3, e4, commanded) t
 
 -- no change touches the ID or the type code
 pub record Same (d d′ : Datapoint) : Type 0 where
@@ -154,15 +154,28 @@ pub record Same (d d′ : Datapoint) : Type 0 where
 
 pub command-same : (c : ℕ) (v : List ℕ) (d : Datapoint) → Same d (commanded c v d)
 unfolding commanded withValue withState
-command-same c v d = go (eqb c 1) (eqb c 2) (eqb c 3) (eqb c 4) (eqb c 5) refl refl refl refl refl
+command-same c v d = go (eqb c 1) (eqb c 2) (eqb c 3) (eqb c 4) refl refl refl refl
   where
-    go : (p q r s u : Bool) → eqb c 1 ≡ p → eqb c 2 ≡ q → eqb c 3 ≡ r → eqb c 4 ≡ s → eqb c 5 ≡ u → Same d (commanded c v d)
-    go true q r s u e1 e2 e3 e4 e5 = simp (e1, commanded) (record { id = refl; typecode = refl })
-    go false true r s u e1 e2 e3 e4 e5 = simp (e1, e2, commanded) (record { id = refl; typecode = refl })
-    go false false true s u e1 e2 e3 e4 e5 = simp (e1, e2, e3, commanded) (record { id = refl; typecode = refl })
-    go false false false true u e1 e2 e3 e4 e5 = simp (e1, e2, e3, e4, commanded) (record { id = refl; typecode = refl })
-    go false false false false true e1 e2 e3 e4 e5 = simp (e1, e2, e3, e4, e5, commanded) (record { id = refl; typecode = refl })
-    go false false false false false e1 e2 e3 e4 e5 = simp (e1, e2, e3, e4, e5, commanded) (record { id = refl; typecode = refl })
+    go : (p q r s : Bool) → eqb c 1 ≡ p → eqb c 2 ≡ q → eqb c 3 ≡ r → eqb c 4 ≡ s → Same d (commanded c v d)
+    go true q r s e1 e2 e3 e4 = simp (e1, commanded) (record { id = refl; typecode = refl })
+    go false true r s e1 e2 e3 e4 = simp (e1, e2, commanded) (record { id = refl; typecode = refl })
+    go false false true s e1 e2 e3 e4 = simp (e1, e2, e3, commanded) (record { id = refl; typecode = refl })
+    go false false false true e1 e2 e3 e4 = simp (e1, e2, e3, e4, commanded) (record { id = refl; typecode = refl })
+    go false false false false e1 e2 e3 e4 = simp (e1, e2, e3, e4, commanded) (record { id = refl; typecode = refl })
+
+-- commands 2 and 3 send: the status is 11 then; no other command touches it
+pub command-status : (c : ℕ) (v : List ℕ) (d : Datapoint) → commanded c v d .state % 4 ≡ (if eqb c 2 || eqb c 3 then 3 else d .state % 4)
+unfolding commanded withValue withState
+command-status c v d = go (eqb c 1) (eqb c 2) (eqb c 3) (eqb c 4) refl refl refl refl
+  where
+    go : (p q r s : Bool) → eqb c 1 ≡ p → eqb c 2 ≡ q → eqb c 3 ≡ r → eqb c 4 ≡ s → commanded c v d .state % 4 ≡ (if eqb c 2 || eqb c 3 then 3 else d .state % 4)
+    go true true r s e1 e2 e3 e4 = absurd (omega (arith, eqb-true c 1 e1, eqb-true c 2 e2))
+    go true false true s e1 e2 e3 e4 = absurd (omega (arith, eqb-true c 1 e1, eqb-true c 3 e3))
+    go true false false s e1 e2 e3 e4 = simp (e1, e2, e3, commanded) (bits-of-valid (d .state) .status-bits)
+    go false true r s e1 e2 e3 e4 = simp (e1, e2, commanded) (bits-with-status 3 (d .state) (omega arith) .status-bits)
+    go false false true s e1 e2 e3 e4 = simp (e1, e2, e3, commanded) (bits-with-status 3 (withValid (d .state)) (omega arith) .status-bits)
+    go false false false true e1 e2 e3 e4 = simp (e1, e2, e3, e4, commanded) (bits-with-request (d .state) .status-bits)
+    go false false false false e1 e2 e3 e4 = simp (e1, e2, e3, e4, commanded)
 
 -- ---- an item
 pub bytes-ok : (s : List ℕ) (i : Item) → length s ≡ i .size → T (itemOk i) → T (itemOk (withBytes s i))

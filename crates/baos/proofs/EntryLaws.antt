@@ -45,6 +45,10 @@ module _ (d : Datapoint) (c : ℕ) (v : List ℕ) where
   unfolding datapointCode
   code-of-command h = simp h
 
+  pub retired : c ≡ 5 → datapointCode d c v ≡ 8
+  unfolding datapointCode takesCommand
+  retired e = rw e
+
   pub code-of-none-1 : takesCommand c ≡ true → c ≡ 1 → length v ≡ 0 → datapointCode d c v ≡ 9
   unfolding datapointCode
   code-of-none-1 h e n = simp (h, is-empty v n, eq-eqb c 1 e)

@@ -100,7 +100,7 @@ module _ (first : List ℕ → SetEntry) (h n : ℕ) (s : List ℕ) (over : n �
   unfolding applied
   applied-all idOf f xs = ap (λ (es : List SetEntry). applied idOf f es xs) none-left
 
-bad-fine : {id code : ℕ} → bad id code ≡ fine → ⊥
+pub bad-fine : {id code : ℕ} → bad id code ≡ fine → ⊥
 bad-fine z = subst is-bad z tt
   where
     is-bad : Finding → Type 0

@@ -124,13 +124,13 @@ busValue v d = withMark 1 (withValue v (fromBus (d .state)) d)
 unfoldable pub outcome : ℕ → Datapoint → Datapoint
 outcome status d = withState (withStatus status (d .state)) d
 
--- "Commands: 0 nothing; 1 value, bit 4 set; 2 status 11; 3 both; 4 bit 2 set; 5 status 00. A value sent with 0, 2, 4
--- or 5 is checked and unused. The commands do not look at config flags."
+-- "Commands: 0 nothing; 1 value, bit 4 set; 2 status 11; 3 both; 4 bit 2 set; [..]. A value sent with 0, 2, 4 [..] is
+-- checked and unused. The commands do not look at config flags." Command 5, "status 00", is retired (document 02, item
+-- 9): a set request that carries it is refused, and no command but 2 and 3 touches the status.
 unfoldable pub commanded : ℕ → List ℕ → Datapoint → Datapoint
 commanded c v d =
     if eqb c 1 then withValue v (withValid (d .state)) d
     else if eqb c 2 then withState (withStatus 3 (d .state)) d
     else if eqb c 3 then withValue v (withStatus 3 (withValid (d .state))) d
     else if eqb c 4 then withState (withRequest (d .state)) d
-    else if eqb c 5 then withState (withStatus 0 (d .state)) d
     else d

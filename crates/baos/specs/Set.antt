@@ -58,9 +58,10 @@ itemCode i value =
     else if not (eqb (length value) (i .size)) then 9
     else 0
 
--- "command above 5, reserved bits included": none of those is taken
+-- "command above 5, reserved bits included" is not taken, and "command 5 gives code 8, at the command check" (document
+-- 02, item 9): 0 to 4 are taken
 unfoldable pub takesCommand : ℕ → Bool
-takesCommand c = leb c 5
+takesCommand c = leb c 4
 
 -- Rows 8, 9 and 8: the code of an entry for this datapoint. "datapoint length neither 0 nor the type's; or 0 with
 -- command 1 or 3"; "a value whose unused bits are set".

@@ -33,9 +33,9 @@ pub const ITEM_ENTRY_HEAD: usize = 3;
 
 pub const DATAPOINT_ENTRY_HEAD: usize = 4;
 
-// "Commands: 0 nothing; 1 value, bit 4 set; 2 status 11; 3 both; 4 bit 2 set; 5 status 00."
+// "Commands: 0 nothing; 1 value, bit 4 set; 2 status 11; 3 both; 4 bit 2 set; [..]." Command 5 is retired.
 pub const SET_VALUE: u8 = 1;
 
 pub const SET_AND_SEND: u8 = 3;
 
-pub const LAST_COMMAND: u8 = 5;
+pub const LAST_COMMAND: u8 = 4;

@@ -230,20 +230,19 @@ module _ (id : ℕ) (t : Tables) (m : List ℕ) where
 -- a command leaves ID and bit 3
 command-fresh : (id c : ℕ) (v : List ℕ) (d : Datapoint) → isFresh id d ≡ false → isFresh id (commanded c v d) ≡ false
 unfolding isFresh commanded withState withValue
-command-fresh id c v d = go (eqb c 1) (eqb c 2) (eqb c 3) (eqb c 4) (eqb c 5)
+command-fresh id c v d = go (eqb c 1) (eqb c 2) (eqb c 3) (eqb c 4)
   where
     same : (n : ℕ) → bit 8 n ≡ bit 8 (d .state) → (eqb (d .id) id && isUpdated (d .state)) ≡ false → (eqb (d .id) id && isUpdated n) ≡ false
     same n e f = ap (λ (b : ℕ). eqb (d .id) id && eqb b 1) e ∙ f
 
-    go : (a b c e f : Bool) → (eqb (d .id) id && isUpdated (d .state)) ≡ false
-        → (eqb ((if a then withValue v (withValid (d .state)) d else if b then withState (withStatus 3 (d .state)) d else if c then withValue v (withStatus 3 (withValid (d .state))) d else if e then withState (withRequest (d .state)) d else if f then withState (withStatus 0 (d .state)) d else d) .id) id
-        && isUpdated ((if a then withValue v (withValid (d .state)) d else if b then withState (withStatus 3 (d .state)) d else if c then withValue v (withStatus 3 (withValid (d .state))) d else if e then withState (withRequest (d .state)) d else if f then withState (withStatus 0 (d .state)) d else d) .state)) ≡ false
-    go true b c e f h = unfold withValue in same (withValid (d .state)) (bits-of-valid (d .state) .updated-bit) h
-    go false true c e f h = unfold withState in same (withStatus 3 (d .state)) (bits-with-status 3 (d .state) (omega arith) .updated-bit) h
-    go false false true e f h = unfold withValue in same (withStatus 3 (withValid (d .state))) (bits-with-status 3 (withValid (d .state)) (omega arith) .updated-bit ∙ bits-of-valid (d .state) .updated-bit) h
-    go false false false true f h = unfold withState in same (withRequest (d .state)) (bits-with-request (d .state) .updated-bit) h
-    go false false false false true h = unfold withState in same (withStatus 0 (d .state)) (bits-with-status 0 (d .state) (omega arith) .updated-bit) h
-    go false false false false false h = h
+    go : (a b c e : Bool) → (eqb (d .id) id && isUpdated (d .state)) ≡ false
+        → (eqb ((if a then withValue v (withValid (d .state)) d else if b then withState (withStatus 3 (d .state)) d else if c then withValue v (withStatus 3 (withValid (d .state))) d else if e then withState (withRequest (d .state)) d else d) .id) id
+        && isUpdated ((if a then withValue v (withValid (d .state)) d else if b then withState (withStatus 3 (d .state)) d else if c then withValue v (withStatus 3 (withValid (d .state))) d else if e then withState (withRequest (d .state)) d else d) .state)) ≡ false
+    go true b c e h = unfold withValue in same (withValid (d .state)) (bits-of-valid (d .state) .updated-bit) h
+    go false true c e h = unfold withState in same (withStatus 3 (d .state)) (bits-with-status 3 (d .state) (omega arith) .updated-bit) h
+    go false false true e h = unfold withValue in same (withStatus 3 (withValid (d .state))) (bits-with-status 3 (withValid (d .state)) (omega arith) .updated-bit ∙ bits-of-valid (d .state) .updated-bit) h
+    go false false false true h = unfold withState in same (withRequest (d .state)) (bits-with-request (d .state) .updated-bit) h
+    go false false false false h = h
 
 applied-fresh : (id : ℕ) (es : List SetEntry) (ds : List Datapoint) → fresh id ds ≡ false → fresh id (applied datapointId setDatapoint es ds) ≡ false
 unfolding applied setDatapoint
@@ -251,7 +250,7 @@ applied-fresh id [] ds f = f
 applied-fresh id (e ∷ es) ds f = applied-fresh id es _ (fresh-changed id (e .id) (λ (d : Datapoint). commanded (e .command) (e .value) d) (λ d o q. command-fresh id (e .command) (e .value) d o) ds f)
 
 -- handed out: the ID stays, bit 3 is not set
-out-id : (d : Datapoint) → handedOut d .id ≡ d .id
+pub out-id : (d : Datapoint) → handedOut d .id ≡ d .id
 unfolding handedOut withState
 out-id d = refl
 
@@ -259,7 +258,7 @@ out-cleared : (d : Datapoint) → isUpdated (handedOut d .state) ≡ false
 unfolding handedOut withState
 out-cleared d = ne-eqb (bit 8 (withoutUpdated (d .state))) 1 (λ e. omega (arith, e, bits-without-updated (d .state) .updated-bit))
 
-report-id : (d : Datapoint) → withMark 0 (handedOut d) .id ≡ d .id
+pub report-id : (d : Datapoint) → withMark 0 (handedOut d) .id ≡ d .id
 unfolding withMark
 report-id d = out-id d
 
@@ -387,7 +386,7 @@ module _ (id : ℕ) (t : Tables) (w : T (wellFormed t)) where
       }
 
 -- ---- each event
-value-id : (v : List ℕ) (d : Datapoint) → busValue v d .id ≡ d .id
+pub value-id : (v : List ℕ) (d : Datapoint) → busValue v d .id ≡ d .id
 unfolding busValue withMark withValue
 value-id v d = refl
 
@@ -431,7 +430,7 @@ record AtMostOnce (id : ℕ) (hs : List Happening) (t : Tables) (k : Link) : Typ
   none-more : fresh id (t .datapoints) ≡ false → timesHandedOut id hs t k ≡ 0
   at-most : timesHandedOut id hs t k ≤ 1
 
-call-tables : (e : Event) (v : List ℕ) (t : Tables) (k : Link) (out : List ℕ) → refusal e v t k (length out) ≡ 0 → call e v t k out .tables ≡ happens e v t (lineOf k) .tables
+pub call-tables : (e : Event) (v : List ℕ) (t : Tables) (k : Link) (out : List ℕ) → refusal e v t k (length out) ≡ 0 → call e v t k out .tables ≡ happens e v t (lineOf k) .tables
 unfolding call accepted
 call-tables e v t k out h = simp h
 

@@ -1,8 +1,7 @@
 -- A law of ApplyLaws for each command.
-use mathlib.Core.Path.{sym, _∙_}
-use native.Mathlib.Numerals.{unary-clauses}
+use mathlib.Core.Path.{sym}
 use borrow.Author.Needs.{needs}
-use Rattle.baos.proofs.ApplyLaws.{state-1, state-2, state-3, state-4, state-5, state-stays}
+use Rattle.baos.proofs.ApplyLaws.{state-1, state-2, state-3, state-4, state-stays}
 use Rattle.commands.proofs.command.state_after.Statement.{statement}
 use Rattle.commands.proofs.command.state_after.Tie as tie
 
@@ -45,9 +44,6 @@ add-result-7 c = search needs
 add-result-8 : tie.Need-add-result-8
 add-result-8 c = search needs
 
-mul-result-6 : tie.Need-mul-result-6
-mul-result-6 c = search needs
-
 returns : tie.Need-returns
 returns c = sym (state-1 _ _ (c .match .keys1))
 
@@ -61,10 +57,7 @@ returns-4 : tie.Need-returns-4
 returns-4 c = sym (state-4 _ _ (c .match .keys4))
 
 returns-5 : tie.Need-returns-5
-returns-5 c = sym (state-5 _ _ (c .match .keys5) ∙ simp unary-clauses)
-
-returns-6 : tie.Need-returns-6
-returns-6 c = sym (state-stays _ _ (c .match .rest .0 .0 .0 .0 .1) (c .match .rest .0 .0 .0 .1) (c .match .rest .0 .0 .1) (c .match .rest .0 .1) (c .match .rest .1))
+returns-5 c = sym (state-stays _ _ (c .match .rest .0 .0 .0 .1) (c .match .rest .0 .0 .1) (c .match .rest .0 .1) (c .match .rest .1))
 
 pub state-after-spec : {M : Type 1} → statement M
 state-after-spec =
@@ -83,10 +76,8 @@ state-after-spec =
     mul-result-5
     add-result-7
     add-result-8
-    mul-result-6
     returns
     returns-2
     returns-3
     returns-4
-    returns-5
-    returns-6)
+    returns-5)
