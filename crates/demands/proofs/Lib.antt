@@ -9,3 +9,4 @@ pub mod ReadBack
 pub mod HostHearsLaws
 pub mod HandedOutLaws
 pub mod Demand2
+pub mod StatusLaws

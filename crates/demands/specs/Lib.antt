@@ -5,4 +5,5 @@ pub mod SentFrames
 pub mod HostHears
 pub mod HandedOut
 pub mod Answers
+pub mod Status
 pub mod Exchange
