@@ -60,7 +60,7 @@ static void show_entry(FILE *to, uint8_t sub, const uint8_t *head, const uint8_t
                                            "send value on bus",
                                            "set new value and send on bus",
                                            "read new value via bus",
-                                           "clear transmission state",
+                                           "clear transmission state (retired)",
                                            "reserved command"};
     below(to);
     if (sub == 0x02 || sub == 0x81)

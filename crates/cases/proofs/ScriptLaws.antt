@@ -18,7 +18,7 @@ use Rattle.bench.proofs.SameLaws.{false-true, refuted, shown, left-to}
 use Rattle.script.specs.declared.line.Line.{Line}
 use Rattle.script.specs.Line.{lines, lineEnd, readLine}
 use Rattle.cases.specs.Lent.{built, bussed}
-use Rattle.cases.specs.Script.{listed, standing, started, marked, acted, Damaged, Right, AllRight, Played}
+use Rattle.cases.specs.Script.{listed, standing, started, marked, numbered, acted, Damaged, Right, AllRight, Played}
 use Rattle.script.proofs.LineLaws.{lines-next, end-within, end-some}
 
 -- ---- what happens by a line: a law for each letter
@@ -43,9 +43,13 @@ module _ (l : Line) (w : Bench) (s : Stand) where
   unfolding acted
   values-come e = rw e refl
 
-  pub nothing-happens : (l .letter ≡ 0x73 → ⊥) → (l .letter ≡ 0x68 → ⊥) → (l .letter ≡ 0x6D → ⊥) → (l .letter ≡ 0x62 → ⊥) → acted l w s ≡ s
+  pub event-comes : l .letter ≡ 0x6E → acted l w s ≡ numbered (l .bytes) (s .bench)
   unfolding acted
-  nothing-happens t h m b = rw (ne-eqb _ _ t, ne-eqb _ _ h, ne-eqb _ _ m, ne-eqb _ _ b) refl
+  event-comes e = rw e refl
+
+  pub nothing-happens : (l .letter ≡ 0x73 → ⊥) → (l .letter ≡ 0x68 → ⊥) → (l .letter ≡ 0x6D → ⊥) → (l .letter ≡ 0x62 → ⊥) → (l .letter ≡ 0x6E → ⊥) → acted l w s ≡ s
+  unfolding acted
+  nothing-happens t h m b n = rw (ne-eqb _ _ t, ne-eqb _ _ h, ne-eqb _ _ m, ne-eqb _ _ b, ne-eqb _ _ n) refl
 
 -- ---- what a line asks: a law for each letter
 module _ (l : Line) (w : Bench) (s : Stand) (q : s .quiet ≡ true) where

@@ -7,6 +7,7 @@ use lib.ListN.{getD, take}
 use lib.Dec.{eqb}
 use Rattle.words.specs.Words.{if_then_else_}
 use Rattle.calls.specs.declared.event.Event.the-variants.{IdleMark}
+use Rattle.calls.specs.Numbers.{eventNumbered}
 use Rattle.bench.specs.declared.bench.Bench.{Bench}
 use Rattle.bench.specs.declared.run.Stand.{Stand}
 use Rattle.bench.specs.Bench.{emptyBench, withBits}
@@ -14,6 +15,7 @@ use Rattle.bench.specs.Run.{happened, quiet, Sends, standAfter}
 use Rattle.bench.specs.Same.{SameTables, LinkIs}
 use Rattle.script.specs.declared.line.Line.{Line}
 use Rattle.script.specs.Line.{lines, readLine}
+use Rattle.script.specs.Record.{raised}
 use Rattle.cases.specs.Lent.{built, bussed}
 
 -- the bytes of a line
@@ -31,13 +33,19 @@ started wanted a = standing (withBits (getD a 0 0) (getD a 1 0) wanted) true 100
 unfoldable pub marked : Bench → Stand
 marked b = standing (happened IdleMark b) (quiet (happened IdleMark b)) 1000
 
--- what happens by the line l: the letters s, h, m and b
+-- after the event of these numbers: event, byte, ID and outcome
+unfoldable pub numbered : List ℕ → Bench → Stand
+numbered a b =
+    standing (happened (eventNumbered (getD a 0 0) (getD a 1 0) (raised a 2 0) (getD a 4 0)) b) true 1000
+
+-- what happens by the line l: the letters s, h, m, b and n
 unfoldable pub acted : Line → Bench → Stand → Stand
 acted l wanted s =
     if eqb (l .letter) 0x73 then started wanted (l .bytes)
     else if eqb (l .letter) 0x68 then standAfter (listed l) (s .bench)
     else if eqb (l .letter) 0x6D then marked (s .bench)
     else if eqb (l .letter) 0x62 then standing (bussed (l .bytes) (getD (l .bytes) 0 0) (s .bench)) true 1000
+    else if eqb (l .letter) 0x6E then numbered (l .bytes) (s .bench)
     else s
 
 -- damage was found at the place asked for, all from there on is dropped, and nothing is sent

@@ -1,7 +1,7 @@
 // The program of the cases: scripts from standard input, each run through the server's call, byte by byte, and written
 // out as a line trace; what the server sends and what its tables and its link then hold is compared with what the script
-// says. The file stdin beside src has the examples of document 01, section "Examples", and the worked exchange of
-// document 000, section 4.1.
+// says. The file stdin beside src has the examples of document 01, section "Examples", the worked exchange of document
+// 000, section 4.1, and worked cases of document 02.
 mod lent;
 mod play;
 mod print;

@@ -6,7 +6,7 @@ ghost use lib.ListN.{getD};
 ghost use Rattle.bench.specs.Run.{Sends, standAfter};
 ghost use Rattle.bench.specs.Same.{Decides, LinkIs};
 ghost use Rattle.cases.specs.Lent.{bussed};
-ghost use Rattle.cases.specs.Script.{listed, standing, started, marked, acted, Damaged, Right, Played};
+ghost use Rattle.cases.specs.Script.{listed, standing, started, marked, numbered, acted, Damaged, Right, Played};
 use crate::lent::after_bus;
 use crate::lent::told;
 use crate::print::noted;
@@ -22,11 +22,13 @@ use bench::same::is_link;
 use bench::same::same_tables;
 use calls::event::Event;
 use ft12::record::Link;
+use numbers::numbers::event_numbered;
 use script::line::Line;
 use script::line::line_end;
 use script::line::read;
 use script::print::verdict;
 use script::record::first;
+use script::record::raised;
 
 // The tables that were told, and a link that expects and sends these bits, 01 for odd, with nothing outstanding.
 const START: u8 = b's';
@@ -36,6 +38,8 @@ const HOST: u8 = b'h';
 const MARK: u8 = b'm';
 // Values come from the bus.
 const BUS: u8 = b'b';
+// An event by its numbers, as firmware gives them: event, byte, ID and outcome.
+const EVENT: u8 = b'n';
 // The server is to have sent these bytes.
 const REPLY: u8 = b'r';
 // The receiver is to have found damage at this place of the host's bytes, to drop, and to have sent nothing.
@@ -90,6 +94,18 @@ fn bussed(bench: Bench, line: Line) -> Stand
     }
 }
 
+fn numbered(bench: Bench, line: Line) -> Stand
+    ensures { λ r. ⌜ r ≡ numbered (line .bytes) bench ⌝ }
+{
+    let a = line.bytes;
+    let event = event_numbered(a[0], a[1], raised(a[2], a[3], 0), a[4]);
+    Stand {
+        bench: happens(bench, event),
+        quiet: true,
+        place: 1000,
+    }
+}
+
 // What happens by this line.
 fn acted(stand: Stand, wanted: Bench, line: Line) -> Stand
     requires { ⌜ line .size ≤ 264 ⌝ }
@@ -107,6 +123,9 @@ fn acted(stand: Stand, wanted: Bench, line: Line) -> Stand
     }
     if line.letter == BUS {
         return bussed(b, line);
+    }
+    if line.letter == EVENT {
+        return numbered(b, line);
     }
     stand
 }

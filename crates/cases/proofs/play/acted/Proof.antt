@@ -1,6 +1,6 @@
 use borrow.Author.Needs.{needs}
 use mathlib.Core.Path.{sym, _∙_}
-use Rattle.cases.proofs.ScriptLaws.{starts, host-sends, silence, values-come, nothing-happens}
+use Rattle.cases.proofs.ScriptLaws.{starts, host-sends, silence, values-come, event-comes, nothing-happens}
 use Rattle.cases.proofs.play.acted.Statement.{statement}
 use Rattle.cases.proofs.play.acted.Tie as tie
 
@@ -28,8 +28,17 @@ bussed-requires c κs = search needs
 returns-4 : tie.Need-returns-4
 returns-4 c = c .bussed .ensures ∙ sym (values-come _ _ _ (c .before .if4 .taken))
 
+numbered-requires : tie.Need-numbered-requires
+numbered-requires c κs = search needs
+
 returns-5 : tie.Need-returns-5
-returns-5 c = sym (nothing-happens _ _ _ (c .before .before .before .before .before .before .if1 .left) (c .before .before .before .before .if2 .left) (c .before .before .if3 .left) (c .if4 .left))
+returns-5 c = c .numbered .ensures ∙ sym (event-comes _ _ _ (c .before .if5 .taken))
+
+returns-6 : tie.Need-returns-6
+returns-6 c =
+    sym
+    (nothing-happens _ _ _ (c .before .before .before .before .before .before .before .before .if1 .left) (c .before .before .before .before .before .before .if2 .left)
+    (c .before .before .before .before .if3 .left) (c .before .before .if4 .left) (c .if5 .left))
 
 pub acted-spec : {M : Type 1} → statement M
-acted-spec = tie.close (tie.spec started-requires returns heard-requires returns-2 marked-requires returns-3 bussed-requires returns-4 returns-5)
+acted-spec = tie.close (tie.spec started-requires returns heard-requires returns-2 marked-requires returns-3 bussed-requires returns-4 numbered-requires returns-5 returns-6)
