@@ -21,12 +21,13 @@
 #include <stddef.h>
 #include <stdint.h>
 
-/* By semver.org, for the face at the end of this file. What it stands on, tagobrelin_call and the records' layout, may
- * change in a minor version: header and archive are always taken together. CHANGELOG.md tells what changed. */
+/* By semver.org, for the face at the end of this file. What it stands on, tagobrelin_call and the records' layout, and
+ * what a host is answered may change in a minor version: header and archive are always taken together. CHANGELOG.md
+ * tells what changed. */
 #define TAGOBRELIN_VERSION_MAJOR 1
-#define TAGOBRELIN_VERSION_MINOR 0
+#define TAGOBRELIN_VERSION_MINOR 1
 #define TAGOBRELIN_VERSION_PATCH 0
-#define TAGOBRELIN_VERSION "1.0.0"
+#define TAGOBRELIN_VERSION "1.1.0"
 
 #ifdef __cplusplus
 extern "C" {

@@ -744,7 +744,7 @@ fn set_values(random: &mut Random, server: &Server) -> Option<Request> {
     set.made(aim, 0, start)
 }
 
-/// Command 5 among good entries, with a value or without.
+/// Command 5 among other entries, with a value or without.
 fn retired(random: &mut Random, datapoints: &[Datapoint], mut set: Set, mut bad: Entry) -> Option<Request> {
     let (id, size) = (bad.id, bad.value.len());
     bad.command = 5;

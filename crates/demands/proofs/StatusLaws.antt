@@ -121,7 +121,7 @@ statuses-applied id (e ∷ es) ds =
     go true false (x ∷ rest) s = replaced-twice 3 _ s
     go false b (x ∷ rest) s = replaced-twice 3 _ s
 
--- ---- what a set finds has a code
+-- ---- what a set finds: nothing, or a code other than 0
 hasCode : Finding → Bool
 hasCode fine = true
 hasCode (bad id code) = not (eqb code 0)
@@ -460,7 +460,7 @@ retired-refused t m h = go (unanswered m) refl
         let error : ErrorAnswer (carriedOut t m .says) = simp (e, carriedOut) (service-error t m h) in
         ((λ f. error), errors-change-nothing t m error)
 
--- over calls: where a host byte ends no such request it hands up none
+-- over calls: where the message handed up holds command 5, the tables stay
 up-retired : (u : Up) (s : List ℕ) (t : Tables) (l : Line) → T (holdsEntry isRetired (messageUp u)) → handedUp u s t l .tables ≡ t
 unfolding handedUp saying messageUp holdsEntry subService
 up-retired nothing s t l h = absurd h

@@ -37,7 +37,8 @@ replaced [] s = s
 replaced (n ∷ ns) s = map (λ x. n) s
 
 -- ---- a request
--- the entries of a request to set datapoints, so many as it states
+-- the entries of a request to set datapoints, so many as it states; bytes that it does not have read 0, and it is
+-- answered with code 10 then
 unfoldable pub entriesOf : List ℕ → List SetEntry
 entriesOf m = setEntries firstDatapointEntry 4 (numberOf m) (drop 6 m)
 
@@ -131,7 +132,8 @@ abbrev pub StandsUntil : Type 0
 StandsUntil = (id : ℕ) (hs : List Happening) (t : Tables) (k : Link) → T (noSendOrOutcome id hs t k)
     → statusAt id (tablesAfter hs t k) ≡ statusAt id t
 
--- ---- "A stored request that still holds command 5 is refused whole": an error answers it, and no table changes
+-- ---- "A stored request that still holds command 5 is refused whole": no table changes, and an error answers it where
+-- it is answered at all
 unfoldable pub isRetired : SetEntry → Bool
 isRetired e = eqb (e .command) 5
 
@@ -144,8 +146,9 @@ RetiredCallRefused =
     (b : ℕ) (v : List ℕ) (t : Tables) (k : Link) (out : List ℕ)
     → T (holdsEntry isRetired (messageUp (onHostByte b (lineOf k) .up))) → call (HostByte b) v t k out .tables ≡ t
 
--- "command 5 gives code 8, at the command check": where every entry in front is good and the ID is present, and whatever
--- value comes with it, the answer has code 8 and that entry's ID
+-- "command 5 gives code 8, at the command check": in a request that is answered and whose entries fill it, where every
+-- entry in front is good and the ID is present, and whatever value comes with it, the answer has code 8 and that
+-- entry's ID
 abbrev pub RetiredCode : Type 0
 RetiredCode =
     (t : Tables) (m : List ℕ) (before : List SetEntry) (e : SetEntry) (behind : List SetEntry)
