@@ -88,7 +88,7 @@ module _ (h at n : ℕ) (s : List ℕ) (more : 1 ≤ n) where
     applied-next idOf f xs = ap (λ (es : List SetEntry). applied idOf f es xs) entries-next
 
 module _ (first : List ℕ → SetEntry) (h n : ℕ) (s : List ℕ) (over : n ≤ 0) where
-  none-left : setEntries first h n s ≡ []
+  pub none-left : setEntries first h n s ≡ []
   unfolding setEntries
   none-left = ap (λ (k : ℕ). setEntries first h k s) {x = n} {y = 0} (omega (arith, over))
 
@@ -100,7 +100,7 @@ module _ (first : List ℕ → SetEntry) (h n : ℕ) (s : List ℕ) (over : n �
   unfolding applied
   applied-all idOf f xs = ap (λ (es : List SetEntry). applied idOf f es xs) none-left
 
-pub bad-fine : {id code : ℕ} → bad id code ≡ fine → ⊥
+bad-fine : {id code : ℕ} → bad id code ≡ fine → ⊥
 bad-fine z = subst is-bad z tt
   where
     is-bad : Finding → Type 0

@@ -1,9 +1,11 @@
 -- What a set answers and leaves, by the verdict before its entries are judged and the verdict of the entries: one law for datapoints and items.
 use Prim.Native.Nat.{ℕ}
-use mathlib.Core.Path.{_≡_, refl, _∙_, ap}
+use mathlib.Core.Path.{_≡_, refl, sym, _∙_, ap, subst}
+use mathlib.Core.Logic.{_≢_}
 use mathlib.Core.Bool.{Bool, true, false}
 use mathlib.Core.List.{List}
 use native.Mathlib.Omega.{arith}
+use native.Mathlib.Decide.{ℕ-discrete}
 use lib.ListN.{drop}
 use lib.Dec.{eqb}
 use Rattle.baos.specs.Table.{Tables}
@@ -86,3 +88,13 @@ module _ (h : ℕ) (first : List ℕ → SetEntry) (judge : SetEntry → ℕ) (d
   pub set-done : verdictOf earlier .code ≡ 0 → verdictOf later .code ≡ 0 → setting h first judge done t m ≡ record { says = coded m (startOf m) 0; after = done entries }
   unfolding setting served answerOf afterOf afterwards answer
   set-done z n = ap answer (filled-first ∙ ap afterwards (earlier-fine z) ∙ fine-code judge entries n)
+
+  -- what holds of every error answer, and of the positive one where no entry is bad, holds of the set
+  pub by-setting : (P : Served → Type 0) → ((i c : ℕ) → c ≢ 0 → P (record { says = coded m i c; after = t }))
+      → (firstBad judge entries ≡ fine → P (record { says = coded m (startOf m) 0; after = done entries })) → P (setting h first judge done t m)
+  by-setting P error positive = go (ℕ-discrete (verdictOf earlier .code) 0) (ℕ-discrete (verdictOf later .code) 0)
+    where
+      go : Dec (verdictOf earlier .code ≡ 0) → Dec (verdictOf later .code ≡ 0) → P (setting h first judge done t m)
+      go (no n) x = subst P (sym (set-refused n)) (error (verdictOf earlier .id) (verdictOf earlier .code) n)
+      go (yes z) (no n) = subst P (sym (set-bad z n)) (error (verdictOf later .id) (verdictOf later .code) n)
+      go (yes z) (yes y) = subst P (sym (set-done z y)) (positive (fine-code judge entries y))

@@ -1,13 +1,14 @@
 -- A datapoint's status: what a request and a call leave of it, and that a request with command 5 is refused whole.
 use Prim.Native.Nat.{ℕ, _%_, _<_}
-use mathlib.Core.Path.{_≡_, refl, sym, _∙_, ap}
-use mathlib.Core.Logic.{_⊎_, inl, inr}
+use mathlib.Core.Path.{_≡_, refl, sym, _∙_, ap, subst}
+use mathlib.Core.Logic.{_⊎_, inl, inr, _≢_}
 use mathlib.Core.Bool.{Bool, true, false, not, _&&_, _||_}
 use mathlib.Core.List.{List, [], _∷_, _++_, map}
 use native.Mathlib.Omega.{arith}
+use native.Mathlib.Decide.{ℕ-discrete}
 use lib.ListN.{length, getD, drop}
 use lib.Dec.{T, eqb, eqb→eq}
-use borrow.Author.Tests.{eq-eqb, eqb-true}
+use borrow.Author.Tests.{eq-eqb, ne-eqb, eqb-true}
 use Rattle.words.specs.Words.{if_then_else_, isEmpty, keep, every}
 use Rattle.words.proofs.WordLaws.{left, right, true-T, T-true}
 use Rattle.ft12.specs.declared.record.Link.{Link}
@@ -18,27 +19,30 @@ use Rattle.baos.specs.declared.bus.Outcome.{Outcome}
 use Rattle.baos.specs.declared.bus.Outcome.the-variants.{Sent, Failed, InProgress}
 use Rattle.baos.specs.Datapoint.{datapointId, withState, withValue, withMark, handedOut, busValue, outcome, commanded}
 use Rattle.baos.specs.Bus.{statusOf}
-use Rattle.baos.specs.Table.{Tables, withDatapoints, withItems, found, changedAt}
-use Rattle.baos.specs.Message.{subService, startOf, numberOf, coded, Finding, fine, bad, Served, answerOf, afterOf, served}
+use Rattle.baos.specs.Table.{Tables, withItems, found, changedAt}
+use Rattle.baos.specs.Message.{subService, startOf, numberOf, coded, Finding, fine, bad, Served, afterOf, served}
 use Rattle.baos.specs.Get.{roomForEntries, getting, getServerItem, getDatapointDescription, asked, handingOut, getDatapointValue, getParameterByte}
-use Rattle.baos.specs.Set.{SetEntry, firstDatapointEntry, setEntries, fills, firstBad, setFinding, judgedDatapoint, applied, setting, setServerItem, setDatapoint, setDatapointValue}
+use Rattle.baos.specs.Set.{SetEntry, firstDatapointEntry, fills, firstBad, setFinding, judgedDatapoint, applied, setting, setServerItem, setDatapoint, setDatapointValue}
 use Rattle.baos.specs.Service.{service, unanswered, carriedOut}
 use Rattle.baos.specs.Indication.{choices, goes, roomAfter, afterReport, indication}
 use Rattle.baos.proofs.DatapointLaws.{command-same, command-status, bits-without-updated, bits-with-status, bits-from-bus}
 use Rattle.baos.proofs.BusLaws.{status-fits}
 use Rattle.baos.proofs.EntryLaws.{retired}
-use Rattle.baos.proofs.LeftLaws.{bad-fine, each-fine}
+use Rattle.baos.proofs.LeftLaws.{none-left, each-fine}
+use Rattle.baos.proofs.SettingLaws.{by-setting}
+use Rattle.baos.proofs.ServiceLaws.{not-answered, is-set-value, setValueFinding, bad-set-value}
 use Rattle.baos.proofs.DispatchLaws.{by-service, by-message}
 use Rattle.calls.specs.declared.event.Event.{Event}
 use Rattle.calls.specs.declared.event.Event.the-variants.{HostByte, IdleMark, AckWaitOver, Poll, BusValue, TransmissionOutcome}
 use Rattle.calls.specs.Event.{atDatapoint}
-use Rattle.calls.specs.Call.{Done, saying, handedUp, onMoved, onPoll, happens, refusal, refused, call}
+use Rattle.calls.specs.Call.{Done, saying, handedUp, onMoved, onPoll, happens, refusal, Called, refused, call}
+use Rattle.calls.proofs.CallLaws.{refused-leaves}
 use Rattle.calls.proofs.CallJoins.{waited}
 use Rattle.walks.proofs.Branches.{no-T}
 use Rattle.demands.specs.Answers.{ErrorAnswer}
 use Rattle.demands.proofs.ErrorLaws.{errors-change-nothing}
 use Rattle.demands.proofs.HandedOutLaws.{out-id, report-id, value-id, call-tables}
-use Rattle.demands.specs.Status.{statusAt, replaced, entriesOf, holdsEntry, isSendFor, statusByRequest, messageUp, statusBy, AfterRequest, AfterCall, StaysOrRequested, isOutcomeFor, StaysOrRequestedByRequest, StaysOrRequestedByCall, IdleBySent, noSendOrOutcome, tablesAfter, StandsUntil, isRetired, RetiredRefused, RetiredCallRefused, RetiredCode, StatusStands}
+use Rattle.demands.specs.Status.{statusAt, replaced, entriesOf, holdsEntry, isSendFor, statusByRequest, messageUp, statusBy, AfterRequest, AfterCall, StaysOrRequested, isOutcomeFor, StaysOrRequestedByRequest, StaysOrRequestedByCall, IdleBySent, noSendOrOutcome, tablesAfterAll, StandsUntil, isRetired, RetiredRefused, RetiredCallRefused, RetiredCode, StatusStands}
 
 -- ---- records
 abbrev status : Datapoint → ℕ
@@ -121,29 +125,6 @@ statuses-applied id (e ∷ es) ds =
     go true false (x ∷ rest) s = replaced-twice 3 _ s
     go false b (x ∷ rest) s = replaced-twice 3 _ s
 
--- ---- what a set finds: nothing, or a code other than 0
-hasCode : Finding → Bool
-hasCode fine = true
-hasCode (bad id code) = not (eqb code 0)
-
-first-has-code : (judge : SetEntry → ℕ) (es : List SetEntry) → T (hasCode (firstBad judge es))
-unfolding firstBad hasCode
-first-has-code judge [] = tt
-first-has-code judge (e ∷ es) = go (eqb (judge e) 0) refl (first-has-code judge es)
-  where
-    go : (u : Bool) → eqb (judge e) 0 ≡ u → T (hasCode (firstBad judge es)) → T (hasCode (if u then firstBad judge es else bad (e .id) (judge e)))
-    go true q rest = rest
-    go false q rest = simp q tt
-
-set-has-code : (h : ℕ) (first : List ℕ → SetEntry) (judge : SetEntry → ℕ) (m : List ℕ) → T (hasCode (setFinding h first judge m))
-unfolding setFinding
-set-has-code h first judge m = go (not (fills h (numberOf m) (drop 6 m))) (eqb (numberOf m) 0)
-  where
-    go : (u w : Bool) → T (hasCode (if u then bad (startOf m) 10 else if w then bad (startOf m) 6 else firstBad judge (setEntries first h (numberOf m) (drop 6 m))))
-    go true w = unfold hasCode in tt
-    go false true = unfold hasCode in tt
-    go false false = first-has-code judge _
-
 -- ---- a get and an indication hand out
 -- a change that keeps ID and status, made or not
 module _ (g : Datapoint → Datapoint) (same : (d : Datapoint) → g d .id ≡ d .id) (keeps : (d : Datapoint) → status (g d) ≡ status d) where
@@ -219,13 +200,14 @@ module _ (id : ℕ) (t : Tables) (m : List ℕ) where
   unfolding holdsEntry
   holds-six p e = rw e refl
 
-  set-leaves : (f : Finding) → T (hasCode f) → subService m ≡ 0x06 → Leaves (served f m (coded m (startOf m) 0) t (withDatapoints (applied datapointId setDatapoint (entriesOf m) (t .datapoints)) t))
-  unfolding served answerOf afterOf coded statusAt hasCode
-  set-leaves fine n e = statuses-applied id (entriesOf m) (t .datapoints) ∙ ap (λ (u : Bool). replaced (if u then 3 ∷ [] else []) (statusAt id t)) (sym (with-code _ ∙ holds-six (isSendFor id) e))
-  set-leaves (bad i c) n e = kept (record { says = coded m i c; after = t }) refl (no-code (eqb c 0) (no-T (eqb c 0) n))
+  set-leaves : subService m ≡ 0x06 → Leaves (setDatapointValue t m)
+  unfolding setDatapointValue coded statusAt entriesOf
+  set-leaves e =
+      by-setting 4 firstDatapointEntry _ _ t m Leaves (λ i c n. kept (record { says = coded m i c; after = t }) refl (no-code (eqb c 0) (ne-eqb c 0 n)))
+      (λ z. statuses-applied id (entriesOf m) (t .datapoints) ∙ ap (λ (u : Bool). replaced (if u then 3 ∷ [] else []) (statusAt id t)) (sym (with-code _ ∙ holds-six (isSendFor id) e)))
 
   request-leaves : Leaves (carriedOut t m)
-  unfolding getServerItem setServerItem getDatapointDescription getDatapointValue setDatapointValue getParameterByte getting setting entriesOf
+  unfolding getServerItem setServerItem getDatapointDescription getDatapointValue getParameterByte getting setting
   request-leaves =
       by-message Leaves t m (kept (record { says = []; after = t }) refl (no-code _ refl))
       (by-service Leaves t m
@@ -233,7 +215,7 @@ module _ (id : ℕ) (t : Tables) (m : List ℕ) where
       (λ e. keeps-as 0x02 _ _ (withItems _ t) e refl (unfold statusAt in refl))
       (λ e. keeps-as 0x03 _ _ t e refl refl)
       (λ e. keeps-as 0x05 _ _ (handingOut m t) e refl (statuses-out id m t))
-      (set-leaves _ (set-has-code 4 firstDatapointEntry _ m))
+      set-leaves
       (λ e. keeps-as 0x07 _ _ t e refl refl)
       (kept (record { says = coded m (startOf m) 5; after = t }) refl (no-code _ (unfold coded in refl))))
 
@@ -317,17 +299,19 @@ stays-or-requested id t t′ ns (inr e) p = inr (p ∙ ap (λ (x : List ℕ). re
 pub stays-or-requested-by-request : StaysOrRequestedByRequest
 stays-or-requested-by-request id t m = stays-or-requested id t (carriedOut t m .after) (statusByRequest id t m) (by-request id t m) (after-request id t m)
 
--- a call that is refused leaves the tables
-refused-tables : (e : Event) (v : List ℕ) (t : Tables) (k : Link) (out : List ℕ) → eqb (refusal e v t k (length out)) 0 ≡ false → call e v t k out .tables ≡ t
-unfolding call refused
-refused-tables e v t k out n = simp n
+-- a call leaves what its event does to the tables, or the tables where it is refused
+by-call : (P : Tables → Type 0) (e : Event) (v : List ℕ) (t : Tables) (k : Link) (out : List ℕ)
+    → (refusal e v t k (length out) ≡ 0 → P (happens e v t (lineOf k) .tables)) → (refusal e v t k (length out) ≢ 0 → P t) → P (call e v t k out .tables)
+unfolding refused
+by-call P e v t k out p q = go (ℕ-discrete (refusal e v t k (length out)) 0)
+  where
+    go : Dec (refusal e v t k (length out) ≡ 0) → P (call e v t k out .tables)
+    go (yes z) = subst P (sym (call-tables e v t k out z)) (p z)
+    go (no n) = subst P (sym (ap (λ (c : Called). c .tables) (refused-leaves e v t k out (refusal e v t k (length out)) refl n))) (q n)
 
 pub stays-or-requested-by-call : StaysOrRequestedByCall
-stays-or-requested-by-call id e v t k out n = go (eqb (refusal e v t k (length out)) 0) refl
-  where
-    go : (u : Bool) → eqb (refusal e v t k (length out)) 0 ≡ u → StaysOrRequested id t (call e v t k out .tables)
-    go true z = stays-or-requested id t (call e v t k out .tables) _ (by-event id e t (lineOf k) n) (after-call id e v t k out (eqb-true (refusal e v t k (length out)) 0 z))
-    go false z = inl (ap (statusAt id) (refused-tables e v t k out z))
+stays-or-requested-by-call id e v t k out n =
+    by-call (StaysOrRequested id t) e v t k out (λ z. stays-or-requested id t _ (statusBy id e t (lineOf k)) (by-event id e t (lineOf k) n) (happens-leaves id e v t (lineOf k))) (λ z. inl refl)
 
 -- ---- to 00 by the outcome "sent"
 replaced-idle : (n : ℕ) (s : List ℕ) → replaced (n ∷ []) s ≡ 0 ∷ [] → n ≡ 0
@@ -341,28 +325,29 @@ is-sent Sent z = refl
 is-sent Failed z = absurd (omega (arith, z))
 is-sent InProgress z = absurd (omega (arith, z))
 
-outcome-sent : (id : ℕ) (e : Event) (t : Tables) (l : Line) → T (isOutcomeFor id e) → replaced (statusBy id e t l) (statusAt id t) ≡ 0 ∷ [] → e ≡ TransmissionOutcome id Sent
-unfolding isOutcomeFor statusBy
-outcome-sent id (HostByte b) t l h z = absurd h
-outcome-sent id IdleMark t l h z = absurd h
-outcome-sent id AckWaitOver t l h z = absurd h
-outcome-sent id Poll t l h z = absurd h
-outcome-sent id (BusValue n) t l h z = absurd h
-outcome-sent id (TransmissionOutcome n o) t l h z =
-    ap (λ (i : ℕ). TransmissionOutcome i o) (eqb→eq n id h)
-    ∙ ap (TransmissionOutcome id) (is-sent o (replaced-idle (statusOf o) (statusAt id t) (simp (T-true (eqb n id) h) at z)))
+-- what is idle after an event that is no outcome for the ID was idle before
+was-idle : (ns s : List ℕ) → NoneOrRequested ns → replaced ns s ≡ 0 ∷ [] → s ≡ 0 ∷ []
+unfolding replaced
+was-idle ns s (inl e) z = simp e at z
+was-idle ns s (inr e) z = absurd (omega (arith, replaced-idle 3 s (ap (λ (x : List ℕ). replaced x s) (sym e) ∙ z)))
+
+event-idle : (id : ℕ) (e : Event) (t : Tables) (l : Line) → replaced (statusBy id e t l) (statusAt id t) ≡ 0 ∷ [] → (statusAt id t ≡ 0 ∷ []) ⊎ (e ≡ TransmissionOutcome id Sent)
+unfolding statusBy replaced
+event-idle id (HostByte b) t l z = inl (was-idle (statusByRequest id t (messageUp (onHostByte b l .up))) (statusAt id t) (by-request id t (messageUp (onHostByte b l .up))) z)
+event-idle id IdleMark t l z = inl z
+event-idle id AckWaitOver t l z = inl z
+event-idle id Poll t l z = inl z
+event-idle id (BusValue n) t l z = inl z
+event-idle id (TransmissionOutcome n o) t l z = go (eqb n id) refl z
+  where
+    go : (u : Bool) → eqb n id ≡ u → replaced (if u then statusOf o ∷ [] else []) (statusAt id t) ≡ 0 ∷ [] → (statusAt id t ≡ 0 ∷ []) ⊎ (TransmissionOutcome n o ≡ TransmissionOutcome id Sent)
+    go true q z = inr (ap (λ (i : ℕ). TransmissionOutcome i o) (eqb-true n id q) ∙ ap (TransmissionOutcome id) (is-sent o (replaced-idle (statusOf o) (statusAt id t) z)))
+    go false q z = inl z
 
 pub idle-by-sent : IdleBySent
-idle-by-sent id e v t k out z = go (isOutcomeFor id e) (eqb (refusal e v t k (length out)) 0) refl refl
-  where
-    either : StaysOrRequested id t (call e v t k out .tables) → (statusAt id t ≡ 0 ∷ []) ⊎ (e ≡ TransmissionOutcome id Sent)
-    either (inl s) = inl (sym s ∙ z)
-    either (inr s) = absurd (omega (arith, replaced-idle 3 (statusAt id t) (sym s ∙ z)))
-
-    go : (u a : Bool) → isOutcomeFor id e ≡ u → eqb (refusal e v t k (length out)) 0 ≡ a → (statusAt id t ≡ 0 ∷ []) ⊎ (e ≡ TransmissionOutcome id Sent)
-    go false a n r = either (stays-or-requested-by-call id e v t k out (rw n tt))
-    go true false n r = inl (ap (statusAt id) (sym (refused-tables e v t k out r)) ∙ z)
-    go true true n r = inr (outcome-sent id e t (lineOf k) (true-T n) (sym (after-call id e v t k out (eqb-true (refusal e v t k (length out)) 0 r)) ∙ z))
+idle-by-sent id e v t k out =
+    by-call (λ (t′ : Tables). statusAt id t′ ≡ 0 ∷ [] → (statusAt id t ≡ 0 ∷ []) ⊎ (e ≡ TransmissionOutcome id Sent)) e v t k out
+    (λ a z. event-idle id e t (lineOf k) (sym (happens-leaves id e v t (lineOf k)) ∙ z)) (λ a z. inl z)
 
 -- ---- calls one after the other
 nothing-comes : (ns s : List ℕ) → T (isEmpty ns) → replaced ns s ≡ s
@@ -372,14 +357,12 @@ nothing-comes (n ∷ ns) s e = absurd e
 
 call-keeps : (id : ℕ) (e : Event) (v : List ℕ) (t : Tables) (k : Link) (out : List ℕ)
     → T (not (eqb (refusal e v t k (length out)) 0) || isEmpty (statusBy id e t (lineOf k))) → statusAt id (call e v t k out .tables) ≡ statusAt id t
-call-keeps id e v t k out = go (eqb (refusal e v t k (length out)) 0) refl
-  where
-    go : (u : Bool) → eqb (refusal e v t k (length out)) 0 ≡ u → T (not u || isEmpty (statusBy id e t (lineOf k))) → statusAt id (call e v t k out .tables) ≡ statusAt id t
-    go true z n = after-call id e v t k out (eqb-true (refusal e v t k (length out)) 0 z) ∙ nothing-comes (statusBy id e t (lineOf k)) (statusAt id t) n
-    go false z n = ap (statusAt id) (refused-tables e v t k out z)
+call-keeps id e v t k out n =
+    by-call (λ (t′ : Tables). statusAt id t′ ≡ statusAt id t) e v t k out
+    (λ z. happens-leaves id e v t (lineOf k) ∙ nothing-comes (statusBy id e t (lineOf k)) (statusAt id t) (simp (eq-eqb (refusal e v t k (length out)) 0 z) at n)) (λ z. refl)
 
 pub stands-until : StandsUntil
-unfolding noSendOrOutcome tablesAfter
+unfolding noSendOrOutcome tablesAfterAll
 stands-until id [] t k n = refl
 stands-until id (h ∷ hs) t k n =
     let c = call (h .event) (h .value) t k (h .output) in
@@ -413,51 +396,34 @@ none-kept p (x ∷ xs) e n = go (p x) (left (not (p x)) (every (λ y. not (p y))
     go true o rest n = o
     go false o rest n = rest n
 
-coded-error : (m : List ℕ) (i c : ℕ) → T (not (eqb c 0)) → ErrorAnswer (coded m i c)
+coded-error : (m : List ℕ) (i c : ℕ) → c ≢ 0 → ErrorAnswer (coded m i c)
 unfolding coded
-coded-error m i c n = record { seven = refl; no-entries = (refl, refl); code = λ z. true-T {b = false} (sym (no-T (eqb c 0) n) ∙ eq-eqb c 0 z) }
+coded-error m i c n = record { seven = refl; no-entries = (refl, refl); code = n }
 
 module _ (t : Tables) (m : List ℕ) where
   abbrev judge : SetEntry → ℕ
   judge e = judgedDatapoint (found datapointId (e .id) (t .datapoints)) e
 
-  set-finds : T (not (isEmpty (keep isRetired (entriesOf m)))) → setFinding 4 firstDatapointEntry judge m ≡ fine → ⊥
-  unfolding setFinding entriesOf
-  set-finds n = go (not (fills 4 (numberOf m) (drop 6 m))) (eqb (numberOf m) 0)
-    where
-      go : (u w : Bool) → (if u then bad (startOf m) 10 else if w then bad (startOf m) 6 else firstBad judge (entriesOf m)) ≡ fine → ⊥
-      go true w z = bad-fine z
-      go false true z = bad-fine z
-      go false false z = none-kept isRetired (entriesOf m) (true-T (each-fine judge (λ e. not (isRetired e)) (λ e. not-retired (found datapointId (e .id) (t .datapoints)) e) (entriesOf m) z)) n
-
-  set-error : (f : Finding) → T (hasCode f) → (f ≡ fine → ⊥) → (answer : List ℕ) (t′ : Tables) → ErrorAnswer (served f m answer t t′ .says)
-  unfolding served answerOf hasCode
-  set-error fine c n answer t′ = absurd (n refl)
-  set-error (bad i c) h n answer t′ = coded-error m i c h
-
-  service-error : T (holdsEntry isRetired m) → ErrorAnswer (service t m .says)
-  unfolding holdsEntry setDatapointValue setting
-  service-error h =
-      by-service (λ (s : Served). ErrorAnswer (s .says)) t m
-      (λ e. absurd (omega (arith, e, six)))
-      (λ e. absurd (omega (arith, e, six)))
-      (λ e. absurd (omega (arith, e, six)))
-      (λ e. absurd (omega (arith, e, six)))
-      (λ e. set-error _ (set-has-code 4 firstDatapointEntry judge m) (set-finds (right (eqb (subService m) 0x06) (not (isEmpty (keep isRetired (entriesOf m)))) h)) _ _)
-      (λ e. absurd (omega (arith, e, six)))
-      (coded-error m (startOf m) 5 tt)
-    where
-      six : subService m ≡ 0x06
-      six = eqb→eq (subService m) 0x06 (left (eqb (subService m) 0x06) (not (isEmpty (keep isRetired (entriesOf m)))) h)
+  set-error : T (not (isEmpty (keep isRetired (entriesOf m)))) → ErrorAnswer (setDatapointValue t m .says)
+  unfolding setDatapointValue entriesOf
+  set-error n =
+      by-setting 4 firstDatapointEntry judge _ t m (λ (s : Served). ErrorAnswer (s .says)) (coded-error m)
+      (λ z. absurd (none-kept isRetired (entriesOf m) (true-T (each-fine judge (λ e. not (isRetired e)) (λ e. not-retired (found datapointId (e .id) (t .datapoints)) e) (entriesOf m) z)) n))
 
 pub retired-refused : RetiredRefused
-unfolding carriedOut
+unfolding holdsEntry
 retired-refused t m h = go (unanswered m) refl
   where
+    six : subService m ≡ 0x06
+    six = eqb→eq (subService m) 0x06 (left (eqb (subService m) 0x06) (not (isEmpty (keep isRetired (entriesOf m)))) h)
+
+    held : T (not (isEmpty (keep isRetired (entriesOf m))))
+    held = right (eqb (subService m) 0x06) (not (isEmpty (keep isRetired (entriesOf m)))) h
+
     go : (u : Bool) → unanswered m ≡ u → (unanswered m ≡ false → ErrorAnswer (carriedOut t m .says)) × (carriedOut t m .after ≡ t)
-    go true e = simp (e, carriedOut) ((λ f. absurd (true-T {b = false} (sym f))), refl)
+    go true e = ((λ f. absurd (true-T {b = false} (sym f ∙ e))), ap (λ (s : Served). s .after) (not-answered t m e))
     go false e =
-        let error : ErrorAnswer (carriedOut t m .says) = simp (e, carriedOut) (service-error t m h) in
+        let error : ErrorAnswer (carriedOut t m .says) = subst (λ (s : Served). ErrorAnswer (s .says)) (sym (is-set-value t m e six)) (set-error t m held) in
         ((λ f. error), errors-change-nothing t m error)
 
 -- over calls: where the message handed up holds command 5, the tables stay
@@ -470,14 +436,8 @@ up-retired reset s t l h = absurd h
 up-retired (message m) s t l h = retired-refused t m h .1
 
 pub retired-call-refused : RetiredCallRefused
-retired-call-refused b v t k out h = go (eqb (refusal (HostByte b) v t k (length out)) 0) refl
-  where
-    moved : happens (HostByte b) v t (lineOf k) .tables ≡ t
-    moved = unfold happens onMoved in up-retired (onHostByte b (lineOf k) .up) _ t _ h
-
-    go : (u : Bool) → eqb (refusal (HostByte b) v t k (length out)) 0 ≡ u → call (HostByte b) v t k out .tables ≡ t
-    go true z = call-tables (HostByte b) v t k out (eqb-true (refusal (HostByte b) v t k (length out)) 0 z) ∙ moved
-    go false z = refused-tables (HostByte b) v t k out z
+retired-call-refused b v t k out h =
+    by-call (λ (t′ : Tables). t′ ≡ t) (HostByte b) v t k out (λ z. unfold happens onMoved in up-retired (onHostByte b (lineOf k) .up) _ t _ h) (λ z. refl)
 
 -- the first bad entry, behind good ones
 first-bad-at : (judge : SetEntry → ℕ) (before : List SetEntry) (e : SetEntry) (behind : List SetEntry) → T (every (λ o. eqb (judge o) 0) before) → judge e ≡ 8
@@ -487,30 +447,21 @@ first-bad-at judge [] e behind g z = rw z refl
 first-bad-at judge (o ∷ before) e behind g z =
     rw (T-true (eqb (judge o) 0) (left (eqb (judge o) 0) (every (λ x. eqb (judge x) 0) before) g)) (first-bad-at judge before e behind (right (eqb (judge o) 0) (every (λ x. eqb (judge x) 0) before) g) z)
 
-none-of-none : (n : ℕ) (s : List ℕ) → n ≡ 0 → isEmpty (setEntries firstDatapointEntry 4 n s) ≡ true
-unfolding setEntries
-none-of-none n s e = rw e refl
-
-some-in-front : (before : List SetEntry) (e : SetEntry) (behind : List SetEntry) → isEmpty (before ++ e ∷ behind) ≡ false
-some-in-front [] e behind = refl
-some-in-front (o ∷ before) e behind = refl
-
-set-carried-out : (t : Tables) (m : List ℕ) → unanswered m ≡ false → subService m ≡ 0x06 → carriedOut t m ≡ setDatapointValue t m
-unfolding carriedOut service
-set-carried-out t m a six = rw (a, six) refl
+some-in-front : (before : List SetEntry) (e : SetEntry) (behind : List SetEntry) → [] ≡ before ++ e ∷ behind → ⊥
+some-in-front [] e behind z = absurd (true-T {b = false} (ap isEmpty (sym z)))
+some-in-front (o ∷ before) e behind z = absurd (true-T {b = false} (ap isEmpty (sym z)))
 
 pub retired-code : RetiredCode
-retired-code t m before e behind a six f s g r p = ap (λ (x : Served). x .says) (set-carried-out t m a six) ∙ (unfold setDatapointValue setting served answerOf in rw finds refl)
+retired-code t m before e behind a six f s g r p = ap (λ (x : Served). x .says) (is-set-value t m a six ∙ bad-set-value t m finds)
   where
-    numbered : (u : Bool) → eqb (numberOf m) 0 ≡ u → eqb (numberOf m) 0 ≡ false
-    numbered false n = n
-    numbered true n = absurd (true-T {b = false} (sym (ap isEmpty s ∙ some-in-front before e behind) ∙ (unfold entriesOf in none-of-none (numberOf m) (drop 6 m) (eqb-true (numberOf m) 0 n))))
+    stated : numberOf m ≢ 0
+    stated z = some-in-front before e behind (sym (none-left firstDatapointEntry 4 (numberOf m) (drop 6 m) (omega (arith, z))) ∙ (unfold entriesOf in s))
 
     first : firstBad (judge t m) (entriesOf m) ≡ bad (e .id) 8
     first = ap (firstBad (judge t m)) s ∙ first-bad-at (judge t m) before e behind g (judged-retired (found datapointId (e .id) (t .datapoints)) e p r)
 
-    finds : setFinding 4 firstDatapointEntry (judge t m) m ≡ bad (e .id) 8
-    finds = unfold setFinding in rw (T-true (fills 4 (numberOf m) (drop 6 m)) f, numbered (eqb (numberOf m) 0) refl) (unfold entriesOf in first)
+    finds : setValueFinding t m ≡ bad (e .id) 8
+    finds = unfold setFinding in rw (T-true (fills 4 (numberOf m) (drop 6 m)) f, ne-eqb (numberOf m) 0 stated) (unfold entriesOf in first)
 
 pub status-stands : StatusStands
 status-stands =

@@ -122,15 +122,15 @@ noSendOrOutcome id (h ∷ hs) t k =
     || isEmpty (statusBy id (h .event) t (lineOf k)))
     && noSendOrOutcome id hs (c .tables) (c .link)
 
-unfoldable pub tablesAfter : List Happening → Tables → Link → Tables
-tablesAfter [] t k = t
-tablesAfter (h ∷ hs) t k =
+unfoldable pub tablesAfterAll : List Happening → Tables → Link → Tables
+tablesAfterAll [] t k = t
+tablesAfterAll (h ∷ hs) t k =
     let c = call (h .event) (h .value) t k (h .output) in
-    tablesAfter hs (c .tables) (c .link)
+    tablesAfterAll hs (c .tables) (c .link)
 
 abbrev pub StandsUntil : Type 0
 StandsUntil = (id : ℕ) (hs : List Happening) (t : Tables) (k : Link) → T (noSendOrOutcome id hs t k)
-    → statusAt id (tablesAfter hs t k) ≡ statusAt id t
+    → statusAt id (tablesAfterAll hs t k) ≡ statusAt id t
 
 -- ---- "A stored request that still holds command 5 is refused whole": no table changes, and an error answers it where
 -- it is answered at all
