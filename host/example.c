@@ -11,7 +11,9 @@ enum { /* times in microseconds */
     ACK_WAIT = TAGOBRELIN_MICROSECONDS(TAGOBRELIN_ACK_WAIT_BITS, BAUD)
 };
 
-static struct tagobrelin_datapoint datapoints[] = {{.id = 5, .typecode = 0, .state = 0x18, .value = {1}, .mark = 1}};
+static struct tagobrelin_datapoint datapoints[] = {
+    {.id = 5, .typecode = 0, .flags = 0x44, .state = 0x18, .value = {1}, .mark = 1}, /* 0x44: communicates, transmits */
+};
 static struct tagobrelin_item items[] = {{.id = 1, .size = 6, .bytes = {0x00, 0x00, 0xC5, 0x07, 0x00, 0x02}}};
 static uint8_t parameters[] = {0x2A};
 static struct tagobrelin_server server = {

@@ -55,6 +55,11 @@ fn datapoint(id: u16, typecode: u8, state: u8, value: &[u8]) -> Datapoint {
     Datapoint { id, typecode, flags: 0x57, dpt: 0x01, state, value: all, mark: 0 }
 }
 
+/// The same with these config flags.
+fn flagged(flags: u8, record: Datapoint) -> Datapoint {
+    Datapoint { flags, ..record }
+}
+
 fn item(id: u16, writable: bool, data: &[u8]) -> Item {
     let mut all = [0; 16];
     all[..data.len()].copy_from_slice(data);
@@ -86,6 +91,7 @@ fn step(server: &mut Server, event: &Event, value: &[u8], room: usize) -> Result
             );
             truth("the parts that no rule alters", unaltered_parts(&before, server));
             truth("a status stands, or is requested, or had its outcome", status_stands(event, &before, server));
+            truth("a value is asked for at an open datapoint alone", asks_stand(&before, server));
         }
     }
     result
@@ -107,12 +113,19 @@ fn unaltered_parts(before: &Server, after: &Server) -> bool {
 }
 
 /// (02) item 9: "a failed status 01 stands until the next send command or outcome"; so does every other.
+/// (02) item 2: "commands 2 and 3 need config bits 2 and 6".
 fn status_stands(event: &Event, before: &Server, after: &Server) -> bool {
     before.datapoints.iter().zip(&after.datapoints).all(|(was, is)| {
         let outcome = matches!(event, Event::TransmissionOutcome(id, _) if *id == was.id);
-        let requested = matches!(event, Event::HostByte(_)) && is.state % 4 == 3;
+        let sends = is.flags & 0x04 != 0 && is.flags & 0x40 != 0;
+        let requested = matches!(event, Event::HostByte(_)) && is.state % 4 == 3 && sends;
         is.state % 4 == was.state % 4 || requested || outcome
     })
+}
+
+/// (02) item 2: "command 4 needs bit 2".
+fn asks_stand(before: &Server, after: &Server) -> bool {
+    before.datapoints.iter().zip(&after.datapoints).all(|(was, is)| is.state & 4 <= was.state & 4 || is.flags & 4 != 0)
 }
 
 fn event(server: &mut Server, event: Event) -> Vec<u8> {
@@ -256,17 +269,17 @@ fn examples_of_01() {
     server.link.expected = 0;
     let sent = feed_whole(&mut server, &hex("68 07 07 68 53 F0 01 00 01 00 01 46 16"));
     same("example 2, even, send bit odd", sent, join(&[&[0xE5], &hex(ITEM_1_ANSWER)]));
-    // 3
+    // 3; (02) item 2: "Case 3 of document 01 has both bits set from now on."
     let mut server = empty_server();
-    server.datapoints.push(datapoint(5, 0, 0x00, &[0]));
+    server.datapoints.push(flagged(0x44, datapoint(5, 0, 0x00, &[0])));
     let sent = feed_whole(&mut server, &framed(0x73, &hex("F0 06 00 05 00 01 00 05 03 01 01")));
     same("example 3, answer", sent, hex("E5 68 08 08 68 F3 F0 86 00 05 00 00 00 6E 16"));
-    same("example 3, table", server.datapoints, vec![datapoint(5, 0, 0x13, &[1])]);
-    // 4
+    same("example 3, table", server.datapoints, vec![flagged(0x44, datapoint(5, 0, 0x13, &[1]))]);
+    // 4, "the same with value 02"
     let mut server = empty_server();
-    server.datapoints.push(datapoint(5, 0, 0x00, &[0]));
+    server.datapoints.push(flagged(0x44, datapoint(5, 0, 0x00, &[0])));
     is_error("example 4", &mut server, &hex("F0 06 00 05 00 01 00 05 03 01 02"), 5, 8);
-    same("example 4, unaltered", server.datapoints, vec![datapoint(5, 0, 0x00, &[0])]);
+    same("example 4, unaltered", server.datapoints, vec![flagged(0x44, datapoint(5, 0, 0x00, &[0]))]);
     // 5
     let mut server = empty_server();
     for id in 1..=50 {
@@ -380,7 +393,7 @@ fn exchange_of_000() {
 
 // ------------------------------------------------------------------------------------------------- the rows of the table
 
-/// Items 1 (not writable), 2 and 4; datapoints 10 to 24 of types 0 to 14, and 30; six parameter bytes.
+/// Items 1 (not writable), 2 and 4; datapoints 10 to 24 of types 0 to 14, all closed, and 30; six parameter bytes.
 fn small_server() -> Server {
     let mut server = empty_server();
     server.items = vec![item(1, false, &[1, 2, 3]), item(2, true, &[4]), item(4, true, &[9; 16])];
@@ -389,12 +402,19 @@ fn small_server() -> Server {
         for place in 0..SIZES[usize::from(typecode)] {
             value[place] = 1;
         }
-        let mut record = datapoint(10 + u16::from(typecode), typecode, typecode, &value);
-        record.flags = 0;
-        server.datapoints.push(record);
+        server.datapoints.push(flagged(0, datapoint(10 + u16::from(typecode), typecode, typecode, &value)));
     }
     server.datapoints.push(datapoint(30, 7, 0x1F, &[0xAB]));
     server.parameters = vec![11, 12, 13, 14, 15, 16];
+    server
+}
+
+/// The same, but that each datapoint takes each command.
+fn small_open_server() -> Server {
+    let mut server = small_server();
+    for record in &mut server.datapoints {
+        record.flags |= 0x44;
+    }
     server
 }
 
@@ -470,7 +490,7 @@ fn rows_5_10_6() {
         }
     }
     let good_items = set_items(2, &[(2, &[7]), (4, &[8; 16])]);
-    let good_values = set_values(10, &[(17, 1, &[7]), (24, 1, &[8; 14]), (17, 4, &[])]);
+    let good_values = set_values(10, &[(17, 1, &[7]), (24, 1, &[8; 14]), (17, 0, &[])]);
     for (good, entries) in [(&good_items, 2_u16), (&good_values, 3)] {
         // Every beginning of it, with every number near the right one, is 10 (or 6 for an empty one with number 0).
         for end in 6..=good.len() {
@@ -538,7 +558,7 @@ fn rows_7_to_8() {
     same("item set", server.items, vec![item(1, false, &[1, 2, 3]), item(2, true, &[0xFE]), item(4, true, &[6; 16])]);
 
     // Datapoints: 7, 8 (command), 9, 8 (value).
-    let mut server = small_server();
+    let mut server = small_open_server();
     is_error("7, datapoint", &mut server, &set_values(9, &[(9, 1, &[1])]), 9, 7);
     is_error("7, datapoint 0", &mut server, &set_values(9, &[(0, 1, &[1])]), 0, 7);
     is_error("7 before 8 and 9", &mut server, &set_values(9, &[(25, 0xFF, &[1; 9])]), 25, 7);
@@ -595,7 +615,7 @@ fn commands() {
                     let mut server = empty_server();
                     server.datapoints = vec![datapoint(1, 8, state, &[1, 2]), datapoint(2, 8, state, &[1, 2])];
                     server.datapoints[0].mark = mark;
-                    server.datapoints[0].flags = state.wrapping_mul(37);
+                    server.datapoints[0].flags = state.wrapping_mul(37) | 0x44;
                     let before = server.datapoints.clone();
                     let value: &[u8] = if with_value { &[0xA5, 0x5A] } else { &[] };
                     let answer = ask(&mut server, &set_values(77, &[(1, command, value)]));
@@ -652,6 +672,103 @@ fn retired_command() {
         is_error("5 behind a bad length", &mut server, &set_values(1, &[(2, 1, &[8]), (1, 5, &[])]), 2, 9);
         is_error("5 before an absent ID", &mut server, &set_values(1, &[(1, 5, &[]), (4, 1, &[1])]), 1, 8);
         is_error("10 before 5", &mut server, &join(&[&set_values(1, &[(1, 5, &[])]), &[0]]), 1, 10);
+    }
+}
+
+/// (02) item 2. "commands 2 and 3 need config bits 2 and 6, command 4 needs bit 2; others as before."; "a command whose
+/// needed bits are off gives code 8, placed with the command check, before code 9."
+fn closed_datapoints() {
+    for flags in 0..=0xFF_u8 {
+        let (open, transmits) = (flags / 4 % 2 == 1, flags / 64 % 2 == 1);
+        let mut server = empty_server();
+        server.datapoints = vec![
+            datapoint(1, 7, 0x08, &[7]),
+            flagged(flags, datapoint(2, 8, 0x08, &[1, 2])),
+            flagged(flags, datapoint(3, 0, 0x08, &[1])),
+        ];
+        for command in (0..=6).chain([0x12, 0x42, 0x83, 0xFF]) {
+            let taken = match command {
+                0 | 1 => true,
+                2 | 3 => open && transmits,
+                4 => open,
+                _ => false,
+            };
+            let needs_value = command == 1 || command == 3;
+            for length in [0, 1, 2, 3, 14, 200] {
+                let message = set_values(9, &[(2, command, &vec![5; length])]);
+                if !taken {
+                    is_error("bits off, before 9", &mut server, &message, 2, 8);
+                } else if length == 2 || (length == 0 && !needs_value) {
+                    let mut after = server.clone();
+                    same("taken", ask(&mut after, &message), Some(hex("F0 86 00 09 00 00 00")));
+                    let state = [0x08, 0x18, 0x0B, 0x1B, 0x0C][usize::from(command)];
+                    let value: &[u8] = if needs_value { &[5, 5] } else { &[1, 2] };
+                    let mut want = server.datapoints.clone();
+                    want[1] = flagged(flags, datapoint(2, 8, state, value));
+                    same("what it leaves", after.datapoints, want);
+                } else {
+                    is_error("taken, 9", &mut server, &message, 2, 9);
+                }
+            }
+            is_error("unused bits", &mut server, &set_values(9, &[(3, command, &[2])]), 3, 8);
+            is_error("7 before bits", &mut server, &set_values(9, &[(4, command, &[5])]), 4, 7);
+            if taken {
+                continue;
+            }
+            let bad: (u16, u8, &[u8]) = (2, command, &[]);
+            is_error("bits off first", &mut server, &set_values(9, &[bad, (1, 3, &[8]), (3, 1, &[0])]), 2, 8);
+            is_error("bits off last", &mut server, &set_values(9, &[(1, 3, &[8]), (2, 1, &[5, 5]), bad]), 2, 8);
+            is_error("bits off behind an absent ID", &mut server, &set_values(9, &[(4, 1, &[5]), bad]), 4, 7);
+            is_error("bits off before an absent ID", &mut server, &set_values(9, &[bad, (4, 1, &[5])]), 2, 8);
+            is_error("bits off behind a bad length", &mut server, &set_values(9, &[(1, 1, &[]), bad]), 1, 9);
+            is_error("10 before bits", &mut server, &join(&[&set_values(9, &[bad]), &[0]]), 9, 10);
+        }
+    }
+}
+
+/// (02) item 2. "Gets and bus events treat the last two alike." So do polls, and commands 0 and 1.
+fn closed_and_open_alike() {
+    for flags in 0..=0xFF_u8 {
+        let all_with = |flags: u8, server: &Server| {
+            let mut server = server.clone();
+            for record in &mut server.datapoints {
+                record.flags = flags;
+            }
+            server
+        };
+        let alike = |what: &str, open: &Server, other: &Server| same(what, other, &all_with(flags, open));
+        let mut open = all_with(0x44, &small_server());
+        let mut other = all_with(flags, &small_server());
+        for (event, value) in [
+            (Event::BusValue(10), &[1][..]),
+            (Event::BusValue(18), &[1, 2]),
+            (Event::BusValue(18), &[1]),
+            (Event::BusValue(11), &[4]),
+            (Event::BusValue(25), &[4]),
+            (Event::TransmissionOutcome(10, Outcome::Sent), &[]),
+            (Event::TransmissionOutcome(17, Outcome::Failed), &[]),
+            (Event::TransmissionOutcome(18, Outcome::InProgress), &[]),
+            (Event::TransmissionOutcome(25, Outcome::Sent), &[]),
+            (Event::Poll, &[]),
+            (Event::AckWaitOver, &[]),
+            (Event::HostByte(0xE5), &[]),
+        ] {
+            let answers = (step(&mut open, &event, value, 262), step(&mut other, &event, value, 262));
+            same("the same answer", answers.0, answers.1);
+            alike("an event", &open, &other);
+        }
+        for filter in 0..=2 {
+            let message = get_values(10, 14, filter);
+            same("a get", ask(&mut open, &message), ask(&mut other, &message));
+            alike("a get", &open, &other);
+        }
+        for command in 0..=1 {
+            let message = set_values(10, &[(10, command, &[0]), (18, command, &[5, 6])]);
+            same("a set", ask(&mut open, &message), ask(&mut other, &message));
+            alike("a set", &open, &other);
+        }
+        let description = ask(&mut other, &get(3, 17, 1));
+        same("a description", description, Some(join(&[&hex("F0 83 00 11 00 01 00 11 07"), &[flags, 0x01]])));
     }
 }
 
@@ -1663,7 +1780,8 @@ fn random_server(numbers: &mut Numbers) -> Server {
         if typecode < 7 {
             value[0] %= 2 << typecode;
         }
-        let mut record = datapoint(id, typecode, numbers.below(32) as u8, &value);
+        let flags = [0x00, 0x04, 0x40, 0x44, numbers.byte()][numbers.below(5) as usize];
+        let mut record = flagged(flags, datapoint(id, typecode, numbers.below(32) as u8, &value));
         record.mark = numbers.below(2) as u8;
         server.datapoints.push(record);
     }
@@ -1710,7 +1828,11 @@ fn random_message(numbers: &mut Numbers, server: &Server) -> Vec<u8> {
                 if numbers.below(4) == 0 && message.len() < 200 {
                     let size = SIZES[usize::from(record.typecode)] as u64;
                     let length = [size, size, size, size, 0, numbers.below(15)][numbers.below(6) as usize];
-                    let command = if numbers.below(30) == 0 { 5 } else { numbers.below(5) as u8 };
+                    let mut command = if numbers.below(30) == 0 { 5 } else { numbers.below(5) as u8 };
+                    // Mostly one that needs no bit, where not both are on.
+                    if record.flags & 0x44 != 0x44 && numbers.below(10) > 0 {
+                        command %= 2;
+                    }
                     message.extend_from_slice(&[0, record.id as u8, command, length as u8]);
                     message.extend((0..length).map(|_| numbers.byte() % 4));
                     count += 1;
@@ -1848,7 +1970,7 @@ fn any_fields_at_random() {
 }
 
 fn main() {
-    let parts: [(&str, fn()); 22] = [
+    let parts: [(&str, fn()); 24] = [
         ("examples of 01", examples_of_01),
         ("exchange of 000", exchange_of_000),
         ("messages without answer", messages_without_answer),
@@ -1856,6 +1978,8 @@ fn main() {
         ("rows 7 to 8", rows_7_to_8),
         ("commands", commands),
         ("the retired command", retired_command),
+        ("closed datapoints", closed_datapoints),
+        ("closed and open alike", closed_and_open_alike),
         ("a failed status", failed_status),
         ("gets", gets),
         ("limits 254 and 255", limits_254_and_255),

@@ -134,8 +134,28 @@ fn all_zero(bytes: &[u8]) -> bool {
     bytes.iter().all(|byte| *byte == 0)
 }
 
+/// (02) item 2: "Looking up an ID has three findings from now on: absent, present but closed (bit 2 off), present and
+/// open, and each service says which it treats alike." With its place in the table, where it is present.
+enum Finding {
+    Absent,
+    Closed(usize),
+    Open(usize),
+}
+
+fn look_up_datapoint(datapoints: &[Datapoint], id: u16) -> Finding {
+    match datapoints.iter().position(|datapoint| datapoint.id == id) {
+        None => Finding::Absent,
+        Some(at) if datapoints[at].flags & 0b0000_0100 == 0 => Finding::Closed(at),
+        Some(at) => Finding::Open(at),
+    }
+}
+
+/// (02) item 2: "Gets and bus events treat the last two alike." So do a poll, and an entry once it is checked.
 fn find_datapoint(datapoints: &[Datapoint], id: u16) -> Option<usize> {
-    datapoints.iter().position(|datapoint| datapoint.id == id)
+    match look_up_datapoint(datapoints, id) {
+        Finding::Absent => None,
+        Finding::Closed(at) | Finding::Open(at) => Some(at),
+    }
 }
 
 fn find_item(items: &[Item], id: u16) -> Option<usize> {
@@ -811,14 +831,25 @@ fn cut_datapoint_entries(message: &[u8], number: u16) -> Option<Vec<DatapointEnt
 
 /// Rows 7, 8, 9 and 8 for one entry.
 fn check_datapoint_entry(datapoints: &[Datapoint], entry: &DatapointEntry) -> Result<(), Bad> {
-    // "7 | set entry: ID absent | that entry's"
-    let Some(at) = find_datapoint(datapoints, entry.id) else {
-        return Err((entry.id, 7));
+    let (at, open) = match look_up_datapoint(datapoints, entry.id) {
+        // "7 | set entry: ID absent | that entry's"
+        Finding::Absent => return Err((entry.id, 7)),
+        Finding::Closed(at) => (at, false),
+        Finding::Open(at) => (at, true),
     };
     let typecode = datapoints[at].typecode;
     // "8 | datapoint entry: command above 5, reserved bits included | that entry's"
     // (02) item 9: "command 5 gives code 8, at the command check."
-    if entry.command >= 5 {
+    // (02) item 2: "commands 2 and 3 need config bits 2 and 6, command 4 needs bit 2; others as before."; "a command
+    // whose needed bits are off gives code 8, placed with the command check, before code 9."
+    let transmits = datapoints[at].flags & 0b0100_0000 != 0;
+    let taken = match entry.command {
+        0 | 1 => true,
+        2 | 3 => open && transmits,
+        4 => open,
+        _ => false,
+    };
+    if !taken {
         return Err((entry.id, 8));
     }
     // "9 | [...] datapoint length neither 0 nor the type's; or 0 with command 1 or 3 | that entry's"
@@ -837,8 +868,8 @@ fn check_datapoint_entry(datapoints: &[Datapoint], entry: &DatapointEntry) -> Re
     Ok(())
 }
 
-/// (01) "Commands: 0 nothing; 1 value, bit 4 set; 2 status 11; 3 both; 4 bit 2 set; [...]. The commands do not look at
-/// config flags."
+/// (01) "Commands: 0 nothing; 1 value, bit 4 set; 2 status 11; 3 both; 4 bit 2 set; [...]." (02) item 2 has the config
+/// flags looked at where the entry is checked.
 /// (R) "Command 4 sets bit 2 and leaves the status; commands 2 and 3 set the status and leave bit 2"; "Commands 1 and 3 leave
 /// bits 3 and 2 and the mark."
 fn apply_datapoint_entry(datapoint: &mut Datapoint, entry: &DatapointEntry) {

@@ -42,7 +42,8 @@ void make_tables(size_t datapoints, size_t items)
         /* every third has a longer value */
         d->typecode = (uint8_t)(i % 3 == 2 ? 8 + random_below(7) : random_below(8));
         d->state = (uint8_t)random_below(32);
-        d->flags = (uint8_t)random_below(256);
+        /* with bits 2 and 6, which the sets' command needs */
+        d->flags = (uint8_t)(random_below(256) | 0x44);
         d->dpt = (uint8_t)random_below(256);
         random_value(d->typecode, d->value);
     }

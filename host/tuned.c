@@ -429,6 +429,9 @@ static size_t get_parameters(const uint8_t *parameters, size_t n, const uint8_t 
 /* by command: what is set in the state */
 static const uint8_t state_set[5] = {0, 0x10, 0x03, 0x13, 0x04};
 
+/* by command: the config flags that it needs; one above 4 needs a bit that no flags have */
+static const uint16_t flags_needed[256] = {0, 0, 0x44, 0x44, 0x04, [5 ... 255] = 0x100};
+
 static size_t set_datapoints(datapoint *table, size_t n, const uint8_t *m, size_t m_size, uint8_t *f)
 {
     struct {
@@ -450,7 +453,7 @@ static size_t set_datapoints(datapoint *table, size_t n, const uint8_t *m, size_
         size_t place = datapoint_place(table, n, id);
         if (RARELY(place == n) || RARELY(table[place].id != id))
             code = 7;
-        else if (RARELY(command > 4))
+        else if (RARELY(flags_needed[command] & ~table[place].flags))
             code = 8;
         else if (size == 0)
             code = command == 1 || command == 3 ? 9 : 0;

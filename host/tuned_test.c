@@ -88,8 +88,15 @@ static void random_value(uint8_t typecode, uint8_t *value)
         value[0] &= (uint8_t)((2 << typecode) - 1);
 }
 
+/* whether a datapoint with these config flags takes the command */
+static bool takes(uint8_t flags, uint8_t command)
+{
+    return command < 2 || (command < 4 && (flags & 0x44) == 0x44) || (command == 4 && (flags & 0x04) != 0);
+}
+
 static void new_world(void)
 {
+    static const uint8_t flags[] = {0x00, 0x04, 0x40, 0x44};
     static const size_t sizes[] = {0, 1, 2, 3, 5, 10, 33, 63, 64, 65, 100, 255, 256, 400, 511, 512, 513, 999, 1000};
     uint32_t id = 0, dense = one_in(2);
     memset(&ours, 0, sizeof ours);
@@ -98,6 +105,7 @@ static void new_world(void)
     parameter_count = one_in(3) ? 255 : random_below(256);
     room = TAGOBRELIN_ROOM + random_below(OUT - TAGOBRELIN_ROOM + 1);
     uint32_t few = one_in(2) ? 8 : 15;
+    uint8_t open = one_in(2) ? 0x44 : 0; /* in every other world all take each command */
     for (size_t i = 0; i < datapoint_count; i++) {
         struct tagobrelin_datapoint *d = &ours.datapoints[i];
         id += dense ? 1 : 1 + random_below((uint32_t)(65535 - 1000 - id) / (uint32_t)(datapoint_count + 1 - i) + 1);
@@ -105,7 +113,7 @@ static void new_world(void)
         if (i == datapoint_count - 1 && one_in(4))
             d->id = 65535;
         d->typecode = (uint8_t)random_below(few);
-        d->flags = (uint8_t)random_below(256);
+        d->flags = (uint8_t)(open | (one_in(5) ? random_below(256) : flags[random_below(4)]));
         d->dpt = (uint8_t)random_below(256);
         d->state = (uint8_t)random_below(32);
         random_value(d->typecode, d->value);
@@ -169,6 +177,9 @@ static size_t random_message(uint8_t *m)
                 uint32_t i = datapoint_count ? random_below((uint32_t)datapoint_count) : 0;
                 id = one_in(60) ? some_id() : ours.datapoints[i].id;
                 entry[2] = (uint8_t)(one_in(80) ? random_below(256) : one_in(60) ? 5 : random_below(5));
+                /* one that needs flags which are off hides what stands beside it, so these are few */
+                if (entry[2] < 5 && !takes(ours.datapoints[i].flags, entry[2]) && random_below(10))
+                    entry[2] &= 1;
                 typecode = ours.datapoints[i].typecode;
                 count = one_in(60) ? random_below(18) : size_of[typecode];
                 if (one_in(8) && entry[2] != 1 && entry[2] != 3)

@@ -25,9 +25,9 @@
  * what a host is answered may change in a minor version: header and archive are always taken together. CHANGELOG.md
  * tells what changed. */
 #define TAGOBRELIN_VERSION_MAJOR 1
-#define TAGOBRELIN_VERSION_MINOR 1
+#define TAGOBRELIN_VERSION_MINOR 2
 #define TAGOBRELIN_VERSION_PATCH 0
-#define TAGOBRELIN_VERSION "1.1.0"
+#define TAGOBRELIN_VERSION "1.2.0"
 
 #ifdef __cplusplus
 extern "C" {
@@ -37,7 +37,7 @@ extern "C" {
 struct tagobrelin_datapoint {
     uint16_t id;
     uint8_t typecode;  /* 0 to 14: 1 to 7 bits, then 1, 2, 3, 4, 6, 8, 10 and 14 bytes */
-    uint8_t flags;     /* config flags: any byte */
+    uint8_t flags;     /* config flags: any byte. A host's commands 2 and 3 need bits 2 and 6 (0x44), command 4 bit 2 */
     uint8_t dpt;       /* datapoint type: any byte */
     uint8_t state;     /* bit 4 valid, 3 updated from bus, 2 data request, 1-0 transmission status; bits 7 to 5 are 0 */
     uint8_t value[14]; /* big-endian, from the first byte on; bits and bytes beyond the type's size are 0 */

@@ -12,7 +12,7 @@ pub fn lists() -> Vec<(&'static str, Vec<&'static str>)> {
     vec![(NAME, EVERY.iter().map(|(label, _)| *label).collect())]
 }
 
-const EVERY: [(&str, fn(&mut Bench)); 21] = [
+const EVERY: [(&str, fn(&mut Bench)); 22] = [
     ("room 0 to 263, each event", rooms),
     ("event 0 to 255, outcome 0 to 255", events),
     ("host byte at each place of a frame", bytes_in_frames),
@@ -27,6 +27,7 @@ const EVERY: [(&str, fn(&mut Bench)); 21] = [
     ("value of 1 to 7 bits, each command", narrow_values),
     ("bus value of 1 to 7 bits; each length up to 16", bus_values),
     ("state byte, each event and command", states),
+    ("config flags, each event and command", config_flags),
     ("start and number around the IDs of a table", ranges),
     ("start and number around 65535", ranges_at_the_end),
     ("number of entries", entry_counts),
@@ -47,14 +48,14 @@ pub fn episode(bench: &mut Bench) {
     }
 }
 
-/// A datapoint of each type, an item of each length, twenty parameter bytes.
+/// A datapoint of each type, which takes each command, an item of each length, twenty parameter bytes.
 fn small(bench: &mut Bench) -> Server {
     let random = &mut bench.random;
     let datapoints = (0..15)
         .map(|typecode| {
             let mut value = [0; 14];
             value[..SIZES[usize::from(typecode)]].copy_from_slice(&tables::value(random, typecode));
-            let (flags, dpt, state) = (random.byte(), random.byte(), random.byte() & 0x1F);
+            let (flags, dpt, state) = (random.byte() | 0x44, random.byte(), random.byte() & 0x1F);
             Datapoint { id: 10 + u16::from(typecode) * 3, typecode, flags, dpt, state, value, mark: random.bit() }
         })
         .collect();
@@ -341,6 +342,53 @@ fn states(bench: &mut Bench) {
         let _ = once(bench, &before, Call { event: 4, byte: 0, id: 0, outcome: 0, value: Vec::new(), room: 262 });
         for filter in 0..=2 {
             let _ = ask(bench, &before, &[0xF0, 5, 0, 31, 0, 1, filter]);
+        }
+    }
+}
+
+fn config_flags(bench: &mut Bench) {
+    let mut before = bench.server.clone();
+    for flags in 0..=255 {
+        for datapoint in &mut before.datapoints {
+            datapoint.flags = flags;
+            datapoint.mark = 1;
+        }
+        before.link = frames::fresh();
+        // of one bit, one byte, two bytes
+        for (id, size) in [(10, 1), (31, 1), (34, 2)] {
+            for command in (0..=6).chain([0x12, 0x82, 0xFF]) {
+                for length in 0..=3 {
+                    let mut message = vec![0xF0, 6, 0, 1, 0, 1, 0, id, command, length];
+                    message.extend(vec![1; usize::from(length)]);
+                    let answer = ask(bench, &before, &message);
+                    let fits = length == size || (length == 0 && command != 1 && command != 3);
+                    let code = match (tables::takes(flags, command), fits) {
+                        (false, _) => 8,
+                        (true, false) => 9,
+                        (true, true) => 0,
+                    };
+                    if !answer.as_ref().is_ok_and(|sent| sent.len() == 15 && sent[12] == code) {
+                        bench.missed("commands 2 and 3 need bits 2 and 6, command 4 needs bit 2", &answer);
+                    }
+                }
+            }
+            let call = |event: u8, outcome: u8| Call {
+                event,
+                byte: 0,
+                id: u16::from(id),
+                outcome,
+                value: vec![1; usize::from(size)],
+                room: 262,
+            };
+            for (event, outcome) in [(4, 0), (5, 0), (6, 0), (6, 1), (6, 2)] {
+                let answer = once(bench, &before, call(event, outcome));
+                if answer.is_err() {
+                    bench.missed("bus events and polls do not look at config flags", &answer);
+                }
+            }
+            for message in [&[0xF0, 3, 0, id, 0, 1][..], &[0xF0, 5, 0, id, 0, 1, 0]] {
+                let _ = ask(bench, &before, message);
+            }
         }
     }
 }

@@ -2,7 +2,7 @@
 
 use crate::plain::{Datapoint, Server};
 use crate::random::Random;
-use crate::tables::{absent_datapoint, absent_item, used_bits, value, SIZES};
+use crate::tables::{absent_datapoint, absent_item, found, takes, used_bits, value, SIZES};
 
 /// A message and what is to come of it: an answer of this code and ID (code 0: a positive one), none, or anything.
 pub struct Request {
@@ -75,6 +75,16 @@ pub const AIMS: &[&str] = &[
     "set value: 8, command 5 last",
     "set value: 7, command 5 behind an absent ID",
     "set value: 8, command 5 with a bad length",
+    "set value: 8, bits off, the first entry",
+    "set value: 8, bits off, a later entry",
+    "set value: 8, bits off, a bad length",
+    "set value: 8, bits off, no value with command 3",
+    "set value: 8, bits off, an absent ID behind it",
+    "set value: 8, bits off, the same ID taken before",
+    "set value: 7, bits off behind an absent ID",
+    "set value: 7, a command that needs bits",
+    "set value: 9, bits off behind a bad length",
+    "set value: answered, commands 0 and 1 at closed ones",
     "set value: 8, command 6 to 15",
     "set value: 8, reserved bits",
     "set value: 8 (command) before 9",
@@ -640,27 +650,34 @@ fn set_values(random: &mut Random, server: &Server) -> Option<Request> {
         let set = Set { sub: 6, start: id, entries: vec![Entry { id, command: random.byte(), value: Vec::new() }] };
         return set.made("set: 7, the first entry", 7, id);
     }
+    // by command, the datapoints that take it
+    let takers: Vec<Vec<&Datapoint>> =
+        (0..5).map(|command| datapoints.iter().filter(|datapoint| takes(datapoint.flags, command)).collect()).collect();
+    let taken = |random: &mut Random| {
+        let any = random.below(5);
+        let command = if takers[any].is_empty() { random.below(2) } else { any };
+        (random.pick(&takers[command]), command as u8)
+    };
     let good = |random: &mut Random| {
-        let datapoint = &datapoints[random.below(datapoints.len())];
-        let command = random.below(5) as u8;
+        let (datapoint, command) = taken(random);
         let empty = command != 1 && command != 3 && random.coin();
         let value = if empty { Vec::new() } else { value(random, datapoint.typecode) };
         Some(Entry { id: datapoint.id, command, value })
     };
     let mut set = some_good(random, 6, good)?;
     let start = set.start;
-    let datapoint = &datapoints[random.below(datapoints.len())];
+    let (datapoint, command) = taken(random);
     let size = SIZES[usize::from(datapoint.typecode)];
     let unused = !used_bits(datapoint.typecode);
-    let mut bad = Entry { id: datapoint.id, command: random.below(5) as u8, value: value(random, datapoint.typecode) };
-    match random.below(28) {
+    let mut bad = Entry { id: datapoint.id, command, value: value(random, datapoint.typecode) };
+    match random.below(36) {
         0..=3 => return set.sized_wrong(random),
         4 => return Set { sub: 6, start, entries: Vec::new() }.filled(random, good),
         5 | 6 => {
-            let typecode = datapoints.iter().find(|datapoint| datapoint.id == set.entries[0].id)?.typecode;
-            let again =
-                Entry { id: set.entries[0].id, command: random.pick(&[1, 3, 2, 4, 0]), value: value(random, typecode) };
-            set.entries.push(again);
+            let first = found(datapoints, set.entries[0].id)?;
+            let commands: Vec<u8> = (0..5).filter(|command| takes(first.flags, *command)).collect();
+            let command = random.pick(&commands);
+            set.entries.push(Entry { id: first.id, command, value: value(random, first.typecode) });
             return set.made("set: answered, an ID twice", 0, start);
         }
         7 | 8 => {
@@ -696,7 +713,7 @@ fn set_values(random: &mut Random, server: &Server) -> Option<Request> {
         }
         16 => {
             bad.value.clear();
-            bad.command = random.pick(&[1, 3]);
+            bad.command = if takes(datapoint.flags, 3) && random.coin() { 3 } else { 1 };
             let aim = if bad.command == 1 {
                 "set value: 9, no value with command 1"
             } else {
@@ -738,6 +755,7 @@ fn set_values(random: &mut Random, server: &Server) -> Option<Request> {
             return set.made("set: two bad entries, the first decides", 8, id);
         }
         22..=25 => return retired(random, datapoints, set, bad),
+        26..=31 => return bits_off(random, datapoints, set),
         _ => {}
     }
     let aim = if set.entries.len() == 1 { "set: answered, one entry" } else { "set: answered, several entries" };
@@ -772,6 +790,81 @@ fn retired(random: &mut Random, datapoints: &[Datapoint], mut set: Set, mut bad:
             bad.value = random.bytes(if length == size { 17 } else { length });
             let aim = "set value: 8, command 5 with a bad length";
             set.spoiled(random, (aim, aim), 8, bad)
+        }
+    }
+}
+
+/// A command whose needed config flags are off, among other entries; and those that need none.
+fn bits_off(random: &mut Random, datapoints: &[Datapoint], mut set: Set) -> Option<Request> {
+    let command = random.between(2, 4) as u8;
+    let off: Vec<&Datapoint> = datapoints.iter().filter(|datapoint| !takes(datapoint.flags, command)).collect();
+    if off.is_empty() {
+        return None;
+    }
+    let Datapoint { id, typecode, .. } = *random.pick(&off);
+    let with = |command: u8, value: Vec<u8>| Entry { id, command, value };
+    let some = value(random, typecode);
+    let mut bad = with(command, some.clone());
+    if command != 3 && random.coin() {
+        bad.value.clear();
+    }
+    match random.below(9) {
+        0 | 1 => {
+            let aims = ("set value: 8, bits off, the first entry", "set value: 8, bits off, a later entry");
+            set.spoiled(random, aims, 8, bad)
+        }
+        2 => {
+            let length = random.between(1, 16);
+            bad.value = random.bytes(if length == some.len() { 17 } else { length });
+            let aim = "set value: 8, bits off, a bad length";
+            set.spoiled(random, (aim, aim), 8, bad)
+        }
+        3 => {
+            let aim = "set value: 8, bits off, no value with command 3";
+            set.spoiled(random, (aim, aim), 8, with(3, Vec::new()))
+        }
+        4 => {
+            set.entries.push(bad);
+            set.entries.push(Entry { id: absent_datapoint(random, datapoints)?, command, value: Vec::new() });
+            set.made("set value: 8, bits off, an absent ID behind it", 8, id)
+        }
+        5 => {
+            set.entries.insert(0, with(1, some));
+            set.entries.push(bad);
+            set.made("set value: 8, bits off, the same ID taken before", 8, id)
+        }
+        6 => {
+            let absent = absent_datapoint(random, datapoints)?;
+            let behind = random.coin();
+            set.entries.push(Entry { id: absent, command, value: some });
+            if behind {
+                set.entries.push(bad);
+            }
+            let aim = if behind {
+                "set value: 7, bits off behind an absent ID"
+            } else {
+                "set value: 7, a command that needs bits"
+            };
+            set.made(aim, 7, absent)
+        }
+        7 => {
+            set.entries.push(with(1, vec![0; some.len() + 1]));
+            set.entries.push(bad);
+            set.made("set value: 9, bits off behind a bad length", 9, id)
+        }
+        _ => {
+            let closed: Vec<&Datapoint> = datapoints.iter().filter(|datapoint| datapoint.flags & 0x04 == 0).collect();
+            if closed.is_empty() {
+                return None;
+            }
+            let start = set.start;
+            set.entries = (0..random.between(1, 5))
+                .map(|_| {
+                    let datapoint = random.pick(&closed);
+                    Entry { id: datapoint.id, command: random.bit(), value: value(random, datapoint.typecode) }
+                })
+                .collect();
+            set.made("set value: answered, commands 0 and 1 at closed ones", 0, start)
         }
     }
 }

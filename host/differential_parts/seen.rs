@@ -5,12 +5,13 @@ use crate::counts::{Counts, Matrix};
 use crate::lent::Call;
 use crate::plain::{Link, Server};
 use crate::requests;
-use crate::tables::{type_of, SIZES};
+use crate::tables::{found, takes, type_of, used_bits, SIZES};
 
 // The matrices, and their rows.
 pub const ERRORS: usize = 0;
 pub const TYPES: usize = 1;
 pub const COMMANDS: usize = 2;
+const FLAGS: usize = 3;
 
 pub const BUS_TAKEN: usize = 0;
 pub const BUS_LENGTH: usize = 1;
@@ -23,6 +24,15 @@ const SET_BITS: usize = 7;
 const ANSWERED: usize = 8;
 const INDICATED: usize = 9;
 
+// commands 0 to 4 carried out are rows 0 to 4
+const FLAGS_OFF: usize = 5;
+const FLAGS_LENGTH: usize = 10;
+const FLAGS_BUS_VALUE: usize = 11;
+const FLAGS_OUTCOME: usize = 12;
+const FLAGS_ANSWERED: usize = 13;
+const FLAGS_INDICATED: usize = 14;
+const FLAGS_DESCRIBED: usize = 15;
+
 const SERVICES: [&str; 7] = ["other", "01", "02", "03", "05", "06", "07"];
 
 pub fn matrices() -> Vec<Matrix> {
@@ -30,6 +40,11 @@ pub fn matrices() -> Vec<Matrix> {
     let sets = &[2, 5];
     let six = &[1, 2, 3, 4, 5, 6];
     let all_types: Vec<usize> = (0..15).collect();
+    // by bits 2 and 6 alone, then with other bits set too
+    let flags = ["00", "04", "40", "44", "00+", "04+", "40+", "44+"];
+    let all_flags = &[0, 1, 2, 3, 4, 5, 6, 7];
+    let (both_on, not_both_on) = (&[3, 7], &[0, 1, 2, 4, 5, 6]);
+    let (open, closed) = (&[1, 3, 5, 7], &[0, 2, 4, 6]);
     let type_names = ["0", "1", "2", "3", "4", "5", "6", "7", "8", "9", "10", "11", "12", "13", "14"];
     vec![
         Matrix::new(
@@ -43,6 +58,7 @@ pub fn matrices() -> Vec<Matrix> {
                 ("7: ID absent", sets),
                 ("4: not writable", &[2]),
                 ("8: command", &[5]),
+                ("8: config flags", &[5]),
                 ("9: length", sets),
                 ("8: unused bits", &[5]),
                 ("2: nothing to return", gets),
@@ -78,6 +94,28 @@ pub fn matrices() -> Vec<Matrix> {
                 ("other length: 9", &[0, 1, 2, 3, 4]),
                 ("no value: 9", &[1, 3]),
                 ("unused bits: 8", &[0, 1, 2, 3, 4]),
+            ],
+        ),
+        Matrix::new(
+            "Datapoints, by config flags",
+            &flags,
+            &[
+                ("command 0 carried out", all_flags),
+                ("command 1 carried out", all_flags),
+                ("command 2 carried out", both_on),
+                ("command 3 carried out", both_on),
+                ("command 4 carried out", open),
+                ("command 2: 8", not_both_on),
+                ("command 3: 8", not_both_on),
+                ("command 4: 8", closed),
+                ("command 5: 8", all_flags),
+                ("command above 5: 8", all_flags),
+                ("command 2 to 4 and another length: 8", not_both_on),
+                ("bus value taken", all_flags),
+                ("outcome taken", all_flags),
+                ("value in an answer", all_flags),
+                ("value in an indication", all_flags),
+                ("description in an answer", all_flags),
             ],
         ),
     ]
@@ -220,8 +258,20 @@ pub fn seen(counts: &mut Counts, before: &Link, marks: &[usize], call: &Call, an
         }
         4 => poll(counts, before, marks, sent, after),
         5 => bus_value(counts, before, call, after),
-        _ => counts
-            .hit("other events", ["outcome sent", "outcome failed", "outcome in progress"][usize::from(call.outcome)]),
+        _ => {
+            let labels = ["outcome sent", "outcome failed", "outcome in progress"];
+            counts.hit("other events", labels[usize::from(call.outcome)]);
+            count_flags(counts, FLAGS_OUTCOME, call.id, after);
+        }
+    }
+}
+
+/// Counts a datapoint by its config flags.
+fn count_flags(counts: &mut Counts, row: usize, id: u16, after: &Server) {
+    if let Some(datapoint) = found(&after.datapoints, id) {
+        let flags = usize::from(datapoint.flags);
+        let others = usize::from(flags & !0x44 != 0);
+        counts.cell(FLAGS, row, (flags >> 2 & 1) + (flags >> 6 & 1) * 2 + others * 4);
     }
 }
 
@@ -280,7 +330,7 @@ fn poll(counts: &mut Counts, before: &Link, marks: &[usize], sent: &[u8], after:
             counts.hit("other events", "poll, a later one that is left over would fit");
         }
     }
-    count_values(counts, INDICATED, message, after);
+    count_values(counts, (INDICATED, FLAGS_INDICATED), message, after);
 }
 
 fn bus_value(counts: &mut Counts, before: &Link, call: &Call, after: &Server) {
@@ -288,6 +338,7 @@ fn bus_value(counts: &mut Counts, before: &Link, call: &Call, after: &Server) {
     if let Some(typecode) = type_of(&after.datapoints, call.id) {
         counts.cell(TYPES, BUS_TAKEN, usize::from(typecode));
     }
+    count_flags(counts, FLAGS_BUS_VALUE, call.id, after);
     if before.received != 0 {
         counts.hit("other events", "bus value taken in mid-frame");
     }
@@ -439,40 +490,49 @@ fn answered(counts: &mut Counts, message: &[u8], answer: &[u8], after: &Server) 
         6 => 3,
         7 => 4,
         4 => 5,
-        8 if bad_command(message, id, after) => 6,
-        9 => 7,
-        8 => 8,
-        2 => 9,
-        3 => 10,
-        _ => 12,
+        8 => row_of_8(message, id, after),
+        9 => 8,
+        2 => 10,
+        3 => 11,
+        _ => 13,
     };
     counts.cell(ERRORS, row, column);
     if code == 3 && 6 + requests::size_of_range(after, message, start, id) == 255 {
-        counts.cell(ERRORS, 11, column);
+        counts.cell(ERRORS, 12, column);
     }
     if positive && answer.len() == 254 {
-        counts.cell(ERRORS, 13, column);
+        counts.cell(ERRORS, 14, column);
     }
     if !set && (positive || code == 2 || code == 3) && usize::from(start) + usize::from(number) > 65536 {
-        counts.cell(ERRORS, 14, column);
+        counts.cell(ERRORS, 15, column);
     }
     if set && positive {
         set_carried_out(counts, message, start, after);
     }
-    if sub == 6 && (row == 7 || row == 8) {
-        bad_entry(counts, message, id, row == 8, after);
+    if sub == 6 && (row == 6 || row == 7) {
+        bad_command(counts, message, id, after);
+    }
+    if sub == 6 && (row == 8 || row == 9) {
+        bad_entry(counts, message, id, row == 9, after);
     }
     if !positive {
         return;
     }
     match sub {
-        3 if answer.len() == 251 => counts.hit("requests carried out", "49 descriptions answered"),
+        3 => {
+            if answer.len() == 251 {
+                counts.hit("requests carried out", "49 descriptions answered");
+            }
+            for entry in answer[6..].chunks(5) {
+                count_flags(counts, FLAGS_DESCRIBED, number_at(entry, 0), after);
+            }
+        }
         5 => {
             counts.hit(
                 "requests carried out",
                 ["filter 0 answered", "filter 1 answered", "filter 2 answered"][usize::from(message[6])],
             );
-            count_values(counts, ANSWERED, answer, after);
+            count_values(counts, (ANSWERED, FLAGS_ANSWERED), answer, after);
         }
         _ => {}
     }
@@ -481,13 +541,15 @@ fn answered(counts: &mut Counts, message: &[u8], answer: &[u8], after: &Server) 
     }
 }
 
-/// Counts the types of the values in an answer or indication.
-fn count_values(counts: &mut Counts, row: usize, message: &[u8], after: &Server) {
+/// Counts the values in an answer or indication, by their types and by their config flags.
+fn count_values(counts: &mut Counts, rows: (usize, usize), message: &[u8], after: &Server) {
     let mut at = 6;
     while at < message.len() {
-        if let Some(typecode) = type_of(&after.datapoints, number_at(message, at)) {
-            counts.cell(TYPES, row, usize::from(typecode));
+        let id = number_at(message, at);
+        if let Some(typecode) = type_of(&after.datapoints, id) {
+            counts.cell(TYPES, rows.0, usize::from(typecode));
         }
+        count_flags(counts, rows.1, id, after);
         at += 4 + usize::from(message[at + 3]);
     }
 }
@@ -506,18 +568,35 @@ fn entries(message: &[u8]) -> Vec<(u16, u8, &[u8])> {
     entries
 }
 
-/// Which of the two rows 8 it was: those before the first bad entry are good, so the first of this ID with a command
-/// above 4, or with unused bits set, is the bad one.
-fn bad_command(message: &[u8], id: u16, after: &Server) -> bool {
-    let bad = first_bad_value(message, id, after);
-    bad.is_none_or(|(command, _)| command > 4)
+/// Which of the rows 8 it was: those before the first bad entry are good, so the first of this ID with a command that
+/// is not taken, or with unused bits set, is the bad one.
+fn row_of_8(message: &[u8], id: u16, after: &Server) -> usize {
+    match (first_bad_value(message, id, after), found(&after.datapoints, id)) {
+        (Some((command, _)), Some(datapoint)) if command < 5 && takes(datapoint.flags, command) => 9,
+        (Some((command, _)), _) if command < 5 => 7,
+        _ => 6,
+    }
 }
 
 fn first_bad_value<'a>(message: &'a [u8], id: u16, after: &Server) -> Option<(u8, &'a [u8])> {
-    let typecode = type_of(&after.datapoints, id)?;
-    let unused = |value: &[u8]| value.first().is_some_and(|byte| byte & !crate::tables::used_bits(typecode) != 0);
-    let bad = |(at, command, value): &(u16, u8, &[u8])| *at == id && (*command > 4 || unused(value));
+    let datapoint = found(&after.datapoints, id)?;
+    let unused = |value: &[u8]| value.first().is_some_and(|byte| byte & !used_bits(datapoint.typecode) != 0);
+    let bad =
+        |(at, command, value): &(u16, u8, &[u8])| *at == id && (!takes(datapoint.flags, *command) || unused(value));
     entries(message).into_iter().find(bad).map(|(_, command, value)| (command, value))
+}
+
+/// Counts the bad entry of a datapoint set whose command is not taken.
+fn bad_command(counts: &mut Counts, message: &[u8], id: u16, after: &Server) {
+    let (Some((command, value)), Some(typecode)) =
+        (first_bad_value(message, id, after), type_of(&after.datapoints, id))
+    else {
+        return;
+    };
+    count_flags(counts, FLAGS_OFF + usize::from(command.min(6)) - 2, id, after);
+    if command < 5 && !value.is_empty() && value.len() != SIZES[usize::from(typecode)] {
+        count_flags(counts, FLAGS_LENGTH, id, after);
+    }
 }
 
 /// Counts the bad entry of a datapoint set: unused bits, or its length.
@@ -572,6 +651,7 @@ fn set_carried_out(counts: &mut Counts, message: &[u8], start: u16, after: &Serv
     }
     for (id, command, value) in entries {
         counts.cell(COMMANDS, usize::from(value.is_empty()), usize::from(command));
+        count_flags(counts, usize::from(command), id, after);
         if command == 1 || command == 3 {
             if let Some(typecode) = type_of(&after.datapoints, id) {
                 counts.cell(TYPES, SET_TAKEN, usize::from(typecode));

@@ -27,6 +27,22 @@ pub fn value(random: &mut Random, typecode: u8) -> Vec<u8> {
     value
 }
 
+/// Config flags: bits 2 and 6 in each of their four ways, or any byte.
+pub fn flags(random: &mut Random) -> u8 {
+    random.byte_like(&[0x00, 0x04, 0x40, 0x44])
+}
+
+/// Whether a datapoint with these config flags takes the command.
+pub fn takes(flags: u8, command: u8) -> bool {
+    let needed = match command {
+        0 | 1 => 0x00,
+        2 | 3 => 0x44,
+        4 => 0x04,
+        _ => return false,
+    };
+    flags & needed == needed
+}
+
 /// IDs that rise, 1 to 65535.
 pub fn ids(random: &mut Random, count: usize) -> Vec<u16> {
     if count == 0 {
@@ -75,7 +91,7 @@ pub fn datapoints(random: &mut Random, count: usize) -> Vec<Datapoint> {
             Datapoint {
                 id,
                 typecode,
-                flags: random.byte(),
+                flags: flags(random),
                 dpt: random.byte(),
                 state: random.byte() & 0x1F,
                 value: all,
@@ -135,9 +151,14 @@ pub fn server(random: &mut Random, link: crate::plain::Link) -> Server {
     }
 }
 
+/// The datapoint of this ID, if it is there.
+pub fn found(datapoints: &[Datapoint], id: u16) -> Option<&Datapoint> {
+    datapoints.binary_search_by_key(&id, |datapoint| datapoint.id).ok().map(|at| &datapoints[at])
+}
+
 /// The type code of a datapoint that is there.
 pub fn type_of(datapoints: &[Datapoint], id: u16) -> Option<u8> {
-    datapoints.binary_search_by_key(&id, |datapoint| datapoint.id).ok().map(|at| datapoints[at].typecode)
+    found(datapoints, id).map(|datapoint| datapoint.typecode)
 }
 
 /// An ID that no datapoint has, 1 or more. Often next to one that is there.

@@ -467,6 +467,7 @@ fn alter_tables(bench: &mut Bench) {
     bench.counts.hit("on the way", "tables altered by their owner");
     let marks = bench.random.below(11);
     for datapoint in &mut bench.server.datapoints {
+        datapoint.flags = tables::flags(&mut bench.random);
         datapoint.state = bench.random.byte() & 0x1F;
         datapoint.mark = u8::from(bench.random.below(10) < marks);
     }

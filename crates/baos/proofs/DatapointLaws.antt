@@ -12,7 +12,7 @@ use Rattle.words.specs.Words.{if_then_else_, isYesOrNo, pad, isPadded}
 use Rattle.words.proofs.WordLaws.{left, right, both, parts3, parts4, join3, join4, pad-padded, padded-decided}
 use Rattle.baos.specs.declared.datapoint.Datapoint.{Datapoint}
 use Rattle.baos.specs.declared.item.Item.{Item}
-use Rattle.baos.specs.Datapoint.{sizeOf, unusedBitsOk, isValue, valueOf, datapointOk, withValid, withoutUpdated, withRequest, withStatus, fromBus, withState, withValue, withMark, handedOut, busValue, outcome, commanded}
+use Rattle.baos.specs.Datapoint.{sizeOf, unusedBitsOk, isValue, valueOf, datapointOk, withValid, withoutUpdated, withRequest, withStatus, fromBus, withState, withValue, withMark, handedOut, busValue, outcome, isSend, commanded}
 use Rattle.baos.specs.Item.{itemOk, withBytes}
 use Rattle.baos.proofs.ValueLaws.{each-size}
 
@@ -164,11 +164,11 @@ command-same c v d = go (eqb c 1) (eqb c 2) (eqb c 3) (eqb c 4) refl refl refl r
     go false false false false e1 e2 e3 e4 = simp (e1, e2, e3, e4, commanded) (record { id = refl; typecode = refl })
 
 -- commands 2 and 3 send: the status is 11 then; no other command touches it
-pub command-status : (c : ℕ) (v : List ℕ) (d : Datapoint) → commanded c v d .state % 4 ≡ (if eqb c 2 || eqb c 3 then 3 else d .state % 4)
+pub command-status : (c : ℕ) (v : List ℕ) (d : Datapoint) → commanded c v d .state % 4 ≡ (if isSend c then 3 else d .state % 4)
 unfolding commanded withValue withState
 command-status c v d = go (eqb c 1) (eqb c 2) (eqb c 3) (eqb c 4) refl refl refl refl
   where
-    go : (p q r s : Bool) → eqb c 1 ≡ p → eqb c 2 ≡ q → eqb c 3 ≡ r → eqb c 4 ≡ s → commanded c v d .state % 4 ≡ (if eqb c 2 || eqb c 3 then 3 else d .state % 4)
+    go : (p q r s : Bool) → eqb c 1 ≡ p → eqb c 2 ≡ q → eqb c 3 ≡ r → eqb c 4 ≡ s → commanded c v d .state % 4 ≡ (if isSend c then 3 else d .state % 4)
     go true true r s e1 e2 e3 e4 = absurd (omega (arith, eqb-true c 1 e1, eqb-true c 2 e2))
     go true false true s e1 e2 e3 e4 = absurd (omega (arith, eqb-true c 1 e1, eqb-true c 3 e3))
     go true false false s e1 e2 e3 e4 = simp (e1, e2, e3, commanded) (bits-of-valid (d .state) .status-bits)

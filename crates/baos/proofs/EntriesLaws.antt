@@ -12,12 +12,14 @@ use borrow.Author.Tests.{eq-eqb, ne-eqb, lt-ltb, le-ltb}
 use Rattle.words.specs.Words.{if_then_else_, ofTwoBytes}
 use Rattle.baos.specs.Datapoint.{datapointId, zeroDatapoint, commanded}
 use Rattle.baos.specs.Item.{itemId, zeroItem, withBytes}
+use Rattle.baos.specs.Lookup.{lookupOf, isPresent}
 use Rattle.baos.specs.Set.{SetEntry, span, firstDatapointEntry, firstItemEntry, datapointCode, itemCode, judgedDatapoint, judgedItem, setDatapoint, setItem}
 use Rattle.baos.specs.Table.{found, changedAt, place, rising}
 use Rattle.words.proofs.WordLaws.{true-T}
 use Rattle.baos.proofs.PlaceLaws.{found-at, changed-at}
 use Rattle.baos.specs.declared.datapoint.Datapoint.{Datapoint}
 use Rattle.baos.specs.declared.item.Item.{Item}
+use Rattle.baos.specs.declared.lookup.Lookup.{Lookup}
 
 module _ (at : ℕ) (s : List ℕ) where
   -- the ID of the entry
@@ -48,10 +50,18 @@ module _ (at : ℕ) (s : List ℕ) where
     pub cut-short : e ≡ at + span 4 (drop at s) → length (firstDatapointEntry (drop at s) .value) ≤ 14 → length (take (e - (at + 4)) (drop (at + 4) s)) ≤ 14
     cut-short p l = subst (λ (n : ℕ). n ≤ 14) (sym (by-entry (λ _ v. length v) p)) l
 
-    pub code-here : d .id ≡ idBytes → e ≡ at + span 4 (drop at s)
-        → datapointCode d (getD s (at + 2) 0) (take (e - (at + 4)) (drop (at + 4) s)) ≡ judgedDatapoint (found datapointId (firstDatapointEntry (drop at s) .id) (d ∷ [])) (firstDatapointEntry (drop at s))
-    unfolding found judgedDatapoint firstDatapointEntry
-    code-here q p = by-entry (datapointCode d) p ∙ ap (λ (y : Bool). judgedDatapoint (if y then d ∷ [] else []) (firstDatapointEntry (drop at s))) (sym (eq-eqb (d .id) idBytes q))
+    -- the entry's code, where looking up its ID gave l at the datapoint: that may be another's
+    pub code-at : (i : ℕ) (l : Lookup) → i ≡ idBytes → l ≡ lookupOf (found datapointId i (d ∷ [])) → e ≡ at + span 4 (drop at s)
+        → datapointCode l d (getD s (at + 2) 0) (take (e - (at + 4)) (drop (at + 4) s)) ≡ judgedDatapoint (found datapointId (firstDatapointEntry (drop at s) .id) (d ∷ [])) (firstDatapointEntry (drop at s))
+    unfolding found judgedDatapoint datapointCode lookupOf isPresent firstDatapointEntry
+    code-at i l same q p = by-entry (datapointCode l d) p ∙ ap (λ (x : Lookup). datapointCode x d (firstDatapointEntry (drop at s) .command) (firstDatapointEntry (drop at s) .value)) at-id ∙ go (eqb (d .id) idBytes)
+      where
+        at-id : l ≡ lookupOf (if eqb (d .id) idBytes then d ∷ [] else [])
+        at-id = q ∙ ap (λ (n : ℕ). lookupOf (if eqb (d .id) n then d ∷ [] else [])) same
+
+        go : (y : Bool) → datapointCode (lookupOf (if y then d ∷ [] else [])) d (firstDatapointEntry (drop at s) .command) (firstDatapointEntry (drop at s) .value) ≡ judgedDatapoint (if y then d ∷ [] else []) (firstDatapointEntry (drop at s))
+        go true = refl
+        go false = refl
 
     pub set-here : d .id ≡ idBytes → e ≡ at + span 4 (drop at s)
         → commanded (getD s (at + 2) 0) (take (e - (at + 4)) (drop (at + 4) s)) d ≡ (if eqb (d .id) (firstDatapointEntry (drop at s) .id) then setDatapoint (firstDatapointEntry (drop at s)) d else d)
@@ -59,10 +69,6 @@ module _ (at : ℕ) (s : List ℕ) where
     set-here q p = by-entry (λ c v. commanded c v d) p ∙ ap (λ (y : Bool). if y then setDatapoint (firstDatapointEntry (drop at s)) d else d) (sym (eq-eqb (d .id) idBytes q))
 
   module _ (d : Datapoint) where
-    pub code-other : (d .id ≡ idBytes → ⊥) → 7 ≡ judgedDatapoint (found datapointId (firstDatapointEntry (drop at s) .id) (d ∷ [])) (firstDatapointEntry (drop at s))
-    unfolding found judgedDatapoint firstDatapointEntry
-    code-other q = ap (λ (y : Bool). judgedDatapoint (if y then d ∷ [] else []) (firstDatapointEntry (drop at s))) (sym (ne-eqb (d .id) idBytes q))
-
     pub set-other : (d .id ≡ idBytes → ⊥) → d ≡ (if eqb (d .id) (firstDatapointEntry (drop at s) .id) then setDatapoint (firstDatapointEntry (drop at s)) d else d)
     unfolding firstDatapointEntry
     set-other q = ap (λ (y : Bool). if y then setDatapoint (firstDatapointEntry (drop at s)) d else d) (sym (ne-eqb (d .id) idBytes q))
@@ -122,7 +128,7 @@ module _ {A : Type 0} (idOf : A → ℕ) (blank : A) (n : ℕ) (xs : List A) (t 
       changed-at idOf blank n f 0 xs (true-T t) ∙ ap (λ (y : Bool). if y && eqb (idOf here) n then set xs (place idOf n xs) (f here) else xs) (le-ltb (place idOf n xs) (length xs) l)
 
 pub none-datapoint : (e : SetEntry) (ys : List Datapoint) → rising 0 (map datapointId ys) ≡ true → length ys ≤ place datapointId (e .id) ys → 7 ≡ judgedDatapoint (found datapointId (e .id) ys) e
-unfolding judgedDatapoint
+unfolding judgedDatapoint datapointCode lookupOf isPresent
 none-datapoint e ys t l = ap (λ (fs : List Datapoint). judgedDatapoint fs e) (sym (found-nowhere datapointId zeroDatapoint (e .id) ys t l))
 
 pub none-item : (e : SetEntry) (ys : List Item) → rising 0 (map itemId ys) ≡ true → length ys ≤ place itemId (e .id) ys → 7 ≡ judgedItem (found itemId (e .id) ys) e

@@ -12,7 +12,10 @@ use Rattle.words.specs.Words.{pad, put, isEmpty}
 use Rattle.words.proofs.ByteLaws.{length-put, put-sets, put-put, put-in-front}
 use Rattle.baos.specs.declared.datapoint.Datapoint.{Datapoint}
 use Rattle.baos.specs.declared.item.Item.{Item}
+use Rattle.baos.specs.declared.lookup.Lookup.{Lookup}
+use Rattle.baos.specs.declared.lookup.Lookup.the-variants.{Absent, Closed, Open}
 use Rattle.baos.specs.Datapoint.{sizeOf, valueOf, unusedBitsOk}
+use Rattle.baos.specs.Lookup.{isPresent}
 use Rattle.baos.specs.Get.{valueEntry}
 use Rattle.baos.specs.Set.{itemCode, takesCommand, datapointCode}
 use Rattle.baos.proofs.ValueLaws.{size-of-bits}
@@ -40,38 +43,51 @@ or-last : (a : Bool) → (a || true) ≡ true
 or-last true = refl
 or-last false = refl
 
-module _ (d : Datapoint) (c : ℕ) (v : List ℕ) where
-  pub code-of-command : takesCommand c ≡ false → datapointCode d c v ≡ 8
-  unfolding datapointCode
-  code-of-command h = simp h
+module _ (l : Lookup) (d : Datapoint) (c : ℕ) (v : List ℕ) where
+  abbrev pub isTaken : Bool
+  isTaken = takesCommand l (d .flags) c
 
-  pub retired : c ≡ 5 → datapointCode d c v ≡ 8
-  unfolding datapointCode takesCommand
-  retired e = rw e
-
-  pub code-of-none-1 : takesCommand c ≡ true → c ≡ 1 → length v ≡ 0 → datapointCode d c v ≡ 9
+  pub code-of-absent : isPresent l ≡ false → datapointCode l d c v ≡ 7
   unfolding datapointCode
-  code-of-none-1 h e n = simp (h, is-empty v n, eq-eqb c 1 e)
+  code-of-absent p = simp p
 
-  pub code-of-none-3 : takesCommand c ≡ true → c ≡ 3 → length v ≡ 0 → datapointCode d c v ≡ 9
-  unfolding datapointCode
-  code-of-none-3 h e n = simp (h, is-empty v n, eq-eqb c 3 e, or-last (eqb c 1))
+  module _ (p : isPresent l ≡ true) where
+    pub code-of-command : isTaken ≡ false → datapointCode l d c v ≡ 8
+    unfolding datapointCode
+    code-of-command h = simp (p, h)
 
-  pub code-of-none : takesCommand c ≡ true → (c ≡ 1 → ⊥) → (c ≡ 3 → ⊥) → length v ≡ 0 → datapointCode d c v ≡ 0
-  unfolding datapointCode
-  code-of-none h n1 n3 n = simp (h, is-empty v n, ne-eqb c 1 n1, ne-eqb c 3 n3)
+    pub retired : c ≡ 5 → datapointCode l d c v ≡ 8
+    unfolding takesCommand
+    retired e = code-of-command (go l)
+      where
+        go : (k : Lookup) → takesCommand k (d .flags) c ≡ false
+        go Absent = refl
+        go Closed = rw e
+        go Open = rw e
 
-  pub code-of-size : takesCommand c ≡ true → (length v ≡ 0 → ⊥) → (length v ≡ sizeOf (d .typecode) → ⊥) → datapointCode d c v ≡ 9
-  unfolding datapointCode
-  code-of-size h n k = simp (h, not-empty v n, ne-eqb (length v) (sizeOf (d .typecode)) k)
+    pub code-of-none-1 : isTaken ≡ true → c ≡ 1 → length v ≡ 0 → datapointCode l d c v ≡ 9
+    unfolding datapointCode
+    code-of-none-1 h e n = simp (p, h, is-empty v n, eq-eqb c 1 e)
 
-  pub code-of-bits : takesCommand c ≡ true → (length v ≡ 0 → ⊥) → length v ≡ sizeOf (d .typecode) → unusedBitsOk (d .typecode) v ≡ false → datapointCode d c v ≡ 8
-  unfolding datapointCode
-  code-of-bits h n k u = simp (h, not-empty v n, eq-eqb (length v) (sizeOf (d .typecode)) k, u)
+    pub code-of-none-3 : isTaken ≡ true → c ≡ 3 → length v ≡ 0 → datapointCode l d c v ≡ 9
+    unfolding datapointCode
+    code-of-none-3 h e n = simp (p, h, is-empty v n, eq-eqb c 3 e, or-last (eqb c 1))
 
-  pub code-of-value : takesCommand c ≡ true → (length v ≡ 0 → ⊥) → length v ≡ sizeOf (d .typecode) → unusedBitsOk (d .typecode) v ≡ true → datapointCode d c v ≡ 0
-  unfolding datapointCode
-  code-of-value h n k u = simp (h, not-empty v n, eq-eqb (length v) (sizeOf (d .typecode)) k, u)
+    pub code-of-none : isTaken ≡ true → (c ≡ 1 → ⊥) → (c ≡ 3 → ⊥) → length v ≡ 0 → datapointCode l d c v ≡ 0
+    unfolding datapointCode
+    code-of-none h n1 n3 n = simp (p, h, is-empty v n, ne-eqb c 1 n1, ne-eqb c 3 n3)
+
+    pub code-of-size : isTaken ≡ true → (length v ≡ 0 → ⊥) → (length v ≡ sizeOf (d .typecode) → ⊥) → datapointCode l d c v ≡ 9
+    unfolding datapointCode
+    code-of-size h n k = simp (p, h, not-empty v n, ne-eqb (length v) (sizeOf (d .typecode)) k)
+
+    pub code-of-bits : isTaken ≡ true → (length v ≡ 0 → ⊥) → length v ≡ sizeOf (d .typecode) → unusedBitsOk (d .typecode) v ≡ false → datapointCode l d c v ≡ 8
+    unfolding datapointCode
+    code-of-bits h n k u = simp (p, h, not-empty v n, eq-eqb (length v) (sizeOf (d .typecode)) k, u)
+
+    pub code-of-value : isTaken ≡ true → (length v ≡ 0 → ⊥) → length v ≡ sizeOf (d .typecode) → unusedBitsOk (d .typecode) v ≡ true → datapointCode l d c v ≡ 0
+    unfolding datapointCode
+    code-of-value h n k u = simp (p, h, not-empty v n, eq-eqb (length v) (sizeOf (d .typecode)) k, u)
 
 module _ (i : Item) (v : List ℕ) where
   pub code-of-fixed : (i .writable ≡ 1 → ⊥) → itemCode i v ≡ 4

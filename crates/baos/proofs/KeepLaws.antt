@@ -12,11 +12,13 @@ use Rattle.baos.specs.declared.datapoint.Datapoint.{Datapoint}
 use Rattle.baos.specs.declared.item.Item.{Item}
 use Rattle.baos.specs.Datapoint.{datapointId, datapointOk, sizeOf, unusedBitsOk, isValue, withState, withMark, handedOut}
 use Rattle.baos.specs.Item.{itemId, itemOk, withBytes}
+use Rattle.baos.specs.Lookup.{lookupOf, isPresent}
 use Rattle.baos.specs.Table.{Tables, withDatapoints, rising, tableOk, wellFormed, found}
 use Rattle.baos.specs.Message.{startOf, numberOf, Finding, fine, bad, Served, afterOf, served}
 use Rattle.baos.specs.Get.{roomForEntries, getting, getServerItem, getDatapointDescription, asked, handingOut, getDatapointValue, getParameterByte}
 use Rattle.baos.specs.Set.{SetEntry, firstItemEntry, firstDatapointEntry, fills, setEntries, itemCode, takesCommand, datapointCode, judgedItem, judgedDatapoint, firstBad, setFinding, setting, setItem, setServerItem, setDatapoint, setDatapointValue}
 use Rattle.baos.specs.Service.{service, carriedOut}
+use Rattle.baos.proofs.LookupLaws.{present-one}
 use Rattle.baos.specs.Indication.{goes, roomAfter, Choice, choices, reported, afterReport, indicationOf, indication}
 use Rattle.baos.proofs.TableLaws
 use Rattle.baos.proofs.DispatchLaws.{by-service, by-message}
@@ -143,14 +145,17 @@ datapointFits o d = if DatapointLaws.takesValue (o .command) then isValue (d .ty
 datapoint-judged : (o : SetEntry) (d : Datapoint) → T (eqb (judgedDatapoint (d ∷ []) o) 0) → T (datapointFits o d)
 unfolding judgedDatapoint datapointCode datapointFits DatapointLaws.takesValue isValue
 datapoint-judged o d t =
-    go (eqb (o .command) 1 || eqb (o .command) 3) (not (takesCommand (o .command))) (isEmpty (o .value)) (eqb (length (o .value)) (sizeOf (d .typecode))) (unusedBitsOk (d .typecode) (o .value)) refl refl refl refl refl
+    go (eqb (o .command) 1 || eqb (o .command) 3) (not (takesCommand (lookupOf (d ∷ [])) (d .flags) (o .command))) (isEmpty (o .value)) (eqb (length (o .value)) (sizeOf (d .typecode))) (unusedBitsOk (d .typecode) (o .value)) refl refl refl refl refl
   where
-    go : (a b c e f : Bool) → (eqb (o .command) 1 || eqb (o .command) 3) ≡ a → not (takesCommand (o .command)) ≡ b → isEmpty (o .value) ≡ c → eqb (length (o .value)) (sizeOf (d .typecode)) ≡ e → unusedBitsOk (d .typecode) (o .value) ≡ f → T (datapointFits o d)
+    here : isPresent (lookupOf (d ∷ [])) ≡ true
+    here = present-one d []
+
+    go : (a b c e f : Bool) → (eqb (o .command) 1 || eqb (o .command) 3) ≡ a → not (takesCommand (lookupOf (d ∷ [])) (d .flags) (o .command)) ≡ b → isEmpty (o .value) ≡ c → eqb (length (o .value)) (sizeOf (d .typecode)) ≡ e → unusedBitsOk (d .typecode) (o .value) ≡ f → T (datapointFits o d)
     go false b c e f p1 p2 p3 p4 p5 = simp p1 tt
-    go true true c e f p1 p2 p3 p4 p5 = absurd (simp p2 at t)
-    go true false true e f p1 p2 p3 p4 p5 = absurd (simp (p2, p3, p1) at t)
-    go true false false false f p1 p2 p3 p4 p5 = absurd (simp (p2, p3, p4) at t)
-    go true false false true false p1 p2 p3 p4 p5 = absurd (simp (p2, p3, p4, p5) at t)
+    go true true c e f p1 p2 p3 p4 p5 = absurd (simp (here, p2) at t)
+    go true false true e f p1 p2 p3 p4 p5 = absurd (simp (here, p2, p3, p1) at t)
+    go true false false false f p1 p2 p3 p4 p5 = absurd (simp (here, p2, p3, p4) at t)
+    go true false false true false p1 p2 p3 p4 p5 = absurd (simp (here, p2, p3, p4, p5) at t)
     go true false false true true p1 p2 p3 p4 p5 = simp (p1, p4, p5) tt
 
 datapoint-ok : (o : SetEntry) (d : Datapoint) → T (datapointFits o d) → T (datapointOk d) → T (datapointOk (setDatapoint o d))

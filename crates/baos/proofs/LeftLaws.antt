@@ -4,7 +4,7 @@ use mathlib.Core.Path.{_≡_, refl, sym, _∙_, ap, subst}
 use mathlib.Core.Bool.{Bool, true, false, not, _&&_, _||_}
 use mathlib.Core.List.{List, [], _∷_, map}
 use native.Mathlib.Omega.{arith}
-use lib.ListN.{length, drop, length-drop}
+use lib.ListN.{length, drop, length-drop, getD}
 use lib.Seq.{drop-drop}
 use borrow.Author.Tests.{eq-eqb, eqb-true}
 use lib.Dec.{T, leb, eqb, leb→le, le→leb}
@@ -14,8 +14,9 @@ use Rattle.baos.specs.declared.datapoint.Datapoint.{Datapoint}
 use Rattle.baos.specs.declared.item.Item.{Item}
 use Rattle.baos.specs.Message.{Finding, bad, verdictOf, fine}
 use Rattle.baos.specs.Set.{SetEntry, span, fills, setEntries, firstBad, applied, allShort, setDatapoint, setItem, takesCommand, datapointCode, itemCode, judgedDatapoint, judgedItem}
-use Rattle.baos.specs.Datapoint.{datapointId, sizeOf, unusedBitsOk}
+use Rattle.baos.specs.Datapoint.{datapointId, zeroDatapoint, sizeOf, unusedBitsOk}
 use Rattle.baos.specs.Item.{itemId, itemOk, withBytes}
+use Rattle.baos.specs.Lookup.{lookupOf, isPresent}
 use Rattle.baos.specs.Table.{rising, tableOk, found, changedAt}
 use Rattle.baos.proofs.SetLaws.{span-head}
 use Rattle.baos.proofs.DatapointLaws as DatapointLaws
@@ -153,24 +154,28 @@ each-fine judge p g (e ∷ es) z = go (each-fine judge p g es) (eqb (judge e) 0)
     go r false q z = absurd (bad-fine z)
 
 -- ---- so no value is longer than a record has room for: a datapoint's is empty or of its type's size
-abbrev by-tests : Bool → Bool → Bool → Bool → Bool → ℕ
-by-tests over empty sized taken clear = if over then 8 else if empty then (if taken then 9 else 0) else if not sized then 9 else if not clear then 8 else 0
+abbrev by-tests : Bool → Bool → Bool → Bool → Bool → Bool → ℕ
+by-tests absent over empty sized taken clear = if absent then 7 else if over then 8 else if empty then (if taken then 9 else 0) else if not sized then 9 else if not clear then 8 else 0
 
 short-datapoint : (ds : List Datapoint) (e : SetEntry) → judgedDatapoint ds e ≡ 0 → T (leb (length (e .value)) 14)
 unfolding judgedDatapoint datapointCode
-short-datapoint [] e z = absurd (omega (arith, z))
-short-datapoint (d ∷ ds) e z = go (not (takesCommand (e .command))) (isEmpty (e .value)) (eqb (length (e .value)) (sizeOf (d .typecode))) refl refl z
+short-datapoint ds e z =
+    go (not (isPresent (lookupOf ds))) (not (takesCommand (lookupOf ds) (getD ds 0 zeroDatapoint .flags) (e .command))) (isEmpty (e .value)) (eqb (length (e .value)) size) refl refl z
   where
+    size : ℕ
+    size = sizeOf (getD ds 0 zeroDatapoint .typecode)
+
     empty : (v : List ℕ) → isEmpty v ≡ true → T (leb (length v) 14)
     empty [] q = tt
     empty (x ∷ v) q = absurd (true-T q)
 
-    go : (a b c : Bool) → isEmpty (e .value) ≡ b → eqb (length (e .value)) (sizeOf (d .typecode)) ≡ c
-        → by-tests a b c (eqb (e .command) 1 || eqb (e .command) 3) (unusedBitsOk (d .typecode) (e .value)) ≡ 0 → T (leb (length (e .value)) 14)
-    go true b c p q z = absurd (omega (arith, z))
-    go false true c p q z = empty (e .value) p
-    go false false true p q z = le→leb (length (e .value)) 14 (omega (arith, eqb-true (length (e .value)) (sizeOf (d .typecode)) q, DatapointLaws.size-fits (d .typecode)))
-    go false false false p q z = absurd (omega (arith, z))
+    go : (n a b c : Bool) → isEmpty (e .value) ≡ b → eqb (length (e .value)) size ≡ c
+        → by-tests n a b c (eqb (e .command) 1 || eqb (e .command) 3) (unusedBitsOk (getD ds 0 zeroDatapoint .typecode) (e .value)) ≡ 0 → T (leb (length (e .value)) 14)
+    go true a b c p q z = absurd (omega (arith, z))
+    go false true b c p q z = absurd (omega (arith, z))
+    go false false true c p q z = empty (e .value) p
+    go false false false true p q z = le→leb (length (e .value)) 14 (omega (arith, eqb-true (length (e .value)) size q, DatapointLaws.size-fits (getD ds 0 zeroDatapoint .typecode)))
+    go false false false false p q z = absurd (omega (arith, z))
 
 pub datapoints-short : (ys : List Datapoint) (es : List SetEntry) → firstBad (λ e. judgedDatapoint (found datapointId (e .id) ys) e) es ≡ fine → allShort 14 es ≡ true
 unfolding allShort

@@ -9,6 +9,7 @@ pub mod DispatchLaws
 pub mod EntriesLaws
 pub mod EntryLaws
 pub mod FieldsFit
+pub mod FlagLaws
 pub mod FormedLaws
 pub mod EntryPlaceLaws
 pub mod GatherLaws
@@ -17,6 +18,7 @@ pub mod IndicationLaws
 pub mod KeepLaws
 pub mod LastLaws
 pub mod LeftLaws
+pub mod LookupLaws
 pub mod MeasureLaws
 pub mod Pairs
 pub mod ParameterLaws

@@ -1,6 +1,6 @@
 -- One datapoint record: its value's size by type code, its state byte, when it is well formed, and how it changes.
 use Prim.Native.Nat.{ℕ, _+_, _-_, _*_, _/_, _%_, _^_}
-use mathlib.Core.Bool.{Bool, _&&_}
+use mathlib.Core.Bool.{Bool, _&&_, _||_}
 use mathlib.Core.List.{List}
 use lib.ListN.{length, getD, take, replicate}
 use lib.Dec.{leb, ltb, eqb}
@@ -124,9 +124,14 @@ busValue v d = withMark 1 (withValue v (fromBus (d .state)) d)
 unfoldable pub outcome : ℕ → Datapoint → Datapoint
 outcome status d = withState (withStatus status (d .state)) d
 
+-- a send command: "2 status 11; 3 both"
+abbrev pub isSend : ℕ → Bool
+isSend c = eqb c 2 || eqb c 3
+
 -- "Commands: 0 nothing; 1 value, bit 4 set; 2 status 11; 3 both; 4 bit 2 set; [..]. A value sent with 0, 2, 4 [..] is
--- checked and unused. The commands do not look at config flags." Command 5, "status 00", is retired (document 02, item
--- 9): a set request that carries it is refused, and no command but 2 and 3 touches the status.
+-- checked and unused. The commands do not look at config flags." That still holds of what a command does; whether a
+-- request may carry it goes by the flags since document 02, item 2 (`takesCommand`). Command 5, "status 00", is retired
+-- (item 9): a set request that carries it is refused, and no command but 2 and 3 touches the status.
 unfoldable pub commanded : ℕ → List ℕ → Datapoint → Datapoint
 commanded c v d =
     if eqb c 1 then withValue v (withValid (d .state)) d

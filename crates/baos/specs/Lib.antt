@@ -1,8 +1,10 @@
 pub mod Datapoint
 pub mod Item
-pub mod Bus
 pub mod Table
 pub mod Message
+pub mod Lookup
+pub mod Flags
+pub mod Bus
 pub mod Get
 pub mod Set
 pub mod Service

@@ -7,8 +7,11 @@ use lib.Dec.{leb, eqb}
 use Rattle.words.specs.Words.{if_then_else_, isYes, ofTwoBytes, isEmpty, every}
 use Rattle.baos.specs.declared.datapoint.Datapoint.{Datapoint}
 use Rattle.baos.specs.declared.item.Item.{Item}
-use Rattle.baos.specs.Datapoint.{datapointId, sizeOf, unusedBitsOk, commanded}
+use Rattle.baos.specs.declared.lookup.Lookup.{Lookup}
+use Rattle.baos.specs.declared.lookup.Lookup.the-variants.{Absent, Closed, Open}
+use Rattle.baos.specs.Datapoint.{datapointId, zeroDatapoint, sizeOf, unusedBitsOk, isSend, commanded}
 use Rattle.baos.specs.Item.{itemId, withBytes}
+use Rattle.baos.specs.Lookup.{transmits, lookupOf, isPresent}
 use Rattle.baos.specs.Table.{Tables, withDatapoints, withItems, found, changedAt}
 use Rattle.baos.specs.Message.{startOf, numberOf, coded, Finding, fine, bad, Served, served}
 
@@ -58,29 +61,33 @@ itemCode i value =
     else if not (eqb (length value) (i .size)) then 9
     else 0
 
--- "command above 5, reserved bits included" is not taken, and "command 5 gives code 8, at the command check" (document
--- 02, item 9): 0 to 4 are taken
-unfoldable pub takesCommand : ℕ → Bool
-takesCommand c = leb c 4
+-- The command check: "commands 2 and 3 need config bits 2 and 6, command 4 needs bit 2; others as before" (document 02,
+-- item 2), which leaves a closed datapoint 0 and 1. "command above 5, reserved bits included" is not taken, and "command
+-- 5 gives code 8, at the command check" (item 9).
+unfoldable pub takesCommand : Lookup → ℕ → ℕ → Bool
+takesCommand Absent flags c = false
+takesCommand Closed flags c = leb c 1
+takesCommand Open flags c = if isSend c then transmits flags else leb c 4
 
--- Rows 8, 9 and 8: the code of an entry for this datapoint. "datapoint length neither 0 nor the type's; or 0 with
--- command 1 or 3"; "a value whose unused bits are set".
-unfoldable pub datapointCode : Datapoint → ℕ → List ℕ → ℕ
-datapointCode d command value =
-    if not (takesCommand command) then 8
+-- Rows 7, 8, 9 and 8: the code of an entry, by what looking up its ID found and by the datapoint found. "set entry: ID
+-- absent"; "a command whose needed bits are off gives code 8, placed with the command check, before code 9"; "datapoint
+-- length neither 0 nor the type's; or 0 with command 1 or 3"; "a value whose unused bits are set".
+unfoldable pub datapointCode : Lookup → Datapoint → ℕ → List ℕ → ℕ
+datapointCode lookup d command value =
+    if not (isPresent lookup) then 7
+    else if not (takesCommand lookup (d .flags) command) then 8
     else if isEmpty value then (if eqb command 1 || eqb command 3 then 9 else 0)
     else if not (eqb (length value) (sizeOf (d .typecode))) then 9
     else if not (unusedBitsOk (d .typecode) value) then 8
     else 0
 
--- Row 7, and then those: the list is what `found` gives for the entry's ID.
+-- An entry judged: the list is what `found` gives for its ID. Row 7, and then an item's.
 unfoldable pub judgedItem : List Item → SetEntry → ℕ
 judgedItem [] e = 7
 judgedItem (i ∷ is) e = itemCode i (e .value)
 
 unfoldable pub judgedDatapoint : List Datapoint → SetEntry → ℕ
-judgedDatapoint [] e = 7
-judgedDatapoint (d ∷ ds) e = datapointCode d (e .command) (e .value)
+judgedDatapoint ds e = datapointCode (lookupOf ds) (getD ds 0 zeroDatapoint) (e .command) (e .value)
 
 -- "Entries are judged one after the other, each through rows 7 to 8; the first bad one decides."
 unfoldable pub firstBad : (SetEntry → ℕ) → List SetEntry → Finding

@@ -14,3 +14,8 @@ pub struct Datapoint {
     // The report mark, 0 or 1: 1 where the value came from the bus and waits for an indication.
     pub mark: u8,
 }
+
+// The weights of two config flags, "Datapoint communication" and "Transmit to bus".
+pub const COMMUNICATION: u8 = 0x04;
+
+pub const TRANSMIT: u8 = 0x40;

@@ -5,5 +5,6 @@ pub mod code;
 pub mod datapoint;
 pub mod inner;
 pub mod item;
+pub mod lookup;
 pub mod service;
 pub mod table;

@@ -1,21 +1,22 @@
 -- Bus events: what is found, answered and changed by the record that stands where the ID belongs.
 use Prim.Native.Nat.{ℕ, _≤_, _<_}
-use mathlib.Core.Bool.{Bool, true, false, _&&_}
+use mathlib.Core.Bool.{Bool, true, false}
 use mathlib.Core.List.{List, [], _∷_, map}
-use mathlib.Core.Path.{_≡_, refl, sym, _∙_, ap, subst}
+use mathlib.Core.Path.{_≡_, sym, _∙_, ap, subst}
 use lib.Dec.{T, eqb}
 use lib.ListN.{length, getD, set}
 use Rattle.words.specs.Words.{if_then_else_}
 use Rattle.words.proofs.WordLaws.{left, right, T-true, true-T}
 use Rattle.baos.specs.declared.datapoint.Datapoint.{Datapoint}
 use Rattle.baos.specs.Datapoint.{datapointId, datapointOk, zeroDatapoint}
+use Rattle.baos.specs.Lookup.{lookupOf, isPresent}
 use Rattle.baos.specs.Table.{tableOk, rising, found, changedAt, place}
 use Rattle.baos.proofs.TableLaws.{ids-rise}
 use Rattle.baos.proofs.PlaceLaws.{ok-few}
 use Rattle.baos.proofs.EntriesLaws.{found-here, found-nowhere, changed-here}
 use Rattle.baos.specs.declared.bus.BusEvent.{BusEvent}
 use Rattle.baos.specs.Bus.{takes, taken, foundTakes}
-use Rattle.baos.proofs.BusLaws.{takesAt, one-byte}
+use Rattle.baos.proofs.BusLaws.{takesAt, taken-here, one-byte}
 use Rattle.calls.specs.declared.reply.Reply.the-variants.{Refused, Accepted}
 use Rattle.calls.specs.Promise.{BusEventTaken}
 
@@ -37,16 +38,11 @@ module _ (e : BusEvent) (id : ℕ) (v : List ℕ) (ds : List Datapoint) (ok : ta
 
   -- whether the datapoint that was found takes it
   absent : length ds ≤ spot → foundTakes e v (found datapointId id ds) ≡ false
-  unfolding foundTakes
+  unfolding foundTakes lookupOf isPresent
   absent l = ap (foundTakes e v) (found-nowhere datapointId zeroDatapoint id ds (in-order ds ok) l)
 
   present : spot < length ds → foundTakes e v (found datapointId id ds) ≡ takesAt e id v there
-  unfolding foundTakes found
-  present l = ap (foundTakes e v) (found-here datapointId zeroDatapoint id ds (in-order ds ok) l) ∙ go (eqb (there .id) id)
-    where
-      go : (y : Bool) → foundTakes e v (if y then there ∷ [] else []) ≡ (y && takes e v there)
-      go true = refl
-      go false = refl
+  present l = ap (foundTakes e v) (found-here datapointId zeroDatapoint id ds (in-order ds ok) l)
 
   refused-by : foundTakes e v (found datapointId id ds) ≡ false → BusEventTaken e id v ds (Refused 4) ds
   refused-by h = record { reply = simp h; datapoints = simp h }
@@ -63,14 +59,14 @@ module _ (e : BusEvent) (id : ℕ) (v : List ℕ) (ds : List Datapoint) (ok : ta
   accepted-here l h = record { reply = simp (present l ∙ h); datapoints = set-here ∙ simp (present l ∙ h) }
     where
       same : eqb (there .id) id ≡ true
-      same = T-true (eqb (there .id) id) (left (eqb (there .id) id) (takes e v there) (true-T h))
+      same = T-true (eqb (there .id) id) (left (eqb (there .id) id) (takes e v there) (taken-here e id v there h))
 
       set-here : set ds spot (taken e v there) ≡ changedAt datapointId id (taken e v) ds
       set-here = ap (λ (y : Bool). set ds spot (if y then taken e v there else there)) (sym same) ∙ sym (changed-here datapointId zeroDatapoint id ds (in-order ds ok) (taken e v) l)
 
   -- the record at the place takes the event, where it is the one of the ID and takes it
   pub takes-there : takesAt e id v there ≡ true → T (takes e v there)
-  takes-there h = right (eqb (there .id) id) (takes e v there) (true-T h)
+  takes-there h = right (eqb (there .id) id) (takes e v there) (taken-here e id v there h)
 
   -- a value of one byte, by that byte
   module _ (one : T (eqb (length v) 1)) where

@@ -2,8 +2,8 @@
 use Prim.Native.Nat.{ℕ, _+_, _≤_}
 use mathlib.Core.Path.{_≡_, refl, sym, _∙_, ap, subst}
 use mathlib.Core.Logic.{_≢_}
-use mathlib.Core.Bool.{Bool, true, false, not}
-use mathlib.Core.List.{List, [], _∷_, _++_}
+use mathlib.Core.Bool.{Bool, true, false}
+use mathlib.Core.List.{List, _++_}
 use native.Mathlib.Omega.{arith}
 use lib.ListN.{length, drop}
 use lib.Dec.{ltb, eqb}
@@ -26,13 +26,13 @@ use Rattle.calls.specs.declared.event.Event.the-variants.{HostByte, Idle
 use Rattle.baos.specs.declared.bus.Outcome.{Outcome}
 use Rattle.calls.specs.declared.reply.Reply.{Reply}
 use Rattle.calls.specs.declared.reply.Reply.the-variants.{Refused, Accepted}
-use Rattle.calls.specs.Event.{atDatapoint, valueFits, busOk}
+use Rattle.calls.specs.Event.{atDatapoint, busOk}
 use Rattle.calls.specs.Reply.{replyNumbers}
 use Rattle.calls.specs.Call.{quiet, saying, handedUp, onMoved, onPoll, happens, refusal, Called, accepted, call}
 use Rattle.calls.specs.Promise.{Leaves, lentRefusal, BusEventTaken}
 use Rattle.baos.specs.declared.bus.BusEvent.{BusEvent}
 use Rattle.baos.specs.declared.bus.BusEvent.the-variants.{Value, Transmission}
-use Rattle.baos.specs.Bus.{takes, taken, foundTakes}
+use Rattle.baos.specs.Bus.{taken, foundTakes}
 use Rattle.calls.proofs.CallLaws.{refusal-0, refusal-1, refusal-2, refusal-3, refusal-4, refused-leaves}
 
 -- what is lent is in order
@@ -124,16 +124,6 @@ polled ds is ps l = go (isEmpty (l .outstanding)) refl
     go true e = simp e
     go false e = simp e
 
-value-fits : (v : List ℕ) (fs : List Datapoint) → valueFits fs v ≡ foundTakes Value v fs
-unfolding valueFits foundTakes takes
-value-fits v [] = refl
-value-fits v (d ∷ fs) = refl
-
-outcome-fits : (o : Outcome) (v : List ℕ) (fs : List Datapoint) → not (isEmpty fs) ≡ foundTakes (Transmission o) v fs
-unfolding foundTakes takes
-outcome-fits o v [] = refl
-outcome-fits o v (d ∷ fs) = refl
-
 -- ---- each event
 module _ (v : List ℕ) (t : Tables) (k : Link) (out : List ℕ) (p : Lent t k (length out)) where
   pub leaves-host-byte : (b : ℕ) (r : Reply) (t′ : Tables) (k′ : Link) (out′ : List ℕ) → Leaves (accepted out (onMoved (onHostByte b (lineOf k)) t)) r t′ k′ out′ → Leaves (call (HostByte b) v t k out) r t′ k′ out′
@@ -174,8 +164,8 @@ module _ (v : List ℕ) (ds : List Datapoint) (is : List Item) (ps : List ℕ) (
 
   pub leaves-bus-value : (id : ℕ) (r : Reply) (ds′ : List Datapoint) → BusEventTaken Value id v ds r ds′ → Leaves (call (BusValue id) v (tablesOf ds is ps) k out) r (tablesOf ds′ is ps) k out
   unfolding busOk happens atDatapoint changedAt taken
-  leaves-bus-value id = bus-leaves (BusValue id) Value id (value-fits v (found datapointId id ds)) refl
+  leaves-bus-value id = bus-leaves (BusValue id) Value id refl refl
 
   pub leaves-outcome : (id : ℕ) (o : Outcome) (r : Reply) (ds′ : List Datapoint) → BusEventTaken (Transmission o) id v ds r ds′ → Leaves (call (TransmissionOutcome id o) v (tablesOf ds is ps) k out) r (tablesOf ds′ is ps) k out
   unfolding busOk happens atDatapoint changedAt taken
-  leaves-outcome id o = bus-leaves (TransmissionOutcome id o) (Transmission o) id (outcome-fits o v (found datapointId id ds)) refl
+  leaves-outcome id o = bus-leaves (TransmissionOutcome id o) (Transmission o) id refl refl

@@ -2,7 +2,7 @@
 use Prim.Native.Nat.{ℕ, _-_, _≤_, _<_}
 use mathlib.Core.Path.{_≡_, refl}
 use mathlib.Core.Logic.{_≢_}
-use mathlib.Core.Bool.{Bool, true, false}
+use mathlib.Core.Bool.{Bool, true, false, _&&_}
 use mathlib.Core.List.{List, [], _∷_}
 use native.Mathlib.Omega.{arith}
 use lib.ListN.{length}
@@ -12,11 +12,12 @@ use Rattle.words.specs.Words.{if_then_else_, isEmpty, every}
 use Rattle.ft12.specs.declared.record.Link.{Link}
 use Rattle.ft12.specs.Record.{Line, lineOf, lineOk, memoryOk, inRange}
 use Rattle.ft12.specs.Rules.{Up, nothing, acknowledged, dropped, reset, message}
-use Rattle.words.proofs.WordLaws.{right, both, true-T}
+use Rattle.words.proofs.WordLaws.{left, right, both, true-T}
 use Rattle.ft12.proofs.RecordLaws.{line-in-range}
 use Rattle.ft12.proofs.RulesLaws.{host-byte-ok, idle-mark-ok, ack-wait-ok, message-ok}
 use Rattle.baos.specs.declared.datapoint.Datapoint.{Datapoint}
 use Rattle.baos.specs.Datapoint.{datapointId, datapointOk, isValue, withState, withValue, withMark, busValue, outcome}
+use Rattle.baos.specs.Lookup.{lookupOf, isPresent}
 use Rattle.baos.specs.Table.{Tables, wellFormed, found}
 use Rattle.baos.specs.Service.{carriedOut}
 use Rattle.baos.specs.Indication.{indication}
@@ -25,12 +26,13 @@ use Rattle.baos.proofs.DatapointLaws
 use Rattle.baos.proofs.KeepLaws
 use Rattle.calls.specs.declared.event.Event.{Event}
 use Rattle.calls.specs.declared.event.Event.the-variants.{HostByte, IdleMark, AckWaitOver, Poll, BusValue, TransmissionOutcome}
+use Rattle.baos.specs.declared.bus.BusEvent.the-variants.{Value}
 use Rattle.baos.specs.declared.bus.Outcome.{Outcome}
 use Rattle.baos.specs.declared.bus.Outcome.the-variants.{Sent, Failed, InProgress}
 use Rattle.calls.specs.declared.reply.Reply.{Reply}
 use Rattle.calls.specs.declared.reply.Reply.the-variants.{Refused, Accepted}
-use Rattle.baos.specs.Bus.{statusOf}
-use Rattle.calls.specs.Event.{atDatapoint, valueFits, busOk}
+use Rattle.baos.specs.Bus.{statusOf, takes, foundTakes}
+use Rattle.calls.specs.Event.{atDatapoint, busOk}
 use Rattle.calls.specs.Reply.{replyNumbers}
 use Rattle.calls.specs.Call.{Done, saying, handedUp, onMoved, onPoll, happens, refusal, Called, refused, accepted, call}
 
@@ -114,16 +116,16 @@ bus-same-id : (v : List ℕ) (d : Datapoint) → datapointId (busValue v d) ≡ 
 unfolding busValue withMark withValue
 bus-same-id v d = refl
 
-fits-found : (v : List ℕ) (d : Datapoint) → T (valueFits (d ∷ []) v) → T (isValue (d .typecode) v)
-unfolding valueFits
-fits-found v d t = t
+fits-found : (v : List ℕ) (d : Datapoint) → T (foundTakes Value v (d ∷ [])) → T (isValue (d .typecode) v)
+unfolding foundTakes takes
+fits-found v d t = left (isValue (d .typecode) v) true (right (isPresent (lookupOf (d ∷ []))) (isValue (d .typecode) v && true) t)
 
-value-lasts : (id : ℕ) (v : List ℕ) (t : Tables) → T (wellFormed t) → T (valueFits (found datapointId id (t .datapoints)) v) → T (wellFormed (atDatapoint id (busValue v) t))
+value-lasts : (id : ℕ) (v : List ℕ) (t : Tables) → T (wellFormed t) → T (foundTakes Value v (found datapointId id (t .datapoints))) → T (wellFormed (atDatapoint id (busValue v) t))
 unfolding atDatapoint
 value-lasts id v t w f =
     KeepLaws.with-datapoints t _ w
     (TableLaws.table-changed datapointId 1000 datapointOk (λ (d : Datapoint). isValue (d .typecode) v) id (busValue v) (bus-same-id v) (DatapointLaws.bus-value-ok v) (t .datapoints)
-    (TableLaws.found-fits datapointId id (λ (d : Datapoint). isValue (d .typecode) v) (λ ds. valueFits ds v) (fits-found v) 0 (t .datapoints)
+    (TableLaws.found-fits datapointId id (λ (d : Datapoint). isValue (d .typecode) v) (foundTakes Value v) (fits-found v) 0 (t .datapoints)
     (TableLaws.ids-rise datapointId 1000 datapointOk (t .datapoints) (KeepLaws.parts t w .datapoints)) f)
     (KeepLaws.parts t w .datapoints))
 

@@ -1,11 +1,11 @@
 -- The six events by number, and what the bus does to the tables.
 use Prim.Native.Nat.{ℕ}
-use mathlib.Core.Bool.{Bool, true, false, not}
+use mathlib.Core.Bool.{Bool, true}
 use mathlib.Core.List.{List, [], _∷_}
-use Rattle.words.specs.Words.{isEmpty}
+use Rattle.baos.specs.declared.bus.BusEvent.the-variants.{Value, Transmission}
 use Rattle.baos.specs.declared.datapoint.Datapoint.{Datapoint}
-use Rattle.baos.specs.Datapoint.{datapointId, isValue}
-use Rattle.baos.specs.Bus.{statusOf}
+use Rattle.baos.specs.Datapoint.{datapointId}
+use Rattle.baos.specs.Bus.{statusOf, foundTakes}
 use Rattle.baos.specs.Table.{Tables, withDatapoints, found, changedAt}
 use Rattle.calls.specs.declared.event.Event.{Event}
 use Rattle.calls.specs.declared.event.Event.the-variants.{HostByte, IdleMark, AckWaitOver, Poll, BusValue}
@@ -24,11 +24,6 @@ numbersOf (TransmissionOutcome id o) = 6 ∷ id ∷ statusOf o ∷ []
 unfoldable pub atDatapoint : ℕ → (Datapoint → Datapoint) → Tables → Tables
 atDatapoint id f t = withDatapoints (changedAt datapointId id f (t .datapoints)) t
 
--- the datapoint that was found takes this value
-unfoldable pub valueFits : List Datapoint → List ℕ → Bool
-valueFits [] v = false
-valueFits (d ∷ ds) v = isValue (d .typecode) v
-
 -- Refusal 4 is given for a "bus event: ID absent, value length not the type's, or unused bits set"; this says that it
 -- is not. An outcome is a bus event too, of which only the ID is judged.
 unfoldable pub busOk : Event → List ℕ → Tables → Bool
@@ -36,5 +31,5 @@ busOk (HostByte b) v t = true
 busOk IdleMark v t = true
 busOk AckWaitOver v t = true
 busOk Poll v t = true
-busOk (BusValue id) v t = valueFits (found datapointId id (t .datapoints)) v
-busOk (TransmissionOutcome id o) v t = not (isEmpty (found datapointId id (t .datapoints)))
+busOk (BusValue id) v t = foundTakes Value v (found datapointId id (t .datapoints))
+busOk (TransmissionOutcome id o) v t = foundTakes (Transmission o) v (found datapointId id (t .datapoints))

@@ -3,15 +3,21 @@ ghost use mathlib.Core.Path.{_≡_};
 ghost use mathlib.Core.List.{[], _∷_};
 ghost use Prim.Native.Nat.{_+_, _≤_, _<_};
 ghost use lib.ListN.{length};
-ghost use Rattle.baos.specs.Datapoint.{commanded, withState, zeroDatapoint};
+ghost use Rattle.baos.specs.Datapoint.{isSend, commanded, withState, zeroDatapoint};
 ghost use Rattle.baos.specs.Set.{takesCommand, datapointCode};
 use baos::code::BAD_COMMAND_OR_VALUE;
+use baos::code::BAD_ID;
 use baos::code::BAD_LENGTH;
 use baos::code::NO_ERROR;
 use baos::datapoint::Datapoint;
+use baos::datapoint::TRANSMIT;
+use baos::lookup::Lookup;
+use baos::service::LAST_CLOSED_COMMAND;
 use baos::service::LAST_COMMAND;
+use baos::service::SEND;
 use baos::service::SET_AND_SEND;
 use baos::service::SET_VALUE;
+use values::lookup::is_present;
 use values::value::is_unused_bits_ok;
 use values::value::padded;
 use values::value::size_of;
@@ -66,18 +72,45 @@ pub fn command_byte(d: Datapoint, c: u8, b: u8) -> Datapoint
     r
 }
 
-// Whether a set request may carry the command.
-fn takes_command(c: u8) -> bool
-    ensures { λ r. ⌜ r ≡ takesCommand c ⌝ }
+// Whether a command sends the value on the bus.
+fn is_send(c: u8) -> bool
+    ensures { λ r. ⌜ r ≡ isSend c ⌝ }
 {
+    if c == SEND {
+        return true;
+    }
+    c == SET_AND_SEND
+}
+
+// Whether an open datapoint takes the command: to send, its transmit flag has to be on.
+fn open_takes_command(flags: u8, c: u8) -> bool
+    ensures { λ r. ⌜ r ≡ takesCommand Lookup.Open flags c ⌝ }
+{
+    if is_send(c) {
+        return flags / TRANSMIT % 2 == 1;
+    }
     c <= LAST_COMMAND
 }
 
-// The code of a set entry for this record, 0 where nothing is wrong.
-pub fn entry_code(d: Datapoint, c: u8, value: &[u8]) -> u8
-    ensures { λ r. ⌜ r ≡ datapointCode d c (now (value .entry)) ⌝ }
+// Whether a datapoint that was found so takes the command.
+fn takes_command(lookup: Lookup, flags: u8, c: u8) -> bool
+    ensures { λ r. ⌜ r ≡ takesCommand lookup flags c ⌝ }
 {
-    if !takes_command(c) {
+    match lookup {
+        Lookup::Absent => false,
+        Lookup::Closed => c <= LAST_CLOSED_COMMAND,
+        Lookup::Open => open_takes_command(flags, c),
+    }
+}
+
+// The code of a set entry, by what looking up its ID found and by the datapoint found; 0 where nothing is wrong.
+pub fn entry_code(lookup: Lookup, d: Datapoint, c: u8, value: &[u8]) -> u8
+    ensures { λ r. ⌜ r ≡ datapointCode lookup d c (now (value .entry)) ⌝ }
+{
+    if !is_present(lookup) {
+        return BAD_ID;
+    }
+    if !takes_command(lookup, d.flags, c) {
         return BAD_COMMAND_OR_VALUE;
     }
     if value.len() == 0 {

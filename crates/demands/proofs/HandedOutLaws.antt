@@ -1,10 +1,11 @@
 -- A reading is handed out once. Bit 3 of a datapoint is set by a bus value for it alone; a message that shows it set is built of a record that has it set and loses it.
 use Prim.Native.Nat.{ℕ, _+_, _/_, _%_, _≤_, _<_}
 use mathlib.Core.Path.{_≡_, refl, sym, _∙_, ap, subst}
-use mathlib.Core.Logic.{_⊎_, inl, inr}
+use mathlib.Core.Logic.{_⊎_, inl, inr, _≢_}
 use mathlib.Core.Bool.{Bool, true, false, not, _&&_, _||_}
 use mathlib.Core.List.{List, [], _∷_, _++_, map, flatten}
 use native.Mathlib.Omega.{arith}
+use native.Mathlib.Decide.{ℕ-discrete}
 use lib.ListN.{length, getD, drop}
 use lib.Seq.{drop-append-add, drop-append-seam}
 use lib.Dec.{T, ltb, eqb, ltb→lt}
@@ -34,8 +35,8 @@ use Rattle.calls.specs.declared.event.Event.{Event}
 use Rattle.calls.specs.declared.event.Event.the-variants.{HostByte, IdleMark, AckWaitOver, Poll, BusValue, TransmissionOutcome}
 use Rattle.baos.specs.Bus.{statusOf}
 use Rattle.calls.specs.Event.{atDatapoint}
-use Rattle.calls.specs.Call.{Done, saying, handedUp, onMoved, onPoll, happens, refusal, accepted, call}
-use Rattle.calls.proofs.CallLaws.{not-refused}
+use Rattle.calls.specs.Call.{Done, saying, handedUp, onMoved, onPoll, happens, refusal, Called, refused, accepted, call}
+use Rattle.calls.proofs.CallLaws.{not-refused, refused-leaves}
 use Rattle.calls.proofs.CallJoins.{waited}
 use Rattle.baos.proofs.BusLaws.{status-fits}
 use Rattle.walks.proofs.Branches.{no-T}
@@ -433,6 +434,16 @@ record AtMostOnce (id : ℕ) (hs : List Happening) (t : Tables) (k : Link) : Typ
 pub call-tables : (e : Event) (v : List ℕ) (t : Tables) (k : Link) (out : List ℕ) → refusal e v t k (length out) ≡ 0 → call e v t k out .tables ≡ happens e v t (lineOf k) .tables
 unfolding call accepted
 call-tables e v t k out h = simp h
+
+-- a call leaves what its event does to the tables, or the tables where it is refused
+pub by-call : (P : Tables → Type 0) (e : Event) (v : List ℕ) (t : Tables) (k : Link) (out : List ℕ)
+    → (refusal e v t k (length out) ≡ 0 → P (happens e v t (lineOf k) .tables)) → (refusal e v t k (length out) ≢ 0 → P t) → P (call e v t k out .tables)
+unfolding refused
+by-call P e v t k out p q = go (ℕ-discrete (refusal e v t k (length out)) 0)
+  where
+    go : Dec (refusal e v t k (length out) ≡ 0) → P (call e v t k out .tables)
+    go (yes z) = subst P (sym (call-tables e v t k out z)) (p z)
+    go (no n) = subst P (sym (ap (λ (c : Called). c .tables) (refused-leaves e v t k out (refusal e v t k (length out)) refl n))) (q n)
 
 at-most-once : (id : ℕ) (hs : List Happening) (t : Tables) (k : Link) → T (allAccepted hs t k) → T (noValueFor id hs) → AtMostOnce id hs t k
 unfolding allAccepted noValueFor timesHandedOut

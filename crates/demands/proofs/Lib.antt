@@ -9,4 +9,6 @@ pub mod ReadBack
 pub mod HostHearsLaws
 pub mod HandedOutLaws
 pub mod Demand2
+pub mod EntryErrorLaws
 pub mod StatusLaws
+pub mod ClosedLaws

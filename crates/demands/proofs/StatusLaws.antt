@@ -1,12 +1,11 @@
 -- A datapoint's status: what a request and a call leave of it, and that a request with command 5 is refused whole.
 use Prim.Native.Nat.{ℕ, _%_, _<_}
-use mathlib.Core.Path.{_≡_, refl, sym, _∙_, ap, subst}
-use mathlib.Core.Logic.{_⊎_, inl, inr, _≢_}
+use mathlib.Core.Path.{_≡_, refl, sym, _∙_, ap}
+use mathlib.Core.Logic.{_⊎_, inl, inr}
 use mathlib.Core.Bool.{Bool, true, false, not, _&&_, _||_}
-use mathlib.Core.List.{List, [], _∷_, _++_, map}
+use mathlib.Core.List.{List, [], _∷_, map}
 use native.Mathlib.Omega.{arith}
-use native.Mathlib.Decide.{ℕ-discrete}
-use lib.ListN.{length, getD, drop}
+use lib.ListN.{length, getD}
 use lib.Dec.{T, eqb, eqb→eq}
 use borrow.Author.Tests.{eq-eqb, ne-eqb, eqb-true}
 use Rattle.words.specs.Words.{if_then_else_, isEmpty, keep, every}
@@ -17,32 +16,30 @@ use Rattle.ft12.specs.Rules.{Up, nothing, acknowledged, dropped, reset, message
 use Rattle.baos.specs.declared.datapoint.Datapoint.{Datapoint}
 use Rattle.baos.specs.declared.bus.Outcome.{Outcome}
 use Rattle.baos.specs.declared.bus.Outcome.the-variants.{Sent, Failed, InProgress}
-use Rattle.baos.specs.Datapoint.{datapointId, withState, withValue, withMark, handedOut, busValue, outcome, commanded}
+use Rattle.baos.specs.Datapoint.{datapointId, zeroDatapoint, withState, withValue, withMark, handedOut, busValue, outcome, isSend, commanded}
 use Rattle.baos.specs.Bus.{statusOf}
+use Rattle.baos.specs.Lookup.{lookupOf, isPresent}
 use Rattle.baos.specs.Table.{Tables, withItems, found, changedAt}
-use Rattle.baos.specs.Message.{subService, startOf, numberOf, coded, Finding, fine, bad, Served, afterOf, served}
+use Rattle.baos.specs.Message.{subService, startOf, coded, Finding, fine, bad, Served, afterOf, served}
 use Rattle.baos.specs.Get.{roomForEntries, getting, getServerItem, getDatapointDescription, asked, handingOut, getDatapointValue, getParameterByte}
-use Rattle.baos.specs.Set.{SetEntry, firstDatapointEntry, fills, firstBad, setFinding, judgedDatapoint, applied, setting, setServerItem, setDatapoint, setDatapointValue}
-use Rattle.baos.specs.Service.{service, unanswered, carriedOut}
+use Rattle.baos.specs.Set.{SetEntry, firstDatapointEntry, judgedDatapoint, applied, setting, setServerItem, setDatapoint, setDatapointValue}
+use Rattle.baos.specs.Service.{service, carriedOut}
 use Rattle.baos.specs.Indication.{choices, goes, roomAfter, afterReport, indication}
 use Rattle.baos.proofs.DatapointLaws.{command-same, command-status, bits-without-updated, bits-with-status, bits-from-bus}
 use Rattle.baos.proofs.BusLaws.{status-fits}
 use Rattle.baos.proofs.EntryLaws.{retired}
-use Rattle.baos.proofs.LeftLaws.{none-left, each-fine}
 use Rattle.baos.proofs.SettingLaws.{by-setting}
-use Rattle.baos.proofs.ServiceLaws.{not-answered, is-set-value, setValueFinding, bad-set-value}
 use Rattle.baos.proofs.DispatchLaws.{by-service, by-message}
 use Rattle.calls.specs.declared.event.Event.{Event}
 use Rattle.calls.specs.declared.event.Event.the-variants.{HostByte, IdleMark, AckWaitOver, Poll, BusValue, TransmissionOutcome}
 use Rattle.calls.specs.Event.{atDatapoint}
-use Rattle.calls.specs.Call.{Done, saying, handedUp, onMoved, onPoll, happens, refusal, Called, refused, call}
-use Rattle.calls.proofs.CallLaws.{refused-leaves}
+use Rattle.calls.specs.Call.{Done, saying, handedUp, onMoved, onPoll, happens, refusal, refused, call}
 use Rattle.calls.proofs.CallJoins.{waited}
 use Rattle.walks.proofs.Branches.{no-T}
-use Rattle.demands.specs.Answers.{ErrorAnswer}
-use Rattle.demands.proofs.ErrorLaws.{errors-change-nothing}
-use Rattle.demands.proofs.HandedOutLaws.{out-id, report-id, value-id, call-tables}
-use Rattle.demands.specs.Status.{statusAt, replaced, entriesOf, holdsEntry, isSendFor, statusByRequest, messageUp, statusBy, AfterRequest, AfterCall, StaysOrRequested, isOutcomeFor, StaysOrRequestedByRequest, StaysOrRequestedByCall, IdleBySent, noSendOrOutcome, tablesAfterAll, StandsUntil, isRetired, RetiredRefused, RetiredCallRefused, RetiredCode, StatusStands}
+use Rattle.demands.proofs.HandedOutLaws.{out-id, report-id, value-id, call-tables, by-call}
+use Rattle.demands.proofs.EntryErrorLaws.{judge, judged-absent, refused-whole, call-refused-whole, command-code}
+use Rattle.demands.specs.Entries.{entriesOf, holdsEntry, messageUp}
+use Rattle.demands.specs.Status.{statusAt, replaced, isSendFor, statusByRequest, statusBy, AfterRequest, AfterCall, StaysOrRequested, isOutcomeFor, StaysOrRequestedByRequest, StaysOrRequestedByCall, IdleBySent, noSendOrOutcome, tablesAfterAll, StandsUntil, isRetired, RetiredRefused, RetiredCallRefused, RetiredCode, StatusStands}
 
 -- ---- records
 abbrev status : Datapoint → ℕ
@@ -97,8 +94,8 @@ statuses-changed id n ns f same-id new ds =
     go d false true p q e = absurd (true-T {b = false} (sym p ∙ eq-eqb (d .id) n (omega (arith, e, eqb-true n id q))))
 
 -- ---- a set
-command-new : (c : ℕ) (v : List ℕ) (d : Datapoint) → status (commanded c v d) ∷ [] ≡ replaced (if eqb c 2 || eqb c 3 then 3 ∷ [] else []) (status d ∷ [])
-command-new c v d = ap {B = List ℕ} (λ (n : ℕ). n ∷ []) (command-status c v d) ∙ go (eqb c 2 || eqb c 3)
+command-new : (c : ℕ) (v : List ℕ) (d : Datapoint) → status (commanded c v d) ∷ [] ≡ replaced (if isSend c then 3 ∷ [] else []) (status d ∷ [])
+command-new c v d = ap {B = List ℕ} (λ (n : ℕ). n ∷ []) (command-status c v d) ∙ go (isSend c)
   where
     go : (u : Bool) → (if u then 3 else status d) ∷ [] ≡ replaced (if u then 3 ∷ [] else []) (status d ∷ [])
     go true = unfold replaced in refl
@@ -253,7 +250,7 @@ outcome-new : (s : ℕ) (d : Datapoint) → s < 4 → status (outcome s d) ∷ [
 unfolding outcome withState replaced
 outcome-new s d h = ap {B = List ℕ} (λ (n : ℕ). n ∷ []) (bits-with-status s (d .state) h .status-bits)
 
-happens-leaves : (id : ℕ) (e : Event) (v : List ℕ) (t : Tables) (l : Line) → statusAt id (happens e v t l .tables) ≡ replaced (statusBy id e t l) (statusAt id t)
+pub happens-leaves : (id : ℕ) (e : Event) (v : List ℕ) (t : Tables) (l : Line) → statusAt id (happens e v t l .tables) ≡ replaced (statusBy id e t l) (statusAt id t)
 unfolding happens statusBy atDatapoint
 happens-leaves id (HostByte b) v t l = unfold onMoved in up-leaves id (onHostByte b l .up) (onHostByte b l .sent) t (onHostByte b l .line)
 happens-leaves id IdleMark v t l = unfold onMoved handedUp onIdleMark replaced in refl
@@ -298,16 +295,6 @@ stays-or-requested id t t′ ns (inr e) p = inr (p ∙ ap (λ (x : List ℕ). re
 
 pub stays-or-requested-by-request : StaysOrRequestedByRequest
 stays-or-requested-by-request id t m = stays-or-requested id t (carriedOut t m .after) (statusByRequest id t m) (by-request id t m) (after-request id t m)
-
--- a call leaves what its event does to the tables, or the tables where it is refused
-by-call : (P : Tables → Type 0) (e : Event) (v : List ℕ) (t : Tables) (k : Link) (out : List ℕ)
-    → (refusal e v t k (length out) ≡ 0 → P (happens e v t (lineOf k) .tables)) → (refusal e v t k (length out) ≢ 0 → P t) → P (call e v t k out .tables)
-unfolding refused
-by-call P e v t k out p q = go (ℕ-discrete (refusal e v t k (length out)) 0)
-  where
-    go : Dec (refusal e v t k (length out) ≡ 0) → P (call e v t k out .tables)
-    go (yes z) = subst P (sym (call-tables e v t k out z)) (p z)
-    go (no n) = subst P (sym (ap (λ (c : Called). c .tables) (refused-leaves e v t k out (refusal e v t k (length out)) refl n))) (q n)
 
 pub stays-or-requested-by-call : StaysOrRequestedByCall
 stays-or-requested-by-call id e v t k out n =
@@ -372,96 +359,30 @@ stands-until id (h ∷ hs) t k n =
 
 -- ---- command 5
 -- where the ID is present, command 5 is judged 8
-judged-retired : (ds : List Datapoint) (e : SetEntry) → isEmpty ds ≡ false → T (isRetired e) → judgedDatapoint ds e ≡ 8
+judged-retired : (t : Tables) (e : SetEntry) → T (isRetired e && isPresent (lookupOf (found datapointId (e .id) (t .datapoints)))) → judge t e ≡ 8
 unfolding judgedDatapoint isRetired
-judged-retired [] e p r = absurd (true-T {b = false} (sym p))
-judged-retired (d ∷ ds) e p r = retired d (e .command) (e .value) (eqb→eq (e .command) 5 r)
+judged-retired t e h =
+    let ds = found datapointId (e .id) (t .datapoints) in
+    retired (lookupOf ds) (getD ds 0 zeroDatapoint) (e .command) (e .value) (T-true (isPresent (lookupOf ds)) (right (eqb (e .command) 5) (isPresent (lookupOf ds)) h))
+    (eqb→eq (e .command) 5 (left (eqb (e .command) 5) (isPresent (lookupOf ds)) h))
 
 -- an entry that is judged fine has another command
-not-retired : (ds : List Datapoint) (e : SetEntry) → judgedDatapoint ds e ≡ 0 → T (not (isRetired e))
-unfolding judgedDatapoint
-not-retired [] e z = absurd (omega (arith, z))
-not-retired (d ∷ ds) e z = go (isRetired e) refl
+not-retired : (t : Tables) (e : SetEntry) → judge t e ≡ 0 → T (not (isRetired e))
+not-retired t e z = go (isRetired e) (isPresent (lookupOf (found datapointId (e .id) (t .datapoints)))) refl refl
   where
-    go : (u : Bool) → isRetired e ≡ u → T (not u)
-    go true q = absurd (omega (arith, z, judged-retired (d ∷ ds) e refl (true-T q)))
-    go false q = tt
-
--- where each fails a test, none passes it
-none-kept : {A : Type 0} (p : A → Bool) (xs : List A) → T (every (λ x. not (p x)) xs) → T (not (isEmpty (keep p xs))) → ⊥
-none-kept p [] e n = n
-none-kept p (x ∷ xs) e n = go (p x) (left (not (p x)) (every (λ y. not (p y)) xs) e) (none-kept p xs (right (not (p x)) (every (λ y. not (p y)) xs) e)) n
-  where
-    go : (u : Bool) → T (not u) → (T (not (isEmpty (keep p xs))) → ⊥) → T (not (isEmpty (if u then x ∷ keep p xs else keep p xs))) → ⊥
-    go true o rest n = o
-    go false o rest n = rest n
-
-coded-error : (m : List ℕ) (i c : ℕ) → c ≢ 0 → ErrorAnswer (coded m i c)
-unfolding coded
-coded-error m i c n = record { seven = refl; no-entries = (refl, refl); code = n }
-
-module _ (t : Tables) (m : List ℕ) where
-  abbrev judge : SetEntry → ℕ
-  judge e = judgedDatapoint (found datapointId (e .id) (t .datapoints)) e
-
-  set-error : T (not (isEmpty (keep isRetired (entriesOf m)))) → ErrorAnswer (setDatapointValue t m .says)
-  unfolding setDatapointValue entriesOf
-  set-error n =
-      by-setting 4 firstDatapointEntry judge _ t m (λ (s : Served). ErrorAnswer (s .says)) (coded-error m)
-      (λ z. absurd (none-kept isRetired (entriesOf m) (true-T (each-fine judge (λ e. not (isRetired e)) (λ e. not-retired (found datapointId (e .id) (t .datapoints)) e) (entriesOf m) z)) n))
+    go : (u p : Bool) → isRetired e ≡ u → isPresent (lookupOf (found datapointId (e .id) (t .datapoints))) ≡ p → T (not u)
+    go false p q h = tt
+    go true true q h = absurd (omega (arith, z, judged-retired t e (rw (q, h) tt)))
+    go true false q h = absurd (omega (arith, z, judged-absent t e h))
 
 pub retired-refused : RetiredRefused
-unfolding holdsEntry
-retired-refused t m h = go (unanswered m) refl
-  where
-    six : subService m ≡ 0x06
-    six = eqb→eq (subService m) 0x06 (left (eqb (subService m) 0x06) (not (isEmpty (keep isRetired (entriesOf m)))) h)
-
-    held : T (not (isEmpty (keep isRetired (entriesOf m))))
-    held = right (eqb (subService m) 0x06) (not (isEmpty (keep isRetired (entriesOf m)))) h
-
-    go : (u : Bool) → unanswered m ≡ u → (unanswered m ≡ false → ErrorAnswer (carriedOut t m .says)) × (carriedOut t m .after ≡ t)
-    go true e = ((λ f. absurd (true-T {b = false} (sym f ∙ e))), ap (λ (s : Served). s .after) (not-answered t m e))
-    go false e =
-        let error : ErrorAnswer (carriedOut t m .says) = subst (λ (s : Served). ErrorAnswer (s .says)) (sym (is-set-value t m e six)) (set-error t m held) in
-        ((λ f. error), errors-change-nothing t m error)
-
--- over calls: where the message handed up holds command 5, the tables stay
-up-retired : (u : Up) (s : List ℕ) (t : Tables) (l : Line) → T (holdsEntry isRetired (messageUp u)) → handedUp u s t l .tables ≡ t
-unfolding handedUp saying messageUp holdsEntry subService
-up-retired nothing s t l h = absurd h
-up-retired acknowledged s t l h = absurd h
-up-retired dropped s t l h = absurd h
-up-retired reset s t l h = absurd h
-up-retired (message m) s t l h = retired-refused t m h .1
+retired-refused = refused-whole (λ t. isRetired) not-retired
 
 pub retired-call-refused : RetiredCallRefused
-retired-call-refused b v t k out h =
-    by-call (λ (t′ : Tables). t′ ≡ t) (HostByte b) v t k out (λ z. unfold happens onMoved in up-retired (onHostByte b (lineOf k) .up) _ t _ h) (λ z. refl)
-
--- the first bad entry, behind good ones
-first-bad-at : (judge : SetEntry → ℕ) (before : List SetEntry) (e : SetEntry) (behind : List SetEntry) → T (every (λ o. eqb (judge o) 0) before) → judge e ≡ 8
-    → firstBad judge (before ++ e ∷ behind) ≡ bad (e .id) 8
-unfolding firstBad
-first-bad-at judge [] e behind g z = rw z refl
-first-bad-at judge (o ∷ before) e behind g z =
-    rw (T-true (eqb (judge o) 0) (left (eqb (judge o) 0) (every (λ x. eqb (judge x) 0) before) g)) (first-bad-at judge before e behind (right (eqb (judge o) 0) (every (λ x. eqb (judge x) 0) before) g) z)
-
-some-in-front : (before : List SetEntry) (e : SetEntry) (behind : List SetEntry) → [] ≡ before ++ e ∷ behind → ⊥
-some-in-front [] e behind z = absurd (true-T {b = false} (ap isEmpty (sym z)))
-some-in-front (o ∷ before) e behind z = absurd (true-T {b = false} (ap isEmpty (sym z)))
+retired-call-refused = call-refused-whole (λ t. isRetired) not-retired
 
 pub retired-code : RetiredCode
-retired-code t m before e behind a six f s g r p = ap (λ (x : Served). x .says) (is-set-value t m a six ∙ bad-set-value t m finds)
-  where
-    stated : numberOf m ≢ 0
-    stated z = some-in-front before e behind (sym (none-left firstDatapointEntry 4 (numberOf m) (drop 6 m) (omega (arith, z))) ∙ (unfold entriesOf in s))
-
-    first : firstBad (judge t m) (entriesOf m) ≡ bad (e .id) 8
-    first = ap (firstBad (judge t m)) s ∙ first-bad-at (judge t m) before e behind g (judged-retired (found datapointId (e .id) (t .datapoints)) e p r)
-
-    finds : setValueFinding t m ≡ bad (e .id) 8
-    finds = unfold setFinding in rw (T-true (fills 4 (numberOf m) (drop 6 m)) f, ne-eqb (numberOf m) 0 stated) (unfold entriesOf in first)
+retired-code = command-code (λ t e. isRetired e && isPresent (lookupOf (found datapointId (e .id) (t .datapoints)))) judged-retired
 
 pub status-stands : StatusStands
 status-stands =

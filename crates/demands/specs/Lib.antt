@@ -5,5 +5,7 @@ pub mod SentFrames
 pub mod HostHears
 pub mod HandedOut
 pub mod Answers
+pub mod Entries
 pub mod Status
 pub mod Exchange
+pub mod Closed

@@ -4,27 +4,27 @@ use Prim.Native.Nat.{ℕ, _%_}
 use mathlib.Core.Path.{_≡_}
 use mathlib.Core.Logic.{_⊎_}
 use mathlib.Core.Bool.{Bool, true, false, not, _&&_, _||_}
-use mathlib.Core.List.{List, [], _∷_, _++_, map}
-use lib.ListN.{length, getD, drop}
+use mathlib.Core.List.{List, [], _∷_, map}
+use lib.ListN.{length, getD}
 use lib.Dec.{T, eqb}
-use Rattle.words.specs.Words.{if_then_else_, isEmpty, keep, every}
+use Rattle.words.specs.Words.{if_then_else_, isEmpty}
 use Rattle.ft12.specs.declared.record.Link.{Link}
 use Rattle.ft12.specs.Record.{Line, lineOf}
-use Rattle.ft12.specs.Rules.{Up, nothing, acknowledged, dropped, reset, message, onHostByte}
+use Rattle.ft12.specs.Rules.{onHostByte}
 use Rattle.baos.specs.declared.datapoint.Datapoint.{Datapoint}
 use Rattle.baos.specs.declared.bus.Outcome.the-variants.{Sent}
-use Rattle.baos.specs.Datapoint.{datapointId}
+use Rattle.baos.specs.Datapoint.{datapointId, isSend}
 use Rattle.baos.specs.Bus.{statusOf}
 use Rattle.baos.specs.Table.{Tables, found}
-use Rattle.baos.specs.Message.{subService, numberOf, coded}
-use Rattle.baos.specs.Set.{SetEntry, firstDatapointEntry, setEntries, fills, judgedDatapoint}
-use Rattle.baos.specs.Service.{unanswered, carriedOut}
+use Rattle.baos.specs.Lookup.{lookupOf, isPresent}
+use Rattle.baos.specs.Set.{SetEntry}
+use Rattle.baos.specs.Service.{carriedOut}
 use Rattle.calls.specs.declared.event.Event.{Event}
 use Rattle.calls.specs.declared.event.Event.the-variants.{HostByte, IdleMark, AckWaitOver, Poll, BusValue}
 use Rattle.calls.specs.declared.event.Event.the-variants.{TransmissionOutcome}
 use Rattle.calls.specs.Call.{refusal, call}
-use Rattle.demands.specs.Answers.{ErrorAnswer}
 use Rattle.demands.specs.HostHears.{Happening}
+use Rattle.demands.specs.Entries.{holdsEntry, messageUp, RefusedWhole, CallRefusedWhole, CommandCode}
 
 -- the datapoint's "bits 1-0 transmission status": a list with that number alone, or the empty list where the ID is
 -- absent; in well-formed tables an ID stands once
@@ -37,18 +37,9 @@ replaced [] s = s
 replaced (n ∷ ns) s = map (λ x. n) s
 
 -- ---- a request
--- the entries of a request to set datapoints, so many as it states; bytes that it does not have read 0, and it is
--- answered with code 10 then
-unfoldable pub entriesOf : List ℕ → List SetEntry
-entriesOf m = setEntries firstDatapointEntry 4 (numberOf m) (drop 6 m)
-
--- its sub is that of SetDatapointValue, and one of its entries passes the test
-unfoldable pub holdsEntry : (SetEntry → Bool) → List ℕ → Bool
-holdsEntry p m = eqb (subService m) 0x06 && not (isEmpty (keep p (entriesOf m)))
-
--- a send command for this ID: "2 status 11; 3 both"
+-- a send command for this ID
 unfoldable pub isSendFor : ℕ → SetEntry → Bool
-isSendFor id e = eqb (e .id) id && (eqb (e .command) 2 || eqb (e .command) 3)
+isSendFor id e = eqb (e .id) id && isSend (e .command)
 
 -- a request makes the status 11 where it holds a send command for this ID and is answered with code 0; the 1 stands for
 -- no answer
@@ -57,14 +48,6 @@ statusByRequest id t m =
     if holdsEntry (isSendFor id) m && eqb (getD (carriedOut t m .says) 6 1) 0 then 3 ∷ [] else []
 
 -- ---- an event
--- the message that the link hands up, empty where it hands up none
-unfoldable pub messageUp : Up → List ℕ
-messageUp nothing = []
-messageUp acknowledged = []
-messageUp dropped = []
-messageUp reset = []
-messageUp (message m) = m
-
 -- The one place that says what changes a status: a request, as above, and an outcome for the ID.
 unfoldable pub statusBy : ℕ → Event → Tables → Line → List ℕ
 statusBy id (HostByte b) t l = statusByRequest id t (messageUp (onHostByte b l .up))
@@ -132,31 +115,20 @@ abbrev pub StandsUntil : Type 0
 StandsUntil = (id : ℕ) (hs : List Happening) (t : Tables) (k : Link) → T (noSendOrOutcome id hs t k)
     → statusAt id (tablesAfterAll hs t k) ≡ statusAt id t
 
--- ---- "A stored request that still holds command 5 is refused whole": no table changes, and an error answers it where
--- it is answered at all
+-- ---- "A stored request that still holds command 5 is refused whole"
 unfoldable pub isRetired : SetEntry → Bool
 isRetired e = eqb (e .command) 5
 
 abbrev pub RetiredRefused : Type 0
-RetiredRefused = (t : Tables) (m : List ℕ) → T (holdsEntry isRetired m)
-    → (unanswered m ≡ false → ErrorAnswer (carriedOut t m .says)) × (carriedOut t m .after ≡ t)
+RetiredRefused = RefusedWhole (λ t. isRetired)
 
 abbrev pub RetiredCallRefused : Type 0
-RetiredCallRefused =
-    (b : ℕ) (v : List ℕ) (t : Tables) (k : Link) (out : List ℕ)
-    → T (holdsEntry isRetired (messageUp (onHostByte b (lineOf k) .up))) → call (HostByte b) v t k out .tables ≡ t
+RetiredCallRefused = CallRefusedWhole (λ t. isRetired)
 
--- "command 5 gives code 8, at the command check": in a request that is answered and whose entries fill it, where every
--- entry in front is good and the ID is present, and whatever value comes with it, the answer has code 8 and that
--- entry's ID
+-- "command 5 gives code 8, at the command check": where the ID is present
 abbrev pub RetiredCode : Type 0
 RetiredCode =
-    (t : Tables) (m : List ℕ) (before : List SetEntry) (e : SetEntry) (behind : List SetEntry)
-    → unanswered m ≡ false → subService m ≡ 0x06 → T (fills 4 (numberOf m) (drop 6 m))
-    → entriesOf m ≡ before ++ e ∷ behind
-    → T (every (λ (o : SetEntry). eqb (judgedDatapoint (found datapointId (o .id) (t .datapoints)) o) 0) before)
-    → T (isRetired e) → isEmpty (found datapointId (e .id) (t .datapoints)) ≡ false
-    → carriedOut t m .says ≡ coded m (e .id) 8
+    CommandCode (λ t e. isRetired e && isPresent (lookupOf (found datapointId (e .id) (t .datapoints))))
 
 -- ---- the sentences together
 pub record StatusStands : Type 0 where

@@ -16,7 +16,8 @@ use Rattle.baos.specs.Item.{itemId, itemOk, bytesOf}
 use Rattle.baos.specs.Table.{Tables, wellFormed, found}
 use Rattle.baos.specs.Message.{mainService, subService, startOf, numberOf, filterOf, coded, Served, answerOf, afterOf, served}
 use Rattle.baos.specs.Get.{AnswerEntry, inRequest, overflow, listing, getFinding, getting, itemEntry, getServerItem, descriptionEntry, getDatapointDescription, valueEntry, passes, asked, handingOut, getDatapointValue, parameterEntries, getParameterByte}
-use Rattle.baos.specs.Set.{fills, setEntries, firstDatapointEntry, judgedDatapoint, firstBad, setFinding, setting, setDatapointValue}
+use Rattle.baos.specs.Lookup.{lookupOf, isPresent}
+use Rattle.baos.specs.Set.{fills, setEntries, firstDatapointEntry, datapointCode, judgedDatapoint, firstBad, setFinding, setting, setDatapointValue}
 use Rattle.baos.specs.Service.{service, unanswered, carriedOut}
 use Rattle.baos.specs.Inner.Gather.{getDatapoints}
 use Rattle.baos.proofs.DatapointLaws.{size-fits}
@@ -147,7 +148,7 @@ module _ (t : Tables) (m : List ℕ) (none : t .datapoints ≡ []) (main : mainS
   empty-values k l h f = simp (none, main, k, l, ne-eqb (numberOf m) 0 (omega arith), le-ltb 2 (filterOf m) f)
 
   empty-set : subService m ≡ 0x06 → 6 ≤ length m → 1 ≤ numberOf m → T (fills 4 (numberOf m) (drop 6 m)) → RefusedWith t m (firstDatapointEntry (drop 6 m) .id) 7
-  unfolding carriedOut unanswered service setDatapointValue setting setFinding served answerOf afterOf firstBad judgedDatapoint found
+  unfolding carriedOut unanswered service setDatapointValue setting setFinding served answerOf afterOf firstBad judgedDatapoint datapointCode lookupOf isPresent found
   empty-set k l h f = go (numberOf m) refl
     where
       go : (n : ℕ) → numberOf m ≡ n → RefusedWith t m (firstDatapointEntry (drop 6 m) .id) 7

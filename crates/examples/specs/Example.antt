@@ -110,13 +110,14 @@ case2even =
       lineAfter = lineAt true true answer1;
     }
 
--- 3 and 4: datapoint 5 of type 0
+-- 3 and 4: datapoint 5 of type 0. "Case 3 of document 01 has both bits set from now on" (document 02, item 2), config
+-- bits 2 and 6, and 4 is "the same"; the datapoints of the other examples have them set too.
 unfoldable pub datapoint : ℕ → ℕ → ℕ → List ℕ → Datapoint
 datapoint id typecode state value =
     record {
       id = id;
       typecode = typecode;
-      flags = 0;
+      flags = 0x44;
       dpt = 1;
       state = state;
       value = pad 14 value;

@@ -1,15 +1,18 @@
 // Bus events at one datapoint record, by value.
 ghost use mathlib.Core.Path.{_≡_};
-ghost use mathlib.Core.Bool.{_&&_};
 ghost use mathlib.Core.List.{[], _∷_};
-ghost use lib.Dec.{T, eqb};
-ghost use Rattle.baos.specs.Bus.{statusOf, takes, taken};
+ghost use lib.Dec.{T};
+ghost use Rattle.baos.specs.Bus.{statusOf, takes, taken, foundTakes};
+ghost use Rattle.baos.specs.Datapoint.{datapointId};
+ghost use Rattle.baos.specs.Table.{found};
 use crate::datapoint::bus_byte;
 use crate::datapoint::bus_value;
 use crate::datapoint::outcome_of;
 use baos::bus::BusEvent;
 use baos::bus::Outcome;
 use baos::datapoint::Datapoint;
+use values::lookup::is_present;
+use values::lookup::lookup_at;
 use values::value::is_value;
 
 // The transmission status that an outcome leaves: 00, 01 or 10.
@@ -23,11 +26,11 @@ fn status_of(outcome: Outcome) -> u8
     }
 }
 
-// Whether this is the record of that ID, and takes the event.
+// Whether the datapoint of that ID is found at this record, and takes the event: closed and open ones alike.
 pub fn takes_event(event: BusEvent, id: u16, value: &[u8], d: Datapoint) -> bool
-    ensures { λ r. ⌜ r ≡ (eqb (d .id) id && takes event (now (value .entry)) d) ⌝ }
+    ensures { λ r. ⌜ r ≡ foundTakes event (now (value .entry)) (found datapointId id (d ∷ [])) ⌝ }
 {
-    if d.id != id {
+    if !is_present(lookup_at(d, id)) {
         return false;
     }
     match event {

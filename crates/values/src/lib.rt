@@ -1,2 +1,4 @@
-// A value: its size by type code, its unused bits, its place in a record.
+// Single records: a value, with its size by type code, its unused bits and its place in a record; and what looking up an
+// ID finds.
+pub mod lookup;
 pub mod value;
