@@ -757,7 +757,7 @@ fn closed_and_open_alike() {
             same("the same answer", answers.0, answers.1);
             alike("an event", &open, &other);
         }
-        for filter in 0..=2 {
+        for filter in [2, 1, 0] {
             let message = get_values(10, 14, filter);
             same("a get", ask(&mut open, &message), ask(&mut other, &message));
             alike("a get", &open, &other);

@@ -37,7 +37,7 @@ extern "C" {
 struct tagobrelin_datapoint {
     uint16_t id;
     uint8_t typecode;  /* 0 to 14: 1 to 7 bits, then 1, 2, 3, 4, 6, 8, 10 and 14 bytes */
-    uint8_t flags;     /* config flags: any byte. A host's commands 2 and 3 need bits 2 and 6 (0x44), command 4 bit 2 */
+    uint8_t flags;     /* config flags, any byte: bit 2 communication, 6 transmit. Commands 2, 3 need both, 4 bit 2 */
     uint8_t dpt;       /* datapoint type: any byte */
     uint8_t state;     /* bit 4 valid, 3 updated from bus, 2 data request, 1-0 transmission status; bits 7 to 5 are 0 */
     uint8_t value[14]; /* big-endian, from the first byte on; bits and bytes beyond the type's size are 0 */

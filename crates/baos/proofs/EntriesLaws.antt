@@ -19,7 +19,6 @@ use Rattle.words.proofs.WordLaws.{true-T}
 use Rattle.baos.proofs.PlaceLaws.{found-at, changed-at}
 use Rattle.baos.specs.declared.datapoint.Datapoint.{Datapoint}
 use Rattle.baos.specs.declared.item.Item.{Item}
-use Rattle.baos.specs.declared.lookup.Lookup.{Lookup}
 
 module _ (at : ℕ) (s : List ℕ) where
   -- the ID of the entry
@@ -50,15 +49,15 @@ module _ (at : ℕ) (s : List ℕ) where
     pub cut-short : e ≡ at + span 4 (drop at s) → length (firstDatapointEntry (drop at s) .value) ≤ 14 → length (take (e - (at + 4)) (drop (at + 4) s)) ≤ 14
     cut-short p l = subst (λ (n : ℕ). n ≤ 14) (sym (by-entry (λ _ v. length v) p)) l
 
-    -- the entry's code, where looking up its ID gave l at the datapoint: that may be another's
-    pub code-at : (i : ℕ) (l : Lookup) → i ≡ idBytes → l ≡ lookupOf (found datapointId i (d ∷ [])) → e ≡ at + span 4 (drop at s)
-        → datapointCode l d (getD s (at + 2) 0) (take (e - (at + 4)) (drop (at + 4) s)) ≡ judgedDatapoint (found datapointId (firstDatapointEntry (drop at s) .id) (d ∷ [])) (firstDatapointEntry (drop at s))
+    -- the entry's code, by the datapoint where its ID belongs: that may be another's
+    pub code-at : (i : ℕ) → i ≡ idBytes → e ≡ at + span 4 (drop at s)
+        → datapointCode (lookupOf (found datapointId i (d ∷ []))) d (getD s (at + 2) 0) (take (e - (at + 4)) (drop (at + 4) s))
+        ≡ judgedDatapoint (found datapointId (firstDatapointEntry (drop at s) .id) (d ∷ [])) (firstDatapointEntry (drop at s))
     unfolding found judgedDatapoint datapointCode lookupOf isPresent firstDatapointEntry
-    code-at i l same q p = by-entry (datapointCode l d) p ∙ ap (λ (x : Lookup). datapointCode x d (firstDatapointEntry (drop at s) .command) (firstDatapointEntry (drop at s) .value)) at-id ∙ go (eqb (d .id) idBytes)
+    code-at i same p =
+        by-entry (datapointCode (lookupOf (found datapointId i (d ∷ []))) d) p
+        ∙ ap (λ (n : ℕ). datapointCode (lookupOf (if eqb (d .id) n then d ∷ [] else [])) d (firstDatapointEntry (drop at s) .command) (firstDatapointEntry (drop at s) .value)) same ∙ go (eqb (d .id) idBytes)
       where
-        at-id : l ≡ lookupOf (if eqb (d .id) idBytes then d ∷ [] else [])
-        at-id = q ∙ ap (λ (n : ℕ). lookupOf (if eqb (d .id) n then d ∷ [] else [])) same
-
         go : (y : Bool) → datapointCode (lookupOf (if y then d ∷ [] else [])) d (firstDatapointEntry (drop at s) .command) (firstDatapointEntry (drop at s) .value) ≡ judgedDatapoint (if y then d ∷ [] else []) (firstDatapointEntry (drop at s))
         go true = refl
         go false = refl

@@ -1,23 +1,27 @@
 -- A law for each answer of the code of a set entry; values kept in a record's memory.
 use Prim.Native.Nat.{ℕ, zero, suc, _+_, _-_, _/_, _%_, _≤_, _<_}
-use mathlib.Core.Path.{_≡_, refl, _∙_, ap}
-use mathlib.Core.Bool.{Bool, true, false, _||_}
+use mathlib.Core.Path.{_≡_, refl, sym, _∙_, ap}
+use mathlib.Core.Bool.{Bool, true, false, not, _||_}
 use mathlib.Core.List.{List, [], _∷_, _++_}
 use native.Mathlib.Omega.{arith}
 use lib.ListN.{length, getD, take, drop, replicate}
 use lib.Seq.{sets, length-take-le, take-suc}
-use lib.Dec.{eqb}
-use borrow.Author.Tests.{eq-eqb, ne-eqb}
-use Rattle.words.specs.Words.{pad, put, isEmpty}
+use lib.Dec.{leb, eqb}
+use borrow.Author.Tests.{eqb-true, eq-eqb, ne-eqb, le-leb, lt-leb}
+use Rattle.words.specs.Words.{if_then_else_, pad, put, isEmpty}
+use Rattle.words.proofs.WordLaws.{true-T}
 use Rattle.words.proofs.ByteLaws.{length-put, put-sets, put-put, put-in-front}
 use Rattle.baos.specs.declared.datapoint.Datapoint.{Datapoint}
 use Rattle.baos.specs.declared.item.Item.{Item}
 use Rattle.baos.specs.declared.lookup.Lookup.{Lookup}
 use Rattle.baos.specs.declared.lookup.Lookup.the-variants.{Absent, Closed, Open}
-use Rattle.baos.specs.Datapoint.{sizeOf, valueOf, unusedBitsOk}
-use Rattle.baos.specs.Lookup.{isPresent}
+use Rattle.baos.specs.Datapoint.{datapointId, sizeOf, valueOf, unusedBitsOk, isSend}
+use Rattle.baos.specs.Lookup.{lookupOf, lookupNumber, isPresent}
+use Rattle.baos.specs.Table.{found}
 use Rattle.baos.specs.Get.{valueEntry}
 use Rattle.baos.specs.Set.{itemCode, takesCommand, datapointCode}
+use Rattle.baos.proofs.LookupLaws.{same-lookup, present-one, present-at}
+use Rattle.baos.proofs.RisenLaws.{turned}
 use Rattle.baos.proofs.ValueLaws.{size-of-bits}
 
 -- ---- a value in memory that was 0
@@ -42,6 +46,14 @@ not-empty (x ∷ v) n = refl
 or-last : (a : Bool) → (a || true) ≡ true
 or-last true = refl
 or-last false = refl
+
+send-small : (c : ℕ) → isSend c ≡ true → leb c 4 ≡ true
+send-small c q = go (eqb c 2) (eqb c 3) refl refl q
+  where
+    go : (u w : Bool) → eqb c 2 ≡ u → eqb c 3 ≡ w → (u || w) ≡ true → leb c 4 ≡ true
+    go true w e f q = le-leb c 4 (omega (arith, eqb-true c 2 e))
+    go false true e f q = le-leb c 4 (omega (arith, eqb-true c 3 f))
+    go false false e f q = absurd (true-T {b = false} q)
 
 module _ (l : Lookup) (d : Datapoint) (c : ℕ) (v : List ℕ) where
   abbrev pub isTaken : Bool
@@ -88,6 +100,48 @@ module _ (l : Lookup) (d : Datapoint) (c : ℕ) (v : List ℕ) where
     pub code-of-value : isTaken ≡ true → (length v ≡ 0 → ⊥) → length v ≡ sizeOf (d .typecode) → unusedBitsOk (d .typecode) v ≡ true → datapointCode l d c v ≡ 0
     unfolding datapointCode
     code-of-value h n k u = simp (p, h, not-empty v n, eq-eqb (length v) (sizeOf (d .typecode)) k, u)
+
+-- ---- at the record of the entry's ID: what looking it up found, and whether the command is taken, by the answer y, which
+-- a test then turns round
+module _ (id : ℕ) (d : Datapoint) (e : d .id ≡ id) where
+  pub here : isPresent (lookupOf (found datapointId id (d ∷ []))) ≡ true
+  here = ap isPresent (present-at id d e) ∙ present-one d []
+
+  pub taken-by : (r : Lookup) (c : ℕ) {y b : Bool} → lookupNumber r ≡ lookupNumber (lookupOf (d ∷ [])) → y ≡ takesCommand r (d .flags) c → not y ≡ b
+      → takesCommand (lookupOf (found datapointId id (d ∷ []))) (d .flags) c ≡ not b
+  taken-by r c q p n = ap (λ (l : Lookup). takesCommand l (d .flags) c) (present-at id d e ∙ sym (same-lookup r (lookupOf (d ∷ [])) q)) ∙ turned p n
+
+-- ---- an open datapoint's commands, where it transmits and where it does not
+module _ (flags c : ℕ) where
+  pub open-transmits : flags / 64 % 2 ≡ 1 → takesCommand Open flags c ≡ leb c 4
+  unfolding takesCommand
+  open-transmits b = simp (eq-eqb (flags / 64 % 2) 1 b) (go (isSend c) refl)
+    where
+      go : (u : Bool) → isSend c ≡ u → (if u then true else leb c 4) ≡ leb c 4
+      go true q = sym (send-small c q)
+      go false q = refl
+
+  pub open-reads : (flags / 64 % 2 ≡ 1 → ⊥) → c ≡ 4 → takesCommand Open flags c ≡ true
+  unfolding takesCommand
+  open-reads n e = rw e refl
+
+  pub open-else : (flags / 64 % 2 ≡ 1 → ⊥) → (c ≡ 4 → ⊥) → takesCommand Open flags c ≡ leb c 1
+  unfolding takesCommand
+  open-else n k = go c k
+    where
+      off : eqb (flags / 64 % 2) 1 ≡ false
+      off = ne-eqb (flags / 64 % 2) 1 n
+
+      go : (m : ℕ) → (m ≡ 4 → ⊥) → takesCommand Open flags m ≡ leb m 1
+      go zero h = refl
+      go (suc zero) h = refl
+      go (suc (suc zero)) h = off
+      go (suc (suc (suc zero))) h = off
+      go (suc (suc (suc (suc zero)))) h = absurd (h refl)
+      go (suc (suc (suc (suc (suc m))))) h = above (suc (suc (suc (suc (suc m))))) (omega arith)
+        where
+          above : (m : ℕ) → 4 < m → takesCommand Open flags m ≡ leb m 1
+          above m q = simp (ne-eqb m 2 (λ e. omega (arith, e, q)), ne-eqb m 3 (λ e. omega (arith, e, q)), lt-leb m 4 q, lt-leb m 1 (omega (arith, q)))
 
 module _ (i : Item) (v : List ℕ) where
   pub code-of-fixed : (i .writable ≡ 1 → ⊥) → itemCode i v ≡ 4

@@ -44,22 +44,23 @@ pub present-some : (ds : List Datapoint) → isPresent (lookupOf ds) ≡ not (is
 present-some [] = unfold lookupOf isPresent in refl
 present-some (d ∷ ds) = present-one d ds
 
+pub open-flag : (d : Datapoint) → d .flags / 4 % 2 ≡ 1 → lookupOf (d ∷ []) ≡ Open
+unfolding lookupOf
+open-flag d b = simp (eq-eqb (d .flags / 4 % 2) 1 b)
+
+pub closed-flag : (d : Datapoint) → (d .flags / 4 % 2 ≡ 1 → ⊥) → lookupOf (d ∷ []) ≡ Closed
+unfolding lookupOf
+closed-flag d n = simp (ne-eqb (d .flags / 4 % 2) 1 n)
+
 -- ---- at one record, which may be another ID's
 module _ (id : ℕ) (d : Datapoint) where
-  abbrev at : Lookup
-  at = lookupOf (found datapointId id (d ∷ []))
-
-  pub absent-at : (d .id ≡ id → ⊥) → at ≡ Absent
+  pub absent-at : (d .id ≡ id → ⊥) → lookupOf (found datapointId id (d ∷ [])) ≡ Absent
   unfolding found lookupOf
   absent-at n = simp (ne-eqb (d .id) id n)
 
-  pub open-at : d .id ≡ id → d .flags / 4 % 2 ≡ 1 → at ≡ Open
-  unfolding found lookupOf
-  open-at e b = simp (eq-eqb (d .id) id e, eq-eqb (d .flags / 4 % 2) 1 b)
-
-  pub closed-at : d .id ≡ id → (d .flags / 4 % 2 ≡ 1 → ⊥) → at ≡ Closed
-  unfolding found lookupOf
-  closed-at e n = simp (eq-eqb (d .id) id e, ne-eqb (d .flags / 4 % 2) 1 n)
+  pub present-at : d .id ≡ id → lookupOf (found datapointId id (d ∷ [])) ≡ lookupOf (d ∷ [])
+  unfolding found
+  present-at e = simp (eq-eqb (d .id) id e)
 
 -- ---- of the datapoints whose IDs pass a test, as those in a get's range, an ID is one where it passes and is present
 pub present-kept : (p : ℕ → Bool) (id : ℕ) (ds : List Datapoint)

@@ -28,9 +28,9 @@ lookupNumber Absent = 1
 lookupNumber Closed = 2
 lookupNumber Open = 3
 
--- "Gets and bus events treat the last two alike": this is all that they ask. A bus event that finds none is refused
--- (`foundTakes`); a get looks up no single ID, and answers about exactly those of its range that are present. A set
--- treats no two alike (`datapointCode`).
+-- "Gets and bus events treat the last two alike." This is all that a bus event asks of the finding: absent is refused
+-- (`foundTakes`). A get looks up no single ID, and answers about those of its range that are present. A set treats no
+-- two alike (`datapointCode`).
 unfoldable pub isPresent : Lookup → Bool
 isPresent Absent = false
 isPresent Closed = true

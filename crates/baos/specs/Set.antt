@@ -81,7 +81,7 @@ datapointCode lookup d command value =
     else if not (unusedBitsOk (d .typecode) value) then 8
     else 0
 
--- An entry judged: the list is what `found` gives for its ID. Row 7, and then an item's.
+-- An entry judged: the list is what `found` gives for its ID. For an item row 7, and then its own rows.
 unfoldable pub judgedItem : List Item → SetEntry → ℕ
 judgedItem [] e = 7
 judgedItem (i ∷ is) e = itemCode i (e .value)

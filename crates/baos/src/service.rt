@@ -36,9 +36,9 @@ pub const DATAPOINT_ENTRY_HEAD: usize = 4;
 // "Commands: 0 nothing; 1 value, bit 4 set; 2 status 11; 3 both; 4 bit 2 set; [..]." Command 5 is retired.
 pub const SET_VALUE: u8 = 1;
 
-pub const SEND: u8 = 2;
-
 pub const SET_AND_SEND: u8 = 3;
+
+pub const READ: u8 = 4;
 
 pub const LAST_COMMAND: u8 = 4;
 

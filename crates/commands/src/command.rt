@@ -3,7 +3,9 @@ ghost use mathlib.Core.Path.{_≡_};
 ghost use mathlib.Core.List.{[], _∷_};
 ghost use Prim.Native.Nat.{_+_, _≤_, _<_};
 ghost use lib.ListN.{length};
-ghost use Rattle.baos.specs.Datapoint.{isSend, commanded, withState, zeroDatapoint};
+ghost use Rattle.baos.specs.Datapoint.{datapointId, commanded, withState, zeroDatapoint};
+ghost use Rattle.baos.specs.Lookup.{lookupOf};
+ghost use Rattle.baos.specs.Table.{found};
 ghost use Rattle.baos.specs.Set.{takesCommand, datapointCode};
 use baos::code::BAD_COMMAND_OR_VALUE;
 use baos::code::BAD_ID;
@@ -14,10 +16,10 @@ use baos::datapoint::TRANSMIT;
 use baos::lookup::Lookup;
 use baos::service::LAST_CLOSED_COMMAND;
 use baos::service::LAST_COMMAND;
-use baos::service::SEND;
+use baos::service::READ;
 use baos::service::SET_AND_SEND;
 use baos::service::SET_VALUE;
-use values::lookup::is_present;
+use values::lookup::lookup_of;
 use values::value::is_unused_bits_ok;
 use values::value::padded;
 use values::value::size_of;
@@ -72,27 +74,20 @@ pub fn command_byte(d: Datapoint, c: u8, b: u8) -> Datapoint
     r
 }
 
-// Whether a command sends the value on the bus.
-fn is_send(c: u8) -> bool
-    ensures { λ r. ⌜ r ≡ isSend c ⌝ }
-{
-    if c == SEND {
-        return true;
-    }
-    c == SET_AND_SEND
-}
-
-// Whether an open datapoint takes the command: to send, its transmit flag has to be on.
+// Whether an open datapoint takes the command: those that send it takes only where its transmit flag is on.
 fn open_takes_command(flags: u8, c: u8) -> bool
     ensures { λ r. ⌜ r ≡ takesCommand Lookup.Open flags c ⌝ }
 {
-    if is_send(c) {
-        return flags / TRANSMIT % 2 == 1;
+    if flags / TRANSMIT % 2 == 1 {
+        return c <= LAST_COMMAND;
     }
-    c <= LAST_COMMAND
+    if c == READ {
+        return true;
+    }
+    c <= LAST_CLOSED_COMMAND
 }
 
-// Whether a datapoint that was found so takes the command.
+// Whether the command is taken, by what looking up the ID found and by the flags.
 fn takes_command(lookup: Lookup, flags: u8, c: u8) -> bool
     ensures { λ r. ⌜ r ≡ takesCommand lookup flags c ⌝ }
 {
@@ -103,14 +98,14 @@ fn takes_command(lookup: Lookup, flags: u8, c: u8) -> bool
     }
 }
 
-// The code of a set entry, by what looking up its ID found and by the datapoint found; 0 where nothing is wrong.
-pub fn entry_code(lookup: Lookup, d: Datapoint, c: u8, value: &[u8]) -> u8
-    ensures { λ r. ⌜ r ≡ datapointCode lookup d c (now (value .entry)) ⌝ }
+// The code of a set entry for this ID, judged by the record that stands where the ID belongs; 0 where nothing is wrong.
+pub fn entry_code(id: u16, d: Datapoint, c: u8, value: &[u8]) -> u8
+    ensures { λ r. ⌜ r ≡ datapointCode (lookupOf (found datapointId id (d ∷ []))) d c (now (value .entry)) ⌝ }
 {
-    if !is_present(lookup) {
+    if d.id != id {
         return BAD_ID;
     }
-    if !takes_command(lookup, d.flags, c) {
+    if !takes_command(lookup_of(d), d.flags, c) {
         return BAD_COMMAND_OR_VALUE;
     }
     if value.len() == 0 {
@@ -122,11 +117,11 @@ pub fn entry_code(lookup: Lookup, d: Datapoint, c: u8, value: &[u8]) -> u8
         }
         return NO_ERROR;
     }
-    if value.len() == size_of(d.typecode) {
-        if is_unused_bits_ok(d.typecode, value) {
-            return NO_ERROR;
-        }
+    if value.len() != size_of(d.typecode) {
+        return BAD_LENGTH;
+    }
+    if !is_unused_bits_ok(d.typecode, value) {
         return BAD_COMMAND_OR_VALUE;
     }
-    BAD_LENGTH
+    NO_ERROR
 }

@@ -1,14 +1,14 @@
 -- Closed datapoints: a command whose bits are off is refused, and nothing but that goes by the flags.
-use Prim.Native.Nat.{ℕ}
+use Prim.Native.Nat.{ℕ, _+_}
 use mathlib.Core.Path.{_≡_, refl, sym, _∙_, ap, subst}
 use mathlib.Core.Logic.{_⊎_, inl, inr}
 use mathlib.Core.Bool.{Bool, true, false, not, _&&_, and-false, and-true}
-use mathlib.Core.List.{List, [], _∷_}
+use mathlib.Core.List.{List, [], _∷_, map}
 use native.Mathlib.Omega.{arith}
 use lib.ListN.{length, getD}
-use lib.Dec.{T, leb, eqb, eqb→eq}
+use lib.Dec.{T, leb, eqb, eqb→eq, ltb}
 use borrow.Author.Tests.{eq-eqb}
-use Rattle.words.specs.Words.{if_then_else_, isEmpty, every}
+use Rattle.words.specs.Words.{if_then_else_, isEmpty, keep, every}
 use Rattle.words.proofs.WordLaws.{left, right, both, true-T, T-true, every-imp}
 use Rattle.ft12.specs.declared.record.Link.{Link}
 use Rattle.ft12.specs.Record.{Line, lineOf}
@@ -22,15 +22,15 @@ use Rattle.baos.specs.Lookup.{lookupOf, isPresent}
 use Rattle.baos.specs.Flags.{neededBitsOn, withFlags, reflagged, reflaggedServed}
 use Rattle.baos.specs.Bus.{statusOf, foundTakes}
 use Rattle.baos.specs.Table.{Tables, withDatapoints, found}
-use Rattle.baos.specs.Message.{subService, Served}
-use Rattle.baos.specs.Get.{inRequest, getDatapointDescription}
+use Rattle.baos.specs.Message.{subService, startOf, filterOf, Served, answerOf, served}
+use Rattle.baos.specs.Get.{inRequest, listing, getFinding, getting, valueEntry, passes, asked, getDatapointDescription, getDatapointValue}
 use Rattle.baos.specs.Set.{SetEntry, judgedDatapoint}
 use Rattle.baos.specs.Service.{unanswered, carriedOut}
 use Rattle.baos.specs.Inner.Gather.{getDatapoints}
 use Rattle.baos.proofs.EntryLaws.{code-of-command}
 use Rattle.baos.proofs.LookupLaws.{present-one, present-kept}
 use Rattle.baos.proofs.FlagLaws.{taken-as-needed, descriptions-served, carried-out-flagged, set-values-flagged, get-descriptions-flagged, indication-flagged, well-formed-flagged, found-flagged, found-takes-flagged, changed-at-flagged, bus-value-flagged, outcome-flagged}
-use Rattle.baos.proofs.ServiceLaws.{not-answered, is-get-description}
+use Rattle.baos.proofs.ServiceLaws.{not-answered, is-get-description, is-get-value}
 use Rattle.calls.specs.declared.event.Event.{Event}
 use Rattle.calls.specs.declared.event.Event.the-variants.{HostByte, IdleMark, AckWaitOver, Poll, BusValue, TransmissionOutcome}
 use Rattle.calls.specs.Event.{atDatapoint, busOk}
@@ -39,7 +39,7 @@ use Rattle.calls.proofs.CallJoins.{waited}
 use Rattle.walks.proofs.Branches.{no-T, yes-T}
 use Rattle.demands.specs.Entries.{entriesOf, holdsEntry, messageUp}
 use Rattle.demands.specs.Status.{statusAt, replaced, isSendFor, statusByRequest, statusBy}
-use Rattle.demands.specs.Closed.{CommandTaken, lacksBits, ClosedRefused, ClosedCallRefused, ClosedCode, maySend, RequestedOnlyIfMaySend, RequestedByRequest, RequestedByCall, ListedIfPresent, asksDescriptions, lacksAlike, allLackAlike, FlagsUnseen, FlagsShown, isUnseenBy, reflaggedCalled, FlagsUnseenByCall, ClosedDatapoints}
+use Rattle.demands.specs.Closed.{CommandTaken, lacksBits, ClosedRefused, ClosedCallRefused, ClosedCode, maySend, RequestedOnlyIfMaySend, RequestedByRequest, RequestedByCall, listed, ListedIfPresent, ValuesListed, asksDescriptions, lacksAlike, allLackAlike, FlagsUnseen, FlagsShown, isUnseenBy, reflaggedCalled, FlagsUnseenByCall, ClosedDatapoints}
 use Rattle.demands.proofs.EntryErrorLaws.{judge, judged-absent, refused-whole, call-refused-whole, command-code}
 use Rattle.demands.proofs.HandedOutLaws.{by-call}
 use Rattle.demands.proofs.StatusLaws.{after-request, happens-leaves}
@@ -157,7 +157,30 @@ requested-by-call id e v t k out =
 
 -- ---- nothing else goes by the flags
 pub listed-if-present : ListedIfPresent
+unfolding listed
 listed-if-present t m id = present-kept (inRequest m) id (t .datapoints)
+
+-- those asked for are those in the range that pass the filter
+asked-listed : (m : List ℕ) (ds : List Datapoint) → keep (asked m) ds ≡ keep (passes (filterOf m)) (keep (λ (d : Datapoint). inRequest m (d .id)) ds)
+unfolding asked
+asked-listed m [] = refl
+asked-listed m (d ∷ ds) = go (inRequest m (d .id)) (passes (filterOf m) d) refl (asked-listed m ds)
+  where
+    inside : List Datapoint
+    inside = keep (λ (x : Datapoint). inRequest m (x .id)) ds
+
+    go : (u w : Bool) → passes (filterOf m) d ≡ w → keep (asked m) ds ≡ keep (passes (filterOf m)) inside
+        → (if u && w then d ∷ keep (asked m) ds else keep (asked m) ds) ≡ keep (passes (filterOf m)) (if u then d ∷ inside else inside)
+    go true true e r = rw e (ap {B = List Datapoint} (λ (xs : List Datapoint). d ∷ xs) r)
+    go true false e r = rw e r
+    go false w e r = r
+
+pub values-listed : ValuesListed
+unfolding listed getDatapoints getDatapointValue getting served
+values-listed t m u e =
+    ap (λ (s : Served). s .says) (is-get-value t m u e)
+    ∙ ap (λ (ds : List Datapoint). answerOf (getFinding 7 (ltb 2 (filterOf m)) m (map valueEntry ds)) m (listing (subService m + 0x80) (startOf m) (map valueEntry ds))) (asked-listed m (t .datapoints))
+    ∙ ap (λ (n : ℕ). let es = map valueEntry (keep (passes (filterOf m)) (listed t m)) in answerOf (getFinding 7 (ltb 2 (filterOf m)) m es) m (listing (n + 0x80) (startOf m) es)) e
 
 both-or-neither : (a b : Bool) → T (if not a then not b else not (not b)) → b ≡ a
 both-or-neither true true h = refl
@@ -176,7 +199,7 @@ flags-unseen flags t m n a = go (unanswered m) refl
         (λ six. set-values-flagged flags t m (lacksAlike flags t) (λ o h. both-or-neither _ _ h) (simp (eq-eqb (subService m) 0x06 six) at a))
 
 pub flags-shown : FlagsShown
-unfolding asksDescriptions
+unfolding asksDescriptions listed
 flags-shown flags t m a = (shown t (descriptions-served t m three), shown (reflagged flags t) (get-descriptions-flagged flags t m three))
   where
     three : subService m ≡ 0x03
@@ -253,6 +276,7 @@ closed-datapoints =
       requested-by-request = requested-by-request;
       requested-by-call = requested-by-call;
       listed-if-present = listed-if-present;
+      values-listed = values-listed;
       flags-unseen = flags-unseen;
       flags-shown = flags-shown;
       flags-unseen-by-call = flags-unseen-by-call;

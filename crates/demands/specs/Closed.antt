@@ -8,7 +8,7 @@ use mathlib.Core.Path.{_≡_}
 use mathlib.Core.Logic.{_⊎_}
 use mathlib.Core.Bool.{Bool, true, false, not, _&&_, _||_}
 use mathlib.Core.List.{List, [], _∷_, map}
-use lib.Dec.{T, leb, eqb}
+use lib.Dec.{T, leb, ltb, eqb}
 use Rattle.words.specs.Words.{if_then_else_, keep, every}
 use Rattle.ft12.specs.declared.record.Link.{Link}
 use Rattle.ft12.specs.Record.{Line, lineOf}
@@ -18,8 +18,8 @@ use Rattle.baos.specs.Datapoint.{datapointId}
 use Rattle.baos.specs.Lookup.{lookupOf, isPresent}
 use Rattle.baos.specs.Flags.{neededBitsOn, withFlags, reflagged, reflaggedServed}
 use Rattle.baos.specs.Table.{Tables, found}
-use Rattle.baos.specs.Message.{subService, startOf, answerOf}
-use Rattle.baos.specs.Get.{inRequest, listing, getFinding, descriptionEntry}
+use Rattle.baos.specs.Message.{subService, startOf, filterOf, answerOf}
+use Rattle.baos.specs.Get.{inRequest, listing, getFinding, descriptionEntry, valueEntry, passes}
 use Rattle.baos.specs.Set.{SetEntry, takesCommand}
 use Rattle.baos.specs.Service.{unanswered, carriedOut}
 use Rattle.calls.specs.declared.event.Event.{Event}
@@ -70,12 +70,21 @@ RequestedByCall =
     → RequestedOnlyIfMaySend id t (call e v t k out .tables)
 
 -- ---- "Gets and bus events treat the last two alike": nothing else goes by the flags
--- a get answers about the IDs in its range that are present; a get of values then filters them
+-- the datapoints in the range of a get: an ID is among them exactly where it is in the range and present
+unfoldable pub listed : Tables → List ℕ → List Datapoint
+listed t m = keep (λ (d : Datapoint). inRequest m (d .id)) (t .datapoints)
+
 abbrev pub ListedIfPresent : Type 0
-ListedIfPresent = (t : Tables) (m : List ℕ) (id : ℕ) →
-    let listed = keep (λ (d : Datapoint). inRequest m (d .id)) (t .datapoints) in
-    isPresent (lookupOf (found datapointId id listed))
+ListedIfPresent = (t : Tables) (m : List ℕ) (id : ℕ)
+    → isPresent (lookupOf (found datapointId id (listed t m)))
     ≡ (inRequest m id && isPresent (lookupOf (found datapointId id (t .datapoints))))
+
+-- a get of values is answered about those of them that pass the filter; one of descriptions about all (`FlagsShown`)
+abbrev pub ValuesListed : Type 0
+ValuesListed = (t : Tables) (m : List ℕ) → unanswered m ≡ false → subService m ≡ 0x05 →
+    let entries = map valueEntry (keep (passes (filterOf m)) (listed t m)) in
+    let finding = getFinding 7 (ltb 2 (filterOf m)) m entries in
+    carriedOut t m .says ≡ answerOf finding m (listing 0x85 (startOf m) entries)
 
 -- an answered request for descriptions: these show the flags
 unfoldable pub asksDescriptions : List ℕ → Bool
@@ -87,7 +96,7 @@ lacksAlike flags t e =
     let others = lacksBits (reflagged flags t) e in
     if lacksBits t e then others else not others
 
--- and so does each entry, where the message is a request to set datapoints
+-- and so does each entry, where the message has the sub of a request to set datapoints, answered or not
 unfoldable pub allLackAlike : (ℕ → ℕ) → Tables → List ℕ → Bool
 allLackAlike flags t m = not (eqb (subService m) 0x06) || every (lacksAlike flags t) (entriesOf m)
 
@@ -99,17 +108,15 @@ FlagsUnseen = (flags : ℕ → ℕ) (t : Tables) (m : List ℕ) → T (not (asks
 -- a request for descriptions finds the same and is answered about the same datapoints, each with the flags that it has
 abbrev pub FlagsShown : Type 0
 FlagsShown = (flags : ℕ → ℕ) (t : Tables) (m : List ℕ) → T (asksDescriptions m) →
-    let listed = keep (λ (d : Datapoint). inRequest m (d .id)) (t .datapoints) in
-    let finding = getFinding 6 false m (map descriptionEntry listed) in
-    let others = map (λ (d : Datapoint). withFlags (flags (d .id)) d) listed in
-    (carriedOut t m ≡ record { says = answerOf finding m (listing 0x83 (startOf m) (map descriptionEntry listed)); after = t })
+    let entries = map descriptionEntry (listed t m) in
+    let others = map descriptionEntry (map (λ (d : Datapoint). withFlags (flags (d .id)) d) (listed t m)) in
+    let finding = getFinding 6 false m entries in
+    (carriedOut t m ≡ record { says = answerOf finding m (listing 0x83 (startOf m) entries); after = t })
     × (carriedOut (reflagged flags t) m
-    ≡ record {
-      says = answerOf finding m (listing 0x83 (startOf m) (map descriptionEntry others));
-      after = reflagged flags t;
-    })
+    ≡ record { says = answerOf finding m (listing 0x83 (startOf m) others); after = reflagged flags t })
 
--- No event goes by the flags but a host byte that ends such a message.
+-- No event goes by the flags but a host byte that ends a request for descriptions, or a request to set datapoints of
+-- which some entry lacks a bit with one of the two flags only.
 unfoldable pub isUnseenBy : (ℕ → ℕ) → Event → Tables → Line → Bool
 isUnseenBy flags (HostByte b) t l =
     let m = messageUp (onHostByte b l .up) in
@@ -138,6 +145,7 @@ pub record ClosedDatapoints : Type 0 where
   pub requested-by-request : RequestedByRequest
   pub requested-by-call : RequestedByCall
   pub listed-if-present : ListedIfPresent
+  pub values-listed : ValuesListed
   pub flags-unseen : FlagsUnseen
   pub flags-shown : FlagsShown
   pub flags-unseen-by-call : FlagsUnseenByCall

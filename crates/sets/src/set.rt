@@ -40,7 +40,6 @@ use tables::table::item_at;
 use tables::table::item_place;
 use tables::table::put_datapoint_at;
 use tables::table::put_item_at;
-use values::lookup::lookup_at;
 
 // Whether n entries with heads of so many bytes fill the bytes exactly.
 fn is_filled(s: &[u8], head: usize, n: u16) -> bool
@@ -98,9 +97,9 @@ fn datapoint_code_at(s: &[u8], at: usize, d: Datapoint) -> u8
     ensures { λ r. ⌜ r ≡ judgedDatapoint (found datapointId (firstDatapointEntry
         (drop at (now (s .entry))) .id) (d ∷ [])) (firstDatapointEntry (drop at (now (s .entry)))) ⌝ }
 {
-    let lookup = lookup_at(d, entry_id(s, at));
+    let id = entry_id(s, at);
     let end = entry_end(s, at, DATAPOINT_ENTRY_HEAD);
-    entry_code(lookup, d, s[at + 2], &s[at + 4..end])
+    entry_code(id, d, s[at + 2], &s[at + 4..end])
 }
 
 // The datapoint that stands where an entry's ID belongs, once the entry is applied.

@@ -8,6 +8,16 @@ use baos::datapoint::COMMUNICATION;
 use baos::datapoint::Datapoint;
 use baos::lookup::Lookup;
 
+// What is found of a datapoint that is there: closed or open.
+pub fn lookup_of(d: Datapoint) -> Lookup
+    ensures { λ r. ⌜ lookupNumber r ≡ lookupNumber (lookupOf (d ∷ [])) ⌝ }
+{
+    if d.flags / COMMUNICATION % 2 == 1 {
+        return Lookup::Open;
+    }
+    Lookup::Closed
+}
+
 // What is found of the ID: the record may be another's.
 pub fn lookup_at(d: Datapoint, id: u16) -> Lookup
     ensures { λ r. ⌜ lookupNumber r ≡ lookupNumber (lookupOf (found datapointId id (d ∷ []))) ⌝ }
@@ -15,10 +25,7 @@ pub fn lookup_at(d: Datapoint, id: u16) -> Lookup
     if d.id != id {
         return Lookup::Absent;
     }
-    if d.flags / COMMUNICATION % 2 == 1 {
-        return Lookup::Open;
-    }
-    Lookup::Closed
+    lookup_of(d)
 }
 
 // Whether there is a datapoint, closed or open.

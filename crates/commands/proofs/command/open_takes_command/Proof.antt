@@ -1,19 +1,17 @@
-use mathlib.Core.Path.{sym, _∙_}
-use borrow.Author.Needs.{needs}
-use Rattle.baos.specs.Set.{takesCommand}
+use mathlib.Core.Path.{sym}
+use native.Mathlib.Omega.{arith}
+use Rattle.baos.proofs.EntryLaws.{open-transmits, open-reads, open-else}
 use Rattle.commands.proofs.command.open_takes_command.Statement.{statement}
 use Rattle.commands.proofs.command.open_takes_command.Tie as tie
 
-is-send-requires : tie.Need-is-send-requires
-is-send-requires c κs = search needs
-
 returns : tie.Need-returns
-unfolding takesCommand
-returns c = rw (sym (c .before .is-send .ensures) ∙ c .if1 .taken)
+returns c = sym (open-transmits _ _ (omega arith))
 
 returns-2 : tie.Need-returns-2
-unfolding takesCommand
-returns-2 c = rw (sym (c .before .is-send .ensures) ∙ c .if1 .left)
+returns-2 c = sym (open-reads _ _ (λ e. omega (arith, e)) (omega arith))
+
+returns-3 : tie.Need-returns-3
+returns-3 c = sym (open-else _ _ (λ e. omega (arith, e)) (λ e. omega (arith, e)))
 
 pub open-takes-command-spec : {M : Type 1} → statement M
-open-takes-command-spec = tie.close (tie.spec is-send-requires returns returns-2)
+open-takes-command-spec = tie.close (tie.spec returns returns-2 returns-3)
