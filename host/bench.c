@@ -13,7 +13,7 @@ call_function tuned_o3_call;
 
 static int32_t no_call(uint8_t event, uint8_t byte, uint16_t id, uint8_t outcome, const uint8_t *value, size_t value_count,
                        struct tagobrelin_datapoint *datapoints, size_t datapoint_count, struct tagobrelin_item *items, size_t item_count,
-                       const uint8_t *parameters, size_t parameter_count, struct tagobrelin_link *link, uint8_t *out, size_t room)
+                       uint8_t *parameters, size_t parameter_count, struct tagobrelin_link *link, uint8_t *out, size_t room)
 {
     (void)byte, (void)id, (void)outcome, (void)value, (void)value_count, (void)datapoints, (void)datapoint_count, (void)items, (void)item_count;
     (void)parameters, (void)parameter_count, (void)link, (void)out, (void)room;
@@ -35,6 +35,7 @@ static const struct row {
     {"poll, no mark", POLL, 0, 0},
     {"frame of 261 bytes, all its bytes", FRAME, 261, 0},
     {"248 parameter bytes, its last byte", PARAMETERS, 248, 0},
+    {"248 parameter bytes set, its last byte", SET_PARAMETERS, 248, 0},
     {"261 bytes sent again", RESEND, 261, 0},
     {"bus value", BUS_VALUE, 0, 0},
     {"outcome", OUTCOME, 0, 0},
@@ -89,7 +90,7 @@ int main(int argc, char **argv)
     for (size_t s = 0; s < sizeof sizes / sizeof *sizes; s++) {
         make_tables(sizes[s], 64);
         printf("%s%zu datapoints, 64 items, 255 parameter bytes; each lent byte read once: %.0f ns\n", s ? "\n" : "", sizes[s], floor_of(rounds));
-        printf("%-36s %9s %9s %7s %9s %9s %7s\n", "ns a call", "ours", "C -O2", "ratio", "in pairs", "C -O3", "ratio");
+        printf("%-38s %9s %9s %7s %9s %9s %7s\n", "ns a call", "ours", "C -O2", "ratio", "in pairs", "C -O3", "ratio");
         for (size_t i = 0; i < sizeof rows / sizeof *rows; i++) {
             double at[FUNCTIONS];
             unsigned calls = make_plays(rows[i].kind, rows[i].size, rows[i].held);
@@ -108,7 +109,7 @@ int main(int argc, char **argv)
             qsort(quotients, rounds, sizeof *quotients, by_size);
             for (unsigned f = 0; f < NONE; f++)
                 at[f] = (at[f] - at[NONE]) / calls;
-            printf("%-36s %9.1f %9.1f %7.2f %9.2f %9.1f %7.2f\n", rows[i].name, at[OURS], at[TUNED], at[OURS] / at[TUNED], quotients[rounds / 2],
+            printf("%-38s %9.1f %9.1f %7.2f %9.2f %9.1f %7.2f\n", rows[i].name, at[OURS], at[TUNED], at[OURS] / at[TUNED], quotients[rounds / 2],
                    at[TUNED_O3], at[OURS] / at[TUNED_O3]);
         }
     }

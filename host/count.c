@@ -17,6 +17,7 @@ static const struct row {
     {"set", SET, 8, 0},                 {"set", SET, 40, 0},              {"poll", POLL, 0, 0},             {"poll", POLL, 8, 0},
     {"poll", POLL, 40, 0},              {"frame", FRAME, 261, 0},         {"checksum", CHECKSUM, 47, 0},    {"checksum", CHECKSUM, 239, 0},
     {"parameters", PARAMETERS, 40, 0},  {"parameters", PARAMETERS, 232, 0}, {"resend", RESEND, 40, 0},      {"resend", RESEND, 232, 0},
+    {"set-parameters", SET_PARAMETERS, 40, 0},  {"set-parameters", SET_PARAMETERS, 232, 0},
     {"bus-value", BUS_VALUE, 0, 0},     {"outcome", OUTCOME, 0, 0},       {"idle", IDLE, 40, 0},
 };
 

@@ -92,14 +92,15 @@ fn step(server: &mut Server, event: &Event, value: &[u8], room: usize) -> Result
             truth("the parts that no rule alters", unaltered_parts(&before, server));
             truth("a status stands, or is requested, or had its outcome", status_stands(event, &before, server));
             truth("a value is asked for at an open datapoint alone", asks_stand(&before, server));
+            truth("parameter bytes are altered by sub 08 alone", parameters_stand(&before, server, sent));
         }
     }
     result
 }
 
-/// IDs, types, flags, DPTs, lengths, writability, parameter bytes and the entry counts are altered by no event.
+/// IDs, types, flags, DPTs, lengths, writability and the entry counts are altered by no event.
 fn unaltered_parts(before: &Server, after: &Server) -> bool {
-    before.parameters == after.parameters
+    before.parameters.len() == after.parameters.len()
         && before.items.len() == after.items.len()
         && before.datapoints.len() == after.datapoints.len()
         && (0..before.items.len()).all(|at| {
@@ -126,6 +127,26 @@ fn status_stands(event: &Event, before: &Server, after: &Server) -> bool {
 /// (02) item 2: "command 4 needs bit 2".
 fn asks_stand(before: &Server, after: &Server) -> bool {
     before.datapoints.iter().zip(&after.datapoints).all(|(was, is)| is.state & 4 <= was.state & 4 || is.flags & 4 != 0)
+}
+
+/// (02) item 5: "only that service writes it". A positive answer of sub 08 comes with the last byte of its request, of which
+/// all but that byte was gathered: the bytes of its range are those of its message then, and every other is as it was.
+fn parameters_stand(before: &Server, after: &Server, sent: &[u8]) -> bool {
+    let set = sent.len() == 15 && sent[6..8] == [0xF0, 0x88] && sent[12] == 0;
+    if !set {
+        return after.parameters == before.parameters;
+    }
+    let message = &before.link.receiver[5..];
+    let start = usize::from(message[2]) * 256 + usize::from(message[3]);
+    let number = usize::from(message[4]) * 256 + usize::from(message[5]);
+    (1..=before.parameters.len()).all(|index| {
+        let named = index >= start && index < start + number;
+        after.parameters[index - 1] == if named { message[6 + index - start] } else { before.parameters[index - 1] }
+    })
+}
+
+fn tables_stand(before: &Server, after: &Server) -> bool {
+    before.datapoints == after.datapoints && before.items == after.items && before.parameters == after.parameters
 }
 
 fn event(server: &mut Server, event: Event) -> Vec<u8> {
@@ -188,8 +209,7 @@ fn error(sub: u8, id: u16, code: u8) -> Vec<u8> {
 fn is_error(what: &str, server: &mut Server, message: &[u8], id: u16, code: u8) {
     let before = server.clone();
     same(what, ask(server, message), Some(error(message[1], id, code)));
-    truth(what, server.datapoints == before.datapoints);
-    truth(what, server.items == before.items);
+    truth(what, tables_stand(&before, server));
 }
 
 fn get(sub: u8, start: u16, number: u16) -> Vec<u8> {
@@ -220,6 +240,10 @@ fn set_items(start: u16, entries: &[(u16, &[u8])]) -> Vec<u8> {
         message.extend_from_slice(data);
     }
     message
+}
+
+fn set_parameters(start: u16, bytes: &[u8]) -> Vec<u8> {
+    join(&[&get(0x08, start, bytes.len() as u16), bytes])
 }
 
 const SIZES: [usize; 15] = [1, 1, 1, 1, 1, 1, 1, 1, 2, 3, 4, 6, 8, 10, 14];
@@ -425,11 +449,11 @@ fn messages_without_answer() {
         same("no answer", ask(&mut server, &hex(message)), None);
         let mut want = before.link.clone();
         want.expected = 0;
-        same("no answer: only the expected bit is altered", server.link, want);
-        truth("no answer: tables", server.datapoints == before.datapoints && server.items == before.items);
+        same("no answer: only the expected bit is altered", &server.link, &want);
+        truth("no answer: tables", tables_stand(&before, &server));
     }
     for sub in 0x80..=0xFF_u8 {
-        for tail in ["00 01 00 01", "00 00 00 00", "00 0A 00 01 00", "00 0A 00 01 00 0A 03 01 01"] {
+        for tail in ["00 01 00 01", "00 00 00 00", "00 0A 00 01 00", "00 0A 00 01 00 0A 03 01 01", "00 01 00 01 77"] {
             let mut server = small_server();
             let message = join(&[&[0xF0, sub], &hex(tail)]);
             same("sub 80 and above: no answer", ask(&mut server, &message), None);
@@ -445,9 +469,9 @@ fn messages_without_answer() {
 
 fn rows_5_10_6() {
     let mut server = small_server();
-    // 5: "sub not one of the six"; before 10 and 6.
+    // 5: "sub not one of the six"; before 10 and 6. (02) item 5: "code 5 no longer for sub 08".
     for sub in 0..0x80_u8 {
-        if [1, 2, 3, 5, 6, 7].contains(&sub) {
+        if [1, 2, 3, 5, 6, 7, 8].contains(&sub) {
             continue;
         }
         is_error("5", &mut server, &get(sub, 0x1234, 1), 0x1234, 5);
@@ -480,7 +504,7 @@ fn rows_5_10_6() {
         }
     }
     // 10 and 6: sets.
-    for sub in [2, 6] {
+    for sub in [2, 6, 8] {
         is_error("6, set of no entry", &mut server, &get(sub, 7, 0), 7, 6);
         for more in 1..=248 {
             is_error("10, set, number 0 and bytes left", &mut server, &join(&[&get(sub, 7, 0), &vec![0; more]]), 7, 10);
@@ -812,6 +836,144 @@ fn failed_status() {
     same("a send command", status(&server), 3);
 }
 
+/// (02) item 5. "Add SetParameterByte (document 000, 3.17 and 3.18)."; "All or nothing as with items."; "Refusals: code 5
+/// no longer for sub 08; then 10, 6, and 7 with the first index not in the table." `is_error` sees that nothing is set.
+fn parameter_sets() {
+    // Six parameter bytes, 0B to 10. (000) 3.17: "set (write) one or more the parameter bytes". Three, read back by sub 07.
+    let mut server = small_server();
+    same("set", ask(&mut server, &hex("F0 08 00 03 00 03 A1 A2 A3")), Some(hex("F0 88 00 03 00 00 00")));
+    same("is set", ask(&mut server, &hex("F0 07 00 01 00 06")), Some(hex("F0 87 00 01 00 06 0B 0C A1 A2 A3 10")));
+    same("a set over a set", ask(&mut server, &hex("F0 08 00 05 00 02 B1 B2")), Some(hex("F0 88 00 05 00 00 00")));
+    same("is set", &server.parameters, &hex("0B 0C A1 A2 B1 B2"));
+    same("the first", ask(&mut server, &hex("F0 08 00 01 00 01 C1")), Some(hex("F0 88 00 01 00 00 00")));
+    same("the last", ask(&mut server, &hex("F0 08 00 06 00 01 C6")), Some(hex("F0 88 00 06 00 00 00")));
+    same("is set", &server.parameters, &hex("C1 0C A1 A2 B1 C6"));
+    same("all", ask(&mut server, &hex("F0 08 00 01 00 06 00 FF 00 FF E5 68")), Some(hex("F0 88 00 01 00 00 00")));
+    same("is set", &server.parameters, &hex("00 FF 00 FF E5 68"));
+    for byte in 0..=0xFF_u8 {
+        same("each byte", ask(&mut server, &set_parameters(2, &[byte])), Some(hex("F0 88 00 02 00 00 00")));
+        same("is set", server.parameters[1], byte);
+    }
+    // Codes 10, 6 and 7, each with its ID.
+    is_error("10, a byte too many", &mut server, &hex("F0 08 00 03 00 03 A1 A2 A3 A4"), 3, 10);
+    is_error("10, a byte missing", &mut server, &hex("F0 08 00 03 00 03 A1 A2"), 3, 10);
+    is_error("10, the number's high byte", &mut server, &hex("F0 08 00 03 01 03 A1 A2 A3"), 3, 10);
+    is_error("10 before 6", &mut server, &hex("F0 08 00 03 00 00 A1"), 3, 10);
+    is_error("10 before 7", &mut server, &hex("F0 08 00 00 00 03 A1 A2"), 0, 10);
+    is_error("10 before 7", &mut server, &hex("F0 08 00 07 00 01 A1 A2"), 7, 10);
+    is_error("10, start FFFF, number FFFF", &mut server, &hex("F0 08 FF FF FF FF A1"), 0xFFFF, 10);
+    is_error("6", &mut server, &hex("F0 08 00 03 00 00"), 3, 6);
+    is_error("6, the flush of 000", &mut server, &hex("F0 08 00 00 00 00"), 0, 6);
+    is_error("6 before 7", &mut server, &hex("F0 08 00 07 00 00"), 7, 6);
+    is_error("7, start 0", &mut server, &hex("F0 08 00 00 00 01 A1"), 0, 7);
+    is_error("7, start 0, others in the table", &mut server, &hex("F0 08 00 00 00 03 A1 A2 A3"), 0, 7);
+    is_error("7, behind the table", &mut server, &hex("F0 08 00 07 00 01 A1"), 7, 7);
+    is_error("7, the start's high byte", &mut server, &hex("F0 08 01 03 00 01 A1"), 0x103, 7);
+    is_error("7, over the end", &mut server, &hex("F0 08 00 05 00 03 A1 A2 A3"), 7, 7);
+    is_error("7, far over the end", &mut server, &set_parameters(1, &[0xA1; 248]), 7, 7);
+    is_error("7, start FFFF", &mut server, &hex("F0 08 FF FF 00 01 A1"), 0xFFFF, 7);
+    is_error("7, start FFFF, without wrapping", &mut server, &set_parameters(0xFFFF, &[0xA1; 248]), 0xFFFF, 7);
+    // Tables of several sizes, and ranges around their ends.
+    for count in [0, 1, 2, 3, 6, 247, 248, 249, 254, 255_u16] {
+        let mut server = empty_server();
+        server.parameters = (0..count).map(|at| at as u8 ^ 0x5A).collect();
+        let around = count.saturating_sub(12)..=count + 2;
+        for start in (0..=3).chain(around).chain([255, 256, 257, count + 256, 0xFFFF]) {
+            for number in (0..=12).chain([246, 247, 248_u16]) {
+                let bytes: Vec<u8> = (0..number).map(|at| (at * 7) as u8).collect();
+                let message = set_parameters(start, &bytes);
+                let absent = (start..=0xFFFF).take(usize::from(number)).find(|index| *index == 0 || *index > count);
+                if number == 0 {
+                    is_error("6", &mut server, &message, start, 6);
+                } else if let Some(index) = absent {
+                    is_error("7", &mut server, &message, index, 7);
+                } else {
+                    let mut after = server.clone();
+                    same("set", ask(&mut after, &message), Some(join(&[&[0xF0, 0x88], &start.to_be_bytes(), &[0; 3]])));
+                    let (low, high) = (usize::from(start) - 1, usize::from(start + number) - 1);
+                    same("before it", &after.parameters[..low], &server.parameters[..low]);
+                    same("is set", &after.parameters[low..high], &bytes);
+                    same("behind it", &after.parameters[high..], &server.parameters[high..]);
+                    truth("others", after.datapoints == server.datapoints && after.items == server.items);
+                    same("read back", ask(&mut after, &get(7, start, number)).expect("answer")[6..].to_vec(), bytes);
+                }
+                if number > 0 {
+                    is_error("10, less", &mut server, &message[..message.len() - 1], start, 10);
+                }
+                if number < 248 {
+                    is_error("10, more", &mut server, &join(&[&message, &[0]]), start, 10);
+                }
+            }
+        }
+    }
+}
+
+/// (02) item 5. "only that service writes it": what other requests and events leave, and what a request leaves that is not
+/// carried out.
+fn parameters_left_alone() {
+    let mut server = small_open_server();
+    let bytes = server.parameters.clone();
+    let stand = |what: &str, server: &Server| same(what, &server.parameters, &bytes);
+    for message in [
+        get(1, 0, 0xFFFF),
+        set_items(2, &[(2, &[7]), (4, &[8; 16])]),
+        get(3, 10, 3),
+        get(4, 1, 6),
+        get_values(10, 3, 0),
+        set_values(10, &[(10, 3, &[1]), (18, 1, &[5, 6]), (17, 4, &[])]),
+        get(7, 1, 6),
+        get(9, 1, 6),
+        join(&[&get(9, 1, 3), &[0xA1, 0xA2, 0xA3]]),
+        join(&[&get(0x88, 1, 3), &[0xA1, 0xA2, 0xA3]]),
+        join(&[&get(0xC1, 1, 3), &[0xA1, 0xA2, 0xA3]]),
+    ] {
+        ask(&mut server, &message);
+        stand("another service", &server);
+    }
+    bus(&mut server, 10, &[1]);
+    event(&mut server, Event::TransmissionOutcome(10, Outcome::Sent));
+    truth("the poll tells", !event(&mut server, Event::Poll).is_empty());
+    for _ in 0..5 {
+        event(&mut server, Event::AckWaitOver);
+    }
+    event(&mut server, Event::IdleMark);
+    same("a reset is acknowledged", feed(&mut server, &hex("10 40 40 16")), vec![0xE5]);
+    stand("other events", &server);
+    // What is set stands over a reset.
+    same("set", ask(&mut server, &hex("F0 08 00 03 00 01 A1")), Some(hex("F0 88 00 03 00 00 00")));
+    same("a reset is acknowledged", feed(&mut server, &hex("10 40 40 16")), vec![0xE5]);
+    same("a reset", &server.parameters, &hex("0B 0C A1 0E 0F 10"));
+    // A repeated request is acknowledged alone: what the table's owner wrote meanwhile stands. Then one that comes while the
+    // answer is outstanding.
+    let frame = framed(0x73, &set_parameters(3, &[0xB1]));
+    same("carried out", feed_whole(&mut server, &frame)[6..13].to_vec(), hex("F0 88 00 03 00 00 00"));
+    server.parameters[2] = 0xB2;
+    same("repeated", feed_whole(&mut server, &frame), vec![0xE5]);
+    same("repeated", server.parameters[2], 0xB2);
+    same("dropped", feed_whole(&mut server, &framed(0x53, &set_parameters(3, &[0xB3]))), Vec::new());
+    same("dropped", server.parameters[2], 0xB2);
+    feed(&mut server, &[0xE5]);
+    same("repeated after the acknowledgement", feed_whole(&mut server, &frame), vec![0xE5]);
+    same("repeated after the acknowledgement", server.parameters[2], 0xB2);
+    // Each bit of a frame turned over, each byte lost: nothing is set.
+    let frame = framed(0x53, &set_parameters(1, &[0xD1, 0xD2, 0xD3]));
+    let before = server.clone();
+    for at in 0..frame.len() {
+        for bit in 0..=8 {
+            let mut bytes = frame.clone();
+            if bit == 8 {
+                bytes.remove(at);
+            } else {
+                bytes[at] ^= 1 << bit;
+            }
+            let mut server = before.clone();
+            same("a damaged set", feed(&mut server, &bytes), Vec::new());
+            truth("sets nothing", tables_stand(&before, &server));
+        }
+    }
+    truth("the whole one does", feed(&mut server, &frame).len() == 15 && server.parameters[..3] == [0xD1, 0xD2, 0xD3]);
+}
+
 fn gets() {
     let mut server = small_server();
     // Items.
@@ -1019,7 +1181,7 @@ fn fixed_frames() {
         if c == 0x40 {
             same("reset", sent, vec![0xE5]);
             same("reset: link", server.link.clone(), empty_link());
-            truth("tables stay", server.datapoints == before.datapoints && server.items == before.items);
+            truth("tables stay", tables_stand(&before, &server));
         } else {
             same("another C", sent, Vec::new());
             same("another C is ignored", &server, &before);
@@ -1802,7 +1964,7 @@ fn random_server(numbers: &mut Numbers) -> Server {
 fn random_message(numbers: &mut Numbers, server: &Server) -> Vec<u8> {
     let start = numbers.below(12) as u16;
     let number = [0, 1, 2, 5, 20, 300, 0xFFFF][numbers.below(7) as usize];
-    match numbers.below(8) {
+    match numbers.below(9) {
         0 => get(1, start, number),
         1 => get(3, start, number),
         2 | 3 => get_values(start, number, numbers.below(4) as u8),
@@ -1841,6 +2003,10 @@ fn random_message(numbers: &mut Numbers, server: &Server) -> Vec<u8> {
             message[5] = count;
             message
         }
+        7 => {
+            let bytes: Vec<u8> = (0..numbers.below(40)).map(|_| numbers.byte()).collect();
+            set_parameters(start * 20 + 1, &bytes)
+        }
         _ => (0..numbers.below(20)).map(|_| numbers.byte()).collect(),
     }
 }
@@ -1866,7 +2032,7 @@ fn walks_at_random() {
                     let before = server.clone();
                     let sent = event(&mut server, Event::AckWaitOver);
                     truth("sent or not", sent.is_empty() == (before.link.held == 0));
-                    truth("tables", server.datapoints == before.datapoints && server.items == before.items);
+                    truth("tables", tables_stand(&before, &server));
                 }
                 2 => {
                     let before = server.clone();
@@ -1970,7 +2136,7 @@ fn any_fields_at_random() {
 }
 
 fn main() {
-    let parts: [(&str, fn()); 24] = [
+    let parts: [(&str, fn()); 26] = [
         ("examples of 01", examples_of_01),
         ("exchange of 000", exchange_of_000),
         ("messages without answer", messages_without_answer),
@@ -1981,6 +2147,8 @@ fn main() {
         ("closed datapoints", closed_datapoints),
         ("closed and open alike", closed_and_open_alike),
         ("a failed status", failed_status),
+        ("parameter sets", parameter_sets),
+        ("parameters left alone", parameters_left_alone),
         ("gets", gets),
         ("limits 254 and 255", limits_254_and_255),
         ("acknowledgements", acknowledgements),

@@ -74,6 +74,22 @@ static void requests(void)
            HEARD(&server, "\x10\x40\x40\x16") == 1);
 }
 
+/* parameter bytes that a host sets, and gets; and a set that reaches behind the last of 248 */
+static void parameter_bytes(void)
+{
+    EXPECT(HEARD(&server, "\x68\x0A\x0A\x68\x73\xF0\x08\x00\x02\x00\x03\x0A\x0B\x0C\x91\x16") == 15);
+    EXPECT(SENT(&server, "\xE5\x68\x08\x08\x68\xF3\xF0\x88\x00\x02\x00\x00\x00\x6D\x16"));
+    EXPECT(parameters[0] == 0 && parameters[1] == 0x0A && parameters[2] == 0x0B && parameters[3] == 0x0C);
+    EXPECT(HEARD(&server, "\xE5") == 0);
+    EXPECT(HEARD(&server, "\x68\x07\x07\x68\x53\xF0\x07\x00\x01\x00\x05\x50\x16") == 19);
+    EXPECT(SENT(&server, "\xE5\x68\x0C\x0C\x68\xD3\xF0\x87\x00\x01\x00\x05\x00\x0A\x0B\x0C\x00\x71\x16"));
+    EXPECT(HEARD(&server, "\xE5") == 0);
+    EXPECT(HEARD(&server, "\x68\x0A\x0A\x68\x73\xF0\x08\x00\xF7\x00\x03\x0D\x0E\x0F\x8F\x16") == 15);
+    EXPECT(SENT(&server, "\xE5\x68\x08\x08\x68\xF3\xF0\x88\x00\xF9\x00\x00\x07\x6B\x16"));
+    EXPECT(parameters[246] == 0 && parameters[247] == 0);
+    EXPECT(HEARD(&server, "\x10\x40\x40\x16") == 1);
+}
+
 static void bus_events(void)
 {
     const uint8_t on[1] = {1};
@@ -94,6 +110,9 @@ static void no_tables(void)
     EXPECT(HEARD(&empty, "\x68\x07\x07\x68\x73\xF0\x01\x00\x01\x00\x01\x66\x16") == 15 &&
            tagobrelin_is_outstanding(&empty));
     EXPECT(tagobrelin_ack_wait_over(&empty) == 14 && tagobrelin_idle_mark(&empty) == 0 && tagobrelin_poll(&empty) == 0);
+    EXPECT(HEARD(&empty, "\xE5") == 0);
+    EXPECT(HEARD(&empty, "\x68\x08\x08\x68\x53\xF0\x08\x00\x01\x00\x01\x0A\x57\x16") == 15);
+    EXPECT(SENT(&empty, "\xE5\x68\x08\x08\x68\xD3\xF0\x88\x00\x01\x00\x00\x07\x53\x16"));
     EXPECT(tagobrelin_bus_value(&empty, 1, NULL, 0) == TAGOBRELIN_BAD_BUS_EVENT);
     EXPECT(tagobrelin_outcome(&empty, 1, TAGOBRELIN_SENT) == TAGOBRELIN_BAD_BUS_EVENT);
     empty.datapoint_count = 1;
@@ -112,6 +131,7 @@ int main(void)
 {
     set_up();
     requests();
+    parameter_bytes();
     bus_events();
     no_tables();
     EXPECT(TAGOBRELIN_MICROSECONDS(TAGOBRELIN_GAP_BITS, 19200) == 1719);

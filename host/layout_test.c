@@ -261,6 +261,69 @@ static void parameters(void)
     ANSWERED(0x73, BYTES(0xF0, 0x07, 0, 5, 0, 248), 0xF3, answer, sizeof answer);
 }
 
+/* all that is lent is as `before` has it, but for the link record */
+static void is_as_before(int line)
+{
+    memcpy(&before.link, &bench.link, sizeof bench.link);
+    expect(memcmp(&before, &bench, sizeof bench) == 0, "every other byte is as before", line);
+}
+
+#define IS_AS_BEFORE() is_as_before(__LINE__)
+
+static void parameters_set(void)
+{
+    uint8_t message[254] = {0xF0, 0x08, 0, 2, 0, 248}, frame[261];
+    begins("parameter bytes set: the first, the last, three between, 248");
+    bench.datapoints[0] = (struct tagobrelin_datapoint){.id = 1, .typecode = 7, .state = 0x18, .value = {0x41}, .mark = 1};
+    bench.datapoint_count = 1;
+    bench.items[0] = (struct tagobrelin_item){.id = 1, .size = 1, .writable = 1, .bytes = {0x42}};
+    bench.item_count = 1;
+    for (size_t i = 0; i < sizeof bench.parameters; i++)
+        bench.parameters[i] = (uint8_t)(i + 1);
+    bench.parameter_count = 254; /* two bytes are not the table's */
+    memcpy(&before, &bench, sizeof bench);
+    ANSWERED(0x73, BYTES(0xF0, 0x08, 0, 1, 0, 1, 0xC1), 0xF3, BYTES(0xF0, 0x88, 0, 1, 0, 0, 0));
+    before.parameters[0] = 0xC1;
+    IS_AS_BEFORE();
+    EXPECT(heard(BYTES(0xE5)) == 0);
+    ANSWERED(0x53, BYTES(0xF0, 0x08, 0, 254, 0, 1, 0xC2), 0xD3, BYTES(0xF0, 0x88, 0, 254, 0, 0, 0));
+    before.parameters[253] = 0xC2;
+    IS_AS_BEFORE();
+    EXPECT(heard(BYTES(0xE5)) == 0);
+    ANSWERED(0x73, BYTES(0xF0, 0x08, 0, 101, 0, 3, 0xC3, 0xC4, 0xC5), 0xF3, BYTES(0xF0, 0x88, 0, 101, 0, 0, 0));
+    memcpy(before.parameters + 100, "\xC3\xC4\xC5", 3);
+    IS_AS_BEFORE();
+    EXPECT(heard(BYTES(0xE5)) == 0);
+    for (size_t i = 6; i < sizeof message; i++)
+        message[i] = (uint8_t)(i * 11);
+    ANSWERED(0x53, message, sizeof message, 0xD3, BYTES(0xF0, 0x88, 0, 2, 0, 0, 0));
+    memcpy(before.parameters + 1, message + 6, 248);
+    IS_AS_BEFORE();
+
+    begins("parameter bytes not set: error answers, and a refusal at the last byte of a request");
+    for (size_t i = 0; i < sizeof bench.parameters; i++)
+        bench.parameters[i] = (uint8_t)(i + 1);
+    bench.parameter_count = 254;
+    memcpy(&before, &bench, sizeof bench);
+    ANSWERED(0x73, BYTES(0xF0, 0x08, 0, 253, 0, 3, 0xC1, 0xC2, 0xC3), 0xF3, BYTES(0xF0, 0x88, 0, 255, 0, 0, 7));
+    EXPECT(heard(BYTES(0xE5)) == 0);
+    ANSWERED(0x53, BYTES(0xF0, 0x08, 0, 0, 0, 1, 0xC1), 0xD3, BYTES(0xF0, 0x88, 0, 0, 0, 0, 7));
+    EXPECT(heard(BYTES(0xE5)) == 0);
+    ANSWERED(0x73, BYTES(0xF0, 0x08, 0, 0, 0, 0), 0xF3, BYTES(0xF0, 0x88, 0, 0, 0, 0, 6));
+    EXPECT(heard(BYTES(0xE5)) == 0);
+    ANSWERED(0x53, BYTES(0xF0, 0x08, 0, 1, 0, 2, 0xC1), 0xD3, BYTES(0xF0, 0x88, 0, 1, 0, 0, 10));
+    EXPECT(heard(BYTES(0xE5)) == 0);
+    IS_AS_BEFORE();
+    EXPECT(heard(frame, framed(0x73, message, sizeof message, frame) - 1) == 0);
+    bench.room = TAGOBRELIN_ROOM - 1;
+    REFUSED(TAGOBRELIN_NO_ROOM, TAGOBRELIN_HOST_BYTE, 0x16, 0, 0);
+    bench.room = TAGOBRELIN_ROOM;
+    bench.parameter_count = 256;
+    REFUSED(TAGOBRELIN_BAD_TABLE, TAGOBRELIN_HOST_BYTE, 0x16, 0, 0);
+    bench.parameter_count = 254;
+    EXPECT(heard(BYTES(0x16)) == 1 + 14 && memcmp(bench.parameters + 1, message + 6, 248) == 0);
+}
+
 /* This byte of what is lent may be 0 or 1: with any other every event is refused. It is as before then. */
 static void is_0_or_1(uint8_t *byte, int32_t number, int line)
 {
@@ -434,6 +497,7 @@ int main(void)
     items();
     link_record();
     parameters();
+    parameters_set();
     refusals();
     ends();
     return failed != 0;

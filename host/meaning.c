@@ -130,14 +130,15 @@ static void show_result(FILE *to, const uint8_t *message, size_t count)
         fprintf(to, "error %u%s, ID %u", message[6], choice(errors, COUNT(errors), message[6]), number_of(message + 2));
 }
 
-/* the first parameter bytes of an answer, and the last */
+/* the parameter bytes of a set or an answer: up to four, or the first three and the last */
 static void show_parameters(FILE *to, const uint8_t *message, size_t count)
 {
-    if (count < 10)
+    if (count == 6)
         return;
     below(to);
-    show_bytes(to, message + 6, 3);
-    fprintf(to, " .. %02X", message[count - 1]);
+    show_bytes(to, message + 6, count > 10 ? 3 : count - 6);
+    if (count > 10)
+        fprintf(to, " .. %02X", message[count - 1]);
 }
 
 static void show_message(FILE *to, const uint8_t *message, size_t count)
@@ -156,7 +157,7 @@ static void show_message(FILE *to, const uint8_t *message, size_t count)
     fprintf(to, "start %u, number %u", number_of(message + 2), number_of(message + 4));
     if (sub == 0x05 && count > 6)
         fputs(choice(filters, COUNT(filters), message[6]), to);
-    else if (sub == 0x87)
+    else if (sub == 0x08 || sub == 0x87)
         show_parameters(to, message, count);
     else
         show_entries(to, sub, message, count);

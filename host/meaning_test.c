@@ -105,6 +105,29 @@ int main(int count, char **words)
                "68 0B 0B 68 53 F0 02 00 0F 00 01 00 0F 01 01 66 16\n"
                "            data frame, count bit even, 10 bytes: SetServerItem.Req, start 15, number 1\n"
                "            item 15 = 01\n"));
+    test("of a set of parameter bytes",
+         SHOWN("\x68\x0A\x0A\x68\x73\xF0\x08\x00\x05\x00\x03\xA1\xA2\xA3\x59\x16",
+               "68 0A 0A 68 73 F0 08 00 05 00 03 A1 A2 A3 59 16\n"
+               "            data frame, count bit odd, 9 bytes: SetParameterByte.Req, start 5, number 3\n"
+               "            A1 A2 A3\n"));
+    test("of its answer",
+         SHOWN("\x68\x08\x08\x68\xF3\xF0\x88\x00\x05\x00\x00\x00\x70\x16",
+               "68 08 08 68 F3 F0 88 00 05 00 00 00 70 16\n"
+               "            data frame, count bit odd, 7 bytes: SetParameterByte.Res, done, start 5\n"));
+    test("of a set of five parameter bytes",
+         SHOWN("\x68\x0C\x0C\x68\x53\xF0\x08\x00\x05\x00\x05\xA1\xA2\xA3\xA4\xA5\x84\x16",
+               "68 0C 0C 68 53 F0 08 00 05 00 05 A1 A2 A3 A4 A5 84 16\n"
+               "            data frame, count bit even, 11 bytes: SetParameterByte.Req, start 5, number 5\n"
+               "            A1 A2 A3 .. A5\n"));
+    test("of an answer of four parameter bytes",
+         SHOWN("\x68\x0B\x0B\x68\xD3\xF0\x87\x00\x05\x00\x04\xA1\xA2\xA3\xA4\xDD\x16",
+               "68 0B 0B 68 D3 F0 87 00 05 00 04 A1 A2 A3 A4 DD 16\n"
+               "            data frame, count bit even, 10 bytes: GetParameterByte.Res, start 5, number 4\n"
+               "            A1 A2 A3 A4\n"));
+    test("of a set of no parameter bytes",
+         SHOWN("\x68\x07\x07\x68\x73\xF0\x08\x00\x00\x00\x00\x6B\x16",
+               "68 07 07 68 73 F0 08 00 00 00 00 6B 16\n"
+               "            data frame, count bit odd, 6 bytes: SetParameterByte.Req, start 0, number 0\n"));
     test("of the server's reset", SHOWN("\x10\xC0\xC0\x16", "10 C0 C0 16\n            reset indication\n"));
     test("of half a frame", SHOWN("\x68\x07\x07", "68 07 07\n            no sound frame\n"));
     return failed;

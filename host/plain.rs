@@ -68,6 +68,7 @@ pub enum Event {
 
 /// The three tables and the link record, all that is lent to a call.
 /// (01) "parameter bytes | 0 to 255 | byte; the first has index 1"
+/// (02) item 5: "The parameter table is lent for writing from now on, and only that service writes it."
 #[derive(Clone, PartialEq, Debug)]
 pub struct Server {
     pub datapoints: Vec<Datapoint>,
@@ -583,6 +584,8 @@ fn answer_of(server: &mut Server, message: &[u8]) -> Result<Vec<u8>, Bad> {
         0x05 => get_values(server, message, start, number),
         0x06 => set_values(server, message, start, number),
         0x07 => get_parameters(server, message, start, number),
+        // (02) item 5: "code 5 no longer for sub 08"
+        0x08 => set_parameters(server, message, start, number),
         // "5 | sub not one of the six | as in request"
         _ => Err((start, 5)),
     }
@@ -905,6 +908,61 @@ fn set_values(server: &mut Server, message: &[u8], start: u16, number: u16) -> R
         }
     }
     Ok(set_answer(0x06, start))
+}
+
+/// A byte of a parameter set and the index that it is for.
+struct ParameterEntry {
+    index: u32,
+    byte: u8,
+}
+
+/// (000) 3.17: "Index of first byte", "Number of bytes", then from +6 on "First parameter byte" to "Last parameter byte". The
+/// indices go on from the first without wrapping.
+/// "10 | [...] set: the stated number of entries does not fill the message exactly": None then. An entry is one byte.
+fn cut_parameter_entries(message: &[u8], start: u16, number: u16) -> Option<Vec<ParameterEntry>> {
+    let bytes = &message[6..];
+    if bytes.len() != usize::from(number) {
+        return None;
+    }
+    let mut entries = Vec::new();
+    let mut index = u32::from(start);
+    for byte in bytes {
+        entries.push(ParameterEntry { index, byte: *byte });
+        index += 1;
+    }
+    Some(entries)
+}
+
+/// The place of an index in the table. (01) "the first has index 1"
+fn find_parameter(parameters: &[u8], index: u32) -> Option<usize> {
+    (0..parameters.len()).find(|at| at + 1 == index as usize)
+}
+
+/// (000) 3.17 and 3.18.
+fn set_parameters(server: &mut Server, message: &[u8], start: u16, number: u16) -> Result<Vec<u8>, Bad> {
+    // (02) item 5: "Refusals: code 5 no longer for sub 08; then 10, 6, and 7"
+    let Some(entries) = cut_parameter_entries(message, start, number) else {
+        return Err((start, 10));
+    };
+    // "6 | number 0 [...] | as in request". (000) 3.17 has "a request without data [...] to indicate that the written data can
+    // be flushed to the non-volatile memory", of number 0 too: it is not excepted.
+    if number == 0 {
+        return Err((start, 6));
+    }
+    // (02) item 5: "7 with the first index not in the table"; (000) 3.18 "Index of the bad parameter". The first such index is
+    // the start or stands right behind an index that is in the table, so that two bytes hold it.
+    for entry in &entries {
+        if find_parameter(&server.parameters, entry.index).is_none() {
+            return Err((entry.index as u16, 7));
+        }
+    }
+    // (02) item 5: "All or nothing as with items."
+    for entry in &entries {
+        if let Some(at) = find_parameter(&server.parameters, entry.index) {
+            server.parameters[at] = entry.byte;
+        }
+    }
+    Ok(set_answer(0x08, start))
 }
 
 // ----------------------------------------------------------------------------------------------------------- the call

@@ -113,6 +113,15 @@ static size_t set_message(uint8_t *m, size_t size)
     return at;
 }
 
+/* SetParameterByte for so many bytes, anywhere in the table: those that the message holds behind its head */
+static size_t set_parameters_message(uint8_t *m, size_t size)
+{
+    memcpy(m, "\xf0\x08", 2);
+    put_two_bytes(m + 2, 1 + random_below((uint32_t)(sizeof lent.parameters - size + 1)));
+    put_two_bytes(m + 4, (uint32_t)size);
+    return 6 + size;
+}
+
 /* `size` different datapoints, the longer values left out; all there are where there are less */
 static void choose_marks(struct play *p, size_t size)
 {
@@ -178,6 +187,9 @@ unsigned make_plays(enum kind kind, size_t size, size_t held)
             memcpy(message, "\xf0\x07\x00\x01\x00", 5);
             message[5] = (uint8_t)size;
             n = framed(0x73, message, 6, f);
+            break;
+        case SET_PARAMETERS:
+            n = framed(0x73, message, set_parameters_message(message, size), f);
             break;
         case FRAME:
         case CHECKSUM:

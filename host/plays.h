@@ -6,7 +6,7 @@
 
 typedef int32_t call_function(uint8_t event, uint8_t byte, uint16_t id, uint8_t outcome, const uint8_t *value, size_t value_count,
                               struct tagobrelin_datapoint *datapoints, size_t datapoint_count, struct tagobrelin_item *items, size_t item_count,
-                              const uint8_t *parameters, size_t parameter_count, struct tagobrelin_link *link, uint8_t *out, size_t room);
+                              uint8_t *parameters, size_t parameter_count, struct tagobrelin_link *link, uint8_t *out, size_t room);
 
 /* Some calls: the link record that they begin with, the datapoints that have a report mark before them, and their events. */
 struct play {
@@ -26,20 +26,21 @@ enum { VARIANTS = 16 };
 extern struct play plays[VARIANTS];
 
 enum kind {
-    MID_FRAME,   /* one host byte behind `size` gathered ones of a data frame of 261 bytes */
-    STREAM,      /* `size` host bytes, one after the other, in such a frame */
-    GET,         /* the last byte of a request for `size` values */
-    GET_FRAME,   /* all bytes of it, and the acknowledgement of the answer */
-    SET,         /* the last byte of a request that sets `size` datapoints */
-    SET_FRAME,   /* all bytes of it, and the acknowledgement */
-    PARAMETERS,  /* the last byte of a request for `size` parameter bytes */
-    POLL,        /* a poll with `size` marks */
-    FRAME,       /* all bytes of a data frame of `size` bytes whose service is not known, and the acknowledgement */
-    CHECKSUM,    /* the checksum's byte of such a frame */
-    BUS_VALUE,   /* a value from the bus */
-    OUTCOME,     /* an outcome of a transmission */
-    RESEND,      /* ack wait over, a frame of `size` bytes outstanding */
-    IDLE         /* an idle mark behind `size` gathered bytes */
+    MID_FRAME,      /* one host byte behind `size` gathered ones of a data frame of 261 bytes */
+    STREAM,         /* `size` host bytes, one after the other, in such a frame */
+    GET,            /* the last byte of a request for `size` values */
+    GET_FRAME,      /* all bytes of it, and the acknowledgement of the answer */
+    SET,            /* the last byte of a request that sets `size` datapoints */
+    SET_FRAME,      /* all bytes of it, and the acknowledgement */
+    PARAMETERS,     /* the last byte of a request for `size` parameter bytes */
+    SET_PARAMETERS, /* the last byte of a request that sets `size` parameter bytes */
+    POLL,           /* a poll with `size` marks */
+    FRAME,          /* all bytes of a data frame of `size` bytes whose service is not known, and the acknowledgement */
+    CHECKSUM,       /* the checksum's byte of such a frame */
+    BUS_VALUE,      /* a value from the bus */
+    OUTCOME,        /* an outcome of a transmission */
+    RESEND,         /* ack wait over, a frame of `size` bytes outstanding */
+    IDLE            /* an idle mark behind `size` gathered bytes */
 };
 
 /* Fills the tables: so many datapoints and items, some parameter bytes. */

@@ -141,7 +141,25 @@ static void show_bytes(const uint8_t *bytes, size_t count)
     putchar('\n');
 }
 
-/* Shows the datapoints and items that are not as they were last shown: the bus side has to send those whose status is requested. */
+/* Shows the parameter bytes from the first to the last that is not as it was last shown. */
+static void show_changed_parameters(void)
+{
+    size_t first = 0, last = tables.parameter_count;
+    while (first < last && tables.parameters[first] == told.parameters[first])
+        first++;
+    while (first < last && tables.parameters[last - 1] == told.parameters[last - 1])
+        last--;
+    if (first == last)
+        return;
+    if (first + 1 == last)
+        printf("parameter byte %zu:", last);
+    else
+        printf("parameter bytes %zu to %zu:", first + 1, last);
+    show_bytes(tables.parameters + first, last - first);
+}
+
+/* Shows the datapoints, items and parameter bytes that are not as they were last shown: the bus side has to send those whose
+ * status is requested. */
 static void show_changes(void)
 {
     for (size_t i = 0; i < tables.datapoint_count; i++) {
@@ -158,6 +176,7 @@ static void show_changes(void)
             show_bytes(is->bytes, is->size);
         }
     }
+    show_changed_parameters();
     told = tables;
 }
 
@@ -379,7 +398,8 @@ static void tell_usage(FILE *to)
 {
     fputs("usage: serve [-hv] [-b BAUD] [-p even|odd|none] [-g MS] [-a MS] [-i MS] TTY TABLES\n"
           "  TTY     the serial line to the host\n"
-          "  TABLES  a text file with datapoints, items and parameter bytes; host/tables.txt is one\n"
+          "  TABLES  a text file with datapoints, items and parameter bytes; host/tables.txt is one. It is only read: what the\n"
+          "          host sets is shown, and kept as long as the program runs\n"
           "  -b      baud: 19200 if not given\n"
           "  -p      parity: even if not given\n"
           "  -g      milliseconds of silence that are an idle mark. If not given 20, and more below 12650 baud, so that the\n"

@@ -16,7 +16,7 @@ static const struct play *played;
 
 static int32_t no_call(uint8_t event, uint8_t byte, uint16_t id, uint8_t outcome, const uint8_t *value, size_t value_count,
                        struct tagobrelin_datapoint *datapoints, size_t datapoint_count, struct tagobrelin_item *items, size_t item_count,
-                       const uint8_t *parameters, size_t parameter_count, struct tagobrelin_link *link, uint8_t *out, size_t room)
+                       uint8_t *parameters, size_t parameter_count, struct tagobrelin_link *link, uint8_t *out, size_t room)
 {
     (void)byte, (void)id, (void)outcome, (void)value, (void)value_count, (void)datapoints, (void)datapoint_count, (void)items, (void)item_count;
     (void)parameters, (void)parameter_count, (void)link, (void)out, (void)room;
@@ -54,7 +54,8 @@ int main(void)
         size_t size;
     } events[] = {
         {"host byte in mid-frame", MID_FRAME, 40}, {"get of 20 values", GET, 20}, {"set of 40 entries", SET, 40}, {"248 parameter bytes", PARAMETERS, 248},
-        {"poll, 40 marks", POLL, 40}, {"bus value", BUS_VALUE, 0}, {"outcome", OUTCOME, 0}, {"261 bytes sent again", RESEND, 261}, {"idle mark", IDLE, 40},
+        {"248 parameter bytes set", SET_PARAMETERS, 248}, {"poll, 40 marks", POLL, 40}, {"bus value", BUS_VALUE, 0}, {"outcome", OUTCOME, 0},
+        {"261 bytes sent again", RESEND, 261}, {"idle mark", IDLE, 40},
     };
     make_tables(1000, 64);
     printf("%-36s %9s %9s\n", "bytes of stack", "ours", "C -O2");

@@ -523,8 +523,23 @@ static size_t set_items(item *table, size_t n, const uint8_t *m, size_t m_size, 
     return put_coded(f, 2, start, 0);
 }
 
+static size_t set_parameters(uint8_t *parameters, size_t n, const uint8_t *m, size_t m_size, uint8_t *f)
+{
+    uint32_t start = two_bytes(m + 2), number = two_bytes(m + 4);
+    if (m_size != 6 + number)
+        return put_coded(f, 8, start, 10);
+    if (number == 0)
+        return put_coded(f, 8, start, 6);
+    if (start == 0 || start > n)
+        return put_coded(f, 8, start, 7);
+    if (number > n - (start - 1))
+        return put_coded(f, 8, (uint32_t)n + 1, 7);
+    memcpy(parameters + start - 1, m + 6, number);
+    return put_coded(f, 8, start, 0);
+}
+
 /* the message carried out: where its answer ends, 0 where there is none */
-static size_t carry_out(datapoint *datapoints, size_t datapoint_count, item *items, size_t item_count, const uint8_t *parameters,
+static size_t carry_out(datapoint *datapoints, size_t datapoint_count, item *items, size_t item_count, uint8_t *parameters,
                         size_t parameter_count, const uint8_t *m, size_t m_size, uint8_t *f)
 {
     if (m_size < 6 || m[0] != 0xf0 || m[1] >= 0x80)
@@ -542,6 +557,8 @@ static size_t carry_out(datapoint *datapoints, size_t datapoint_count, item *ite
         return set_datapoints(datapoints, datapoint_count, m, m_size, f);
     case 7:
         return get_parameters(parameters, parameter_count, m, m_size, f);
+    case 8:
+        return set_parameters(parameters, parameter_count, m, m_size, f);
     default:
         return put_coded(f, m[1], two_bytes(m + 2), 5);
     }
@@ -558,7 +575,7 @@ static int32_t damaged(link_record *link)
 
 /* a byte behind a frame's beginning that is not simply gathered, or at its start */
 static int32_t on_edge_byte(uint8_t byte, datapoint *datapoints, size_t datapoint_count, item *items, size_t item_count,
-                            const uint8_t *parameters, size_t parameter_count, link_record *link, uint8_t *out)
+                            uint8_t *parameters, size_t parameter_count, link_record *link, uint8_t *out)
 {
     uint8_t *g = link->receiver;
     size_t n = link->received;
@@ -619,7 +636,7 @@ static int32_t on_edge_byte(uint8_t byte, datapoint *datapoints, size_t datapoin
 }
 
 static inline int32_t on_host_byte(uint8_t byte, datapoint *datapoints, size_t datapoint_count, item *items, size_t item_count,
-                                   const uint8_t *parameters, size_t parameter_count, link_record *link, uint8_t *out)
+                                   uint8_t *parameters, size_t parameter_count, link_record *link, uint8_t *out)
 {
     size_t n = link->received;
     if (link->dropping)
@@ -705,7 +722,7 @@ static int32_t on_outcome(uint32_t id, uint8_t status, datapoint *table, size_t 
 }
 
 int32_t tuned_call(uint8_t event, uint8_t byte, uint16_t id, uint8_t outcome, const uint8_t *value, size_t value_count,
-                   datapoint *datapoints, size_t datapoint_count, item *items, size_t item_count, const uint8_t *parameters,
+                   datapoint *datapoints, size_t datapoint_count, item *items, size_t item_count, uint8_t *parameters,
                    size_t parameter_count, link_record *link, uint8_t *out, size_t room)
 {
     if (RARELY(event - 1u > 5) || RARELY(event == TAGOBRELIN_OUTCOME && outcome > 2))

@@ -198,6 +198,19 @@ static size_t random_message(uint8_t *m)
         }
         number = one_in(40) ? random_below(4) : k;
     }
+    if (sub == 8) {
+        /* a range of the table, but for some that begin outside or go on behind it, and as many bytes, but for some */
+        uint32_t count = (uint32_t)parameter_count, left;
+        start = one_in(30) ? random_below(65536) : one_in(20) ? random_below(2) * (count + 1) : 1 + random_below(count);
+        left = start > 0 && start <= count ? count - start + 1 : 30;
+        number = one_in(20) ? 0 : one_in(4) ? left + one_in(4) : 1 + random_below(left);
+        if (number > 248)
+            number = 248;
+        for (uint32_t q = 0; q < number; q++)
+            m[size++] = (uint8_t)random_below(256);
+        if (one_in(40))
+            number += one_in(2) ? 1 : 256;
+    }
     if (one_in(40))
         m[size++] = 0;
     m[2] = (uint8_t)(start >> 8);

@@ -10,9 +10,9 @@
  *   - No pointer is null, not even one whose count is 0: pass the address of any byte then. (The face does.)
  *   - Behind each pointer lies as much memory as its count says, and the counts are elements, not bytes.
  *   - Datapoints, items and the link record lie at even addresses. (As C objects of these types they do.)
- *   - No two of these runs of memory overlap, but for value and parameters, which are only read; and nobody else writes
- *     to any of them while the call runs. So two calls for one server are never made at the same time, also not one of
- *     them in an interrupt or another thread; for two servers that share no memory they may be.
+ *   - No two of these runs of memory overlap, and all but value, which is only read, can be written to.
+ *   - Nobody else writes to any of them while the call runs. So two calls for one server are never made at the same
+ *     time, also not one of them in an interrupt or another thread; for two servers that share no memory they may be.
  * The contents may be anything: what is not in order is refused by number, and then no byte of anything is changed.
  */
 #ifndef TAGOBRELIN_H
@@ -25,9 +25,9 @@
  * what a host is answered may change in a minor version: header and archive are always taken together. CHANGELOG.md
  * tells what changed. */
 #define TAGOBRELIN_VERSION_MAJOR 1
-#define TAGOBRELIN_VERSION_MINOR 2
+#define TAGOBRELIN_VERSION_MINOR 3
 #define TAGOBRELIN_VERSION_PATCH 0
-#define TAGOBRELIN_VERSION "1.2.0"
+#define TAGOBRELIN_VERSION "1.3.0"
 
 #ifdef __cplusplus
 extern "C" {
@@ -102,7 +102,7 @@ int32_t tagobrelin_call(uint8_t event, uint8_t byte, uint16_t id, uint8_t outcom
                         const uint8_t *value, size_t value_count,
                         struct tagobrelin_datapoint *datapoints, size_t datapoint_count,
                         struct tagobrelin_item *items, size_t item_count,
-                        const uint8_t *parameters, size_t parameter_count,
+                        uint8_t *parameters, size_t parameter_count,
                         struct tagobrelin_link *link,
                         uint8_t *out, size_t room);
 
@@ -119,7 +119,7 @@ struct tagobrelin_server {
     size_t datapoint_count;
     struct tagobrelin_item *items;
     size_t item_count;
-    uint8_t *parameters; /* only read today; not const, so that a later version can let the host set them */
+    uint8_t *parameters; /* a host may set them; to keep what it set over a restart is the program's part */
     size_t parameter_count;
     struct tagobrelin_link link;  /* made by tagobrelin_start; nobody else writes to it, or has to read it */
     uint8_t out[TAGOBRELIN_ROOM]; /* what the last event left to be sent */
@@ -138,13 +138,14 @@ static inline int32_t tagobrelin_event(struct tagobrelin_server *server, uint8_t
     /* Something that exists stands where there is no element. */
     struct tagobrelin_datapoint no_datapoint;
     struct tagobrelin_item no_item;
+    uint8_t no_parameter;
     if ((!server->datapoints && server->datapoint_count > 0) || (!server->items && server->item_count > 0) ||
         (!server->parameters && server->parameter_count > 0))
         return TAGOBRELIN_BAD_TABLE;
     return tagobrelin_call(event, byte, id, outcome, value ? value : server->out, value ? value_count : 0,
                            server->datapoints ? server->datapoints : &no_datapoint, server->datapoint_count,
                            server->items ? server->items : &no_item, server->item_count,
-                           server->parameters ? server->parameters : server->out, server->parameter_count,
+                           server->parameters ? server->parameters : &no_parameter, server->parameter_count,
                            &server->link, server->out, sizeof server->out);
 }
 

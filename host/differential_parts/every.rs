@@ -12,7 +12,7 @@ pub fn lists() -> Vec<(&'static str, Vec<&'static str>)> {
     vec![(NAME, EVERY.iter().map(|(label, _)| *label).collect())]
 }
 
-const EVERY: [(&str, fn(&mut Bench)); 22] = [
+const EVERY: [(&str, fn(&mut Bench)); 23] = [
     ("room 0 to 263, each event", rooms),
     ("event 0 to 255, outcome 0 to 255", events),
     ("host byte at each place of a frame", bytes_in_frames),
@@ -30,6 +30,7 @@ const EVERY: [(&str, fn(&mut Bench)); 22] = [
     ("config flags, each event and command", config_flags),
     ("start and number around the IDs of a table", ranges),
     ("start and number around 65535", ranges_at_the_end),
+    ("parameter bytes set: start, number and size around the ends of a table", parameter_sets),
     ("number of entries", entry_counts),
     ("each bit of a datapoint", datapoint_bits),
     ("each bit of an item", item_bits),
@@ -100,7 +101,15 @@ fn hold(bench: &mut Bench, server: &mut Server) {
 
 fn rooms(bench: &mut Bench) {
     let before = bench.server.clone();
+    // all but the last byte of a request that sets parameter bytes
+    let mut asked = before.clone();
+    let frame = frames::data(0x73, &[0xF0, 8, 0, 10, 0, 3, 1, 2, 3]);
+    frames::set_receiver(&mut asked.link, &frame[..frame.len() - 1]);
     for room in 0..=263 {
+        let answer = once(bench, &asked, Call { room, ..byte(0x16) });
+        if answer.as_ref().err().copied() != (room < 262).then_some(-3) {
+            bench.missed("3 for a room below 262, and nothing set", &answer);
+        }
         for event in 1..=6 {
             let value = tables::value(&mut bench.random, 14);
             let call = Call { event, byte: 0xE5, id: 52, outcome: 1, value, room };
@@ -217,7 +226,11 @@ fn lengths(bench: &mut Bench) {
 
 fn faults(bench: &mut Bench) {
     let mut before = bench.server.clone();
-    let sound = [frames::data(0x73, &[0xF0, 6, 0, 10, 0, 1, 0, 10, 3, 1, 1]), frames::fixed(frames::RESET)];
+    let sound = [
+        frames::data(0x73, &[0xF0, 6, 0, 10, 0, 1, 0, 10, 3, 1, 1]),
+        frames::data(0x73, &[0xF0, 8, 0, 10, 0, 3, 1, 2, 3]),
+        frames::fixed(frames::RESET),
+    ];
     for frame in sound {
         for held in [false, true] {
             before.link = frames::fresh();
@@ -430,6 +443,55 @@ fn ranges_at_the_end(bench: &mut Bench) {
                 }
             }
         }
+    }
+}
+
+fn parameter_sets(bench: &mut Bench) {
+    let mut before = bench.server.clone();
+    for count in [0, 1, 2, 20, 246, 247, 248, 249, 254, 255] {
+        before.parameters = bench.random.bytes(count);
+        let around = count.saturating_sub(2)..=count + 2;
+        for start in (0..=3).chain(around).chain([255, 256, 257, count + 256, 65535]) {
+            let left = (count + 1).saturating_sub(start);
+            for number in (0..=3).chain(left.saturating_sub(1)..=left + 2).chain([247, 248, 249, 256, 257, 65535]) {
+                // as many bytes, and where a message can hold them one less, one more, as the number's low byte says
+                let sizes = [number, number.wrapping_sub(1), number + 1, number % 256];
+                for bytes in sizes.into_iter().filter(|bytes| *bytes <= 248) {
+                    let bytes = bench.random.bytes(bytes);
+                    set_parameters(bench, &before, start, number, &bytes);
+                }
+            }
+        }
+    }
+    for byte in 0..=255 {
+        set_parameters(bench, &before, 2, 1, &[byte]);
+    }
+}
+
+fn set_parameters(bench: &mut Bench, before: &Server, start: usize, number: usize, bytes: &[u8]) {
+    let count = before.parameters.len();
+    let mut wanted = before.parameters.clone();
+    let (code, index) = if bytes.len() != number {
+        (10, start)
+    } else if number == 0 {
+        (6, start)
+    } else if start == 0 || start > count {
+        (7, start)
+    } else if start + number > count + 1 {
+        (7, count + 1)
+    } else {
+        wanted[start - 1..start - 1 + number].copy_from_slice(bytes);
+        (0, start)
+    };
+    let mut message = get(8, start as u16, number as u16, 0);
+    message.extend(bytes);
+    let answer = ask(bench, before, &message);
+    let coded = [0xF0, 0x88, (index >> 8) as u8, index as u8, 0, 0, code];
+    if !answer.as_ref().is_ok_and(|sent| sent.len() == 15 && sent[6..13] == coded) {
+        bench.missed("10, 6, and 7 with the first index not in the table", &answer);
+    }
+    if bench.server.parameters != wanted {
+        bench.missed("the bytes of the range are set, and no other", &answer);
     }
 }
 

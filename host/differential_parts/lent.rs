@@ -16,7 +16,7 @@ extern "C" {
         datapoint_count: usize,
         items: *mut u8,
         item_count: usize,
-        parameters: *const u8,
+        parameters: *mut u8,
         parameter_count: usize,
         link: *mut u8,
         out: *mut u8,
@@ -110,7 +110,6 @@ impl Lent {
         self.datapoints = part(self.datapoint_count * DATAPOINT, true);
         self.end = part(0, false);
         self.noise.fill(&mut self.memory[..self.end]);
-        self.memory[self.parameters..self.parameters + self.parameter_count].copy_from_slice(&server.parameters);
         self.put(server);
     }
 
@@ -118,12 +117,12 @@ impl Lent {
     pub fn fits(&self, server: &Server) -> bool {
         self.datapoint_count == server.datapoints.len()
             && self.item_count == server.items.len()
-            && self.memory[self.parameters..self.parameters + self.parameter_count] == server.parameters[..]
+            && self.parameter_count == server.parameters.len()
     }
 
-    /// Writes tables and link record, as far as a call may alter them.
+    /// Writes tables and link record.
     pub fn put(&mut self, server: &Server) {
-        put(&mut self.memory, (self.datapoints, self.items, self.link), server);
+        put(&mut self.memory, (self.datapoints, self.items, self.parameters, self.link), server);
     }
 
     pub fn put_link(&mut self, link: &Link) {
@@ -169,7 +168,7 @@ impl Lent {
     /// nowhere else.
     pub fn is(&mut self, after: &Server, sent: Option<&[u8]>) -> bool {
         self.wanted[..self.end].copy_from_slice(&self.before[..self.end]);
-        put(&mut self.wanted, (self.datapoints, self.items, self.link), after);
+        put(&mut self.wanted, (self.datapoints, self.items, self.parameters, self.link), after);
         if let Some(sent) = sent {
             self.wanted[self.out..self.out + sent.len()].copy_from_slice(sent);
             self.wanted[self.link + LINK_PADDING] = self.memory[self.link + LINK_PADDING];
@@ -288,7 +287,7 @@ fn shortened(bytes: &[u8]) -> &[u8] {
     &bytes[..count]
 }
 
-fn put(memory: &mut [u8], (datapoints, items, link): (usize, usize, usize), server: &Server) {
+fn put(memory: &mut [u8], (datapoints, items, parameters, link): (usize, usize, usize, usize), server: &Server) {
     let records = &mut memory[datapoints..datapoints + server.datapoints.len() * DATAPOINT];
     for (record, datapoint) in records.chunks_exact_mut(DATAPOINT).zip(&server.datapoints) {
         put_datapoint(record, datapoint);
@@ -297,6 +296,7 @@ fn put(memory: &mut [u8], (datapoints, items, link): (usize, usize, usize), serv
     for (record, item) in records.chunks_exact_mut(ITEM).zip(&server.items) {
         put_item(record, item);
     }
+    memory[parameters..parameters + server.parameters.len()].copy_from_slice(&server.parameters);
     put_link(&mut memory[link..link + LINK], &server.link);
 }
 

@@ -24,7 +24,6 @@ pub const AIMS: &[&str] = &[
     "sub 80 and above",
     "5: sub 00",
     "5: sub 04",
-    "5: sub 08",
     "5: sub 09 to 7F",
     "5 before 10 and 6",
     "get: answered",
@@ -97,6 +96,33 @@ pub const AIMS: &[&str] = &[
     "set value: 8, unused bits, a later entry",
     "set: an ID twice, the second one bad",
     "set: two bad entries, the first decides",
+    "set parameters: answered, one byte",
+    "set parameters: answered, several bytes",
+    "set parameters: answered, the first index",
+    "set parameters: answered, the last index",
+    "set parameters: answered, up to the end",
+    "set parameters: answered, the whole table",
+    "set parameters: answered, 254 bytes",
+    "set parameters: 10, one byte too many",
+    "set parameters: 10, one byte missing",
+    "set parameters: 10, some bytes too many",
+    "set parameters: 10, no byte, number 1 or more",
+    "set parameters: 10, number 256 too high",
+    "set parameters: 10, start FFFF, number FFFF",
+    "set parameters: 10 before 6",
+    "set parameters: 10 before 7",
+    "set parameters: 6, number 0",
+    "set parameters: 6, start 0 and number 0",
+    "set parameters: 6 before 7",
+    "set parameters: 7, start 0, one byte",
+    "set parameters: 7, start 0, several bytes",
+    "set parameters: 7, start right behind the table",
+    "set parameters: 7, start further behind it",
+    "set parameters: 7, start 256 too high",
+    "set parameters: 7, start FFFF",
+    "set parameters: 7, one byte behind the end",
+    "set parameters: 7, several bytes behind the end",
+    "set parameters: 7, 254 bytes, the last one behind the end",
 ];
 
 fn head(sub: u8, start: u16, number: u16) -> Vec<u8> {
@@ -115,12 +141,13 @@ pub fn request(random: &mut Random, server: &Server) -> Request {
 
 fn aimed(random: &mut Random, server: &Server) -> Request {
     for _ in 0..20 {
-        let made = match random.below(30) {
+        let made = match random.below(36) {
             0 | 1 => Some(unanswered(random)),
             2 => Some(unknown(random)),
             3..=17 => get(random, server),
             18..=22 => set_items(random, server),
-            _ => set_values(random, server),
+            23..=29 => set_values(random, server),
+            _ => set_parameters(random, server),
         };
         if let Some(request) = made {
             return request;
@@ -145,7 +172,7 @@ fn made(aim: &'static str, code: u8, id: u16, message: Vec<u8>) -> Option<Reques
 }
 
 fn unanswered(random: &mut Random) -> Request {
-    let mut message = head(random.pick(&[1, 2, 3, 5, 6, 7, 9]), random.number(), random.number());
+    let mut message = head(random.pick(&[1, 2, 3, 5, 6, 7, 8, 9]), random.number(), random.number());
     let more = random.below(10);
     message.extend(random.bytes(more));
     let aim = match random.below(3) {
@@ -158,7 +185,7 @@ fn unanswered(random: &mut Random) -> Request {
             "first byte not F0"
         }
         _ => {
-            message[1] = 0x80 | random.byte_like(&[0x80, 0x81, 0x83, 0x86, 0xC1, 0xFF]);
+            message[1] = 0x80 | random.byte_like(&[0x80, 0x81, 0x83, 0x86, 0x88, 0xC1, 0xFF]);
             "sub 80 and above"
         }
     };
@@ -166,12 +193,11 @@ fn unanswered(random: &mut Random) -> Request {
 }
 
 fn unknown(random: &mut Random) -> Request {
-    let (sub, aim) = match random.below(5) {
+    let (sub, aim) = match random.below(4) {
         0 => (0, "5: sub 00"),
         1 => (4, "5: sub 04"),
-        2 => (8, "5: sub 08"),
-        3 => (random.edgy(9, 0x7F) as u8, "5: sub 09 to 7F"),
-        _ => (random.pick(&[0, 4, 8, 0x7F]), "5 before 10 and 6"),
+        2 => (random.edgy(9, 0x7F) as u8, "5: sub 09 to 7F"),
+        _ => (random.pick(&[0, 4, 9, 0x7F]), "5 before 10 and 6"),
     };
     let before = aim == "5 before 10 and 6";
     let start = random.number();
@@ -867,4 +893,72 @@ fn bits_off(random: &mut Random, datapoints: &[Datapoint], mut set: Set) -> Opti
             set.made("set value: answered, commands 0 and 1 at closed ones", 0, start)
         }
     }
+}
+
+/// A range of parameter bytes, of the table or not wholly; with as many bytes as its number says, or not.
+fn set_parameters(random: &mut Random, server: &Server) -> Option<Request> {
+    let count = server.parameters.len();
+    // a range of the table, where that is not empty, with room for a byte more
+    let start = random.edgy(1, count.max(1));
+    let left = (count + 1).saturating_sub(start);
+    let number = random.edgy(1, left.clamp(1, 247));
+    let behind = random.between(count + 2, 65535);
+    let any = random.edgy(1, 248);
+    let (aim, code, id, (start, number, bytes)) = match random.below(33) {
+        0 => ("set parameters: 10, one byte too many", 10, start, (start, number, number + 1)),
+        1 => ("set parameters: 10, one byte missing", 10, start, (start, number, number - 1)),
+        2 => {
+            let bytes = random.between(number + 1, 248);
+            ("set parameters: 10, some bytes too many", 10, start, (start, number, bytes))
+        }
+        3 => ("set parameters: 10, no byte, number 1 or more", 10, start, (start, any, 0)),
+        4 => ("set parameters: 10, number 256 too high", 10, start, (start, number + 256, number)),
+        5 => ("set parameters: 10, start FFFF, number FFFF", 10, 65535, (65535, 65535, any)),
+        6 => ("set parameters: 10 before 6", 10, start, (start, 0, any)),
+        7 => {
+            let outside = random.pick(&[0, count + 1, behind, 65535]);
+            ("set parameters: 10 before 7", 10, outside, (outside, number, number + 1))
+        }
+        8 => ("set parameters: 6, number 0", 6, start, (start, 0, 0)),
+        9 => ("set parameters: 6, start 0 and number 0", 6, 0, (0, 0, 0)),
+        10 => ("set parameters: 6 before 7", 6, behind, (behind, 0, 0)),
+        11 => ("set parameters: 7, start 0, one byte", 7, 0, (0, 1, 1)),
+        12 => {
+            let several = random.edgy(2, 248);
+            ("set parameters: 7, start 0, several bytes", 7, 0, (0, several, several))
+        }
+        13 => ("set parameters: 7, start right behind the table", 7, count + 1, (count + 1, any, any)),
+        14 => ("set parameters: 7, start further behind it", 7, behind, (behind, any, any)),
+        15 => ("set parameters: 7, start 256 too high", 7, start + 256, (start + 256, number, number)),
+        16 => ("set parameters: 7, start FFFF", 7, 65535, (65535, any, any)),
+        _ if left == 0 => return None,
+        17 | 18 if left < 248 => {
+            ("set parameters: 7, one byte behind the end", 7, count + 1, (start, left + 1, left + 1))
+        }
+        19 if left < 247 => {
+            let over = random.edgy(left + 2, 248);
+            ("set parameters: 7, several bytes behind the end", 7, count + 1, (start, over, over))
+        }
+        20 | 21 if count > 246 => {
+            let aim = "set parameters: 7, 254 bytes, the last one behind the end";
+            (aim, 7, count + 1, (count - 246, 248, 248))
+        }
+        22 => ("set parameters: answered, the first index", 0, 1, (1, 1, 1)),
+        23 => ("set parameters: answered, the last index", 0, count, (count, 1, 1)),
+        24 | 25 if left < 249 => ("set parameters: answered, up to the end", 0, start, (start, left, left)),
+        26 if count < 249 => ("set parameters: answered, the whole table", 0, 1, (1, count, count)),
+        27 | 28 if count > 247 => {
+            let start = random.edgy(1, count - 247);
+            ("set parameters: answered, 254 bytes", 0, start, (start, 248, 248))
+        }
+        29 => ("set parameters: answered, one byte", 0, start, (start, 1, 1)),
+        _ if left > 1 => {
+            let several = random.between(2, left.min(248));
+            ("set parameters: answered, several bytes", 0, start, (start, several, several))
+        }
+        _ => return None,
+    };
+    let mut message = head(8, start as u16, number as u16);
+    message.extend(random.bytes(bytes));
+    made(aim, code, id as u16, message)
 }

@@ -12,6 +12,7 @@ pub const ERRORS: usize = 0;
 pub const TYPES: usize = 1;
 pub const COMMANDS: usize = 2;
 const FLAGS: usize = 3;
+const PARAMETERS: usize = 4;
 
 pub const BUS_TAKEN: usize = 0;
 pub const BUS_LENGTH: usize = 1;
@@ -33,18 +34,19 @@ const FLAGS_ANSWERED: usize = 13;
 const FLAGS_INDICATED: usize = 14;
 const FLAGS_DESCRIBED: usize = 15;
 
-const SERVICES: [&str; 7] = ["other", "01", "02", "03", "05", "06", "07"];
+const SERVICES: [&str; 8] = ["other", "01", "02", "03", "05", "06", "07", "08"];
 
 pub fn matrices() -> Vec<Matrix> {
     let gets = &[1, 3, 4, 6];
-    let sets = &[2, 5];
-    let six = &[1, 2, 3, 4, 5, 6];
+    let sets = &[2, 5, 7];
+    let seven = &[1, 2, 3, 4, 5, 6, 7];
     let all_types: Vec<usize> = (0..15).collect();
     // by bits 2 and 6 alone, then with other bits set too
     let flags = ["00", "04", "40", "44", "00+", "04+", "40+", "44+"];
     let all_flags = &[0, 1, 2, 3, 4, 5, 6, 7];
     let (both_on, not_both_on) = (&[3, 7], &[0, 1, 2, 4, 5, 6]);
     let (open, closed) = (&[1, 3, 5, 7], &[0, 2, 4, 6]);
+    let (any_count, some, several) = (&[0, 1, 2, 3], &[1, 2, 3], &[2, 3]);
     let type_names = ["0", "1", "2", "3", "4", "5", "6", "7", "8", "9", "10", "11", "12", "13", "14"];
     vec![
         Matrix::new(
@@ -52,19 +54,19 @@ pub fn matrices() -> Vec<Matrix> {
             &SERVICES,
             &[
                 ("5: sub", &[0]),
-                ("10: size", six),
-                ("6: number 0", six),
+                ("10: size", seven),
+                ("6: number 0", seven),
                 ("6: filter", &[4]),
                 ("7: ID absent", sets),
                 ("4: not writable", &[2]),
                 ("8: command", &[5]),
                 ("8: config flags", &[5]),
-                ("9: length", sets),
+                ("9: length", &[2, 5]),
                 ("8: unused bits", &[5]),
                 ("2: nothing to return", gets),
                 ("3: too long", gets),
                 ("3: 255 bytes", &[1, 4, 6]),
-                ("answered", six),
+                ("answered", seven),
                 ("answered, 254 bytes", &[1, 4, 6]),
                 ("range beyond 65535", gets),
             ],
@@ -116,6 +118,29 @@ pub fn matrices() -> Vec<Matrix> {
                 ("value in an answer", all_flags),
                 ("value in an indication", all_flags),
                 ("description in an answer", all_flags),
+            ],
+        ),
+        Matrix::new(
+            "Sets of parameter bytes, by how many the table has",
+            &["0", "1", "2 to 254", "255"],
+            &[
+                ("10: one byte too many", any_count),
+                ("10: one byte missing", any_count),
+                ("10: other sizes", any_count),
+                ("6: start 0", any_count),
+                ("6: start 1 or more", any_count),
+                ("7: start 0", any_count),
+                ("7: start right behind the table", any_count),
+                ("7: start further behind it", any_count),
+                ("7: start FFFF", any_count),
+                ("7: one byte behind the end", some),
+                ("7: several bytes behind the end", some),
+                ("answered, from index 1 on", some),
+                ("answered, from a later index on", several),
+                ("answered, one byte", some),
+                ("answered, up to the end", some),
+                ("answered, not up to the end", several),
+                ("answered, 254 bytes", several),
             ],
         ),
     ]
@@ -476,13 +501,13 @@ fn answered(counts: &mut Counts, message: &[u8], answer: &[u8], after: &Server) 
     let sub = message[1];
     let column = match sub {
         1 | 2 | 3 => usize::from(sub),
-        5 | 6 | 7 => usize::from(sub) - 1,
+        5 | 6 | 7 | 8 => usize::from(sub) - 1,
         _ => 0,
     };
     let (start, number, id) = (number_at(message, 2), number_at(message, 4), number_at(answer, 2));
     let positive = number_at(answer, 4) != 0 || answer[6] == 0;
     let code = if positive { 0 } else { answer[6] };
-    let set = sub == 2 || sub == 6;
+    let set = sub == 2 || sub == 6 || sub == 8;
     let row = match code {
         5 => 0,
         10 => 1,
@@ -506,7 +531,9 @@ fn answered(counts: &mut Counts, message: &[u8], answer: &[u8], after: &Server) 
     if !set && (positive || code == 2 || code == 3) && usize::from(start) + usize::from(number) > 65536 {
         counts.cell(ERRORS, 15, column);
     }
-    if set && positive {
+    if sub == 8 {
+        parameter_set(counts, message, code, after.parameters.len());
+    } else if set && positive {
         set_carried_out(counts, message, start, after);
     }
     if sub == 6 && (row == 6 || row == 7) {
@@ -655,6 +682,39 @@ fn set_carried_out(counts: &mut Counts, message: &[u8], start: u16, after: &Serv
         if command == 1 || command == 3 {
             if let Some(typecode) = type_of(&after.datapoints, id) {
                 counts.cell(TYPES, SET_TAKEN, usize::from(typecode));
+            }
+        }
+    }
+}
+
+/// Counts a set of parameter bytes, by its code and by how its range lies to a table of so many.
+fn parameter_set(counts: &mut Counts, message: &[u8], code: u8, count: usize) {
+    let column = match count {
+        0 | 1 => count,
+        255 => 3,
+        _ => 2,
+    };
+    let (start, number, bytes) =
+        (usize::from(number_at(message, 2)), usize::from(number_at(message, 4)), message.len() - 6);
+    let mut cell = |row: usize| counts.cell(PARAMETERS, row, column);
+    match code {
+        10 if bytes == number + 1 => cell(0),
+        10 if bytes + 1 == number => cell(1),
+        10 => cell(2),
+        6 => cell(if start == 0 { 3 } else { 4 }),
+        7 if start == 0 => cell(5),
+        7 if start == count + 1 => cell(6),
+        7 if start == 65535 => cell(8),
+        7 if start > count => cell(7),
+        7 => cell(if start + number == count + 2 { 9 } else { 10 }),
+        _ => {
+            cell(if start == 1 { 11 } else { 12 });
+            if number == 1 {
+                cell(13);
+            }
+            cell(if start + number == count + 1 { 14 } else { 15 });
+            if message.len() == 254 {
+                cell(16);
             }
         }
     }

@@ -27,7 +27,7 @@ const DAMAGE: [&str; 16] = [
     "E5-led, a whole frame spelled inside",
 ];
 
-const ON_THE_WAY: [&str; 12] = [
+const ON_THE_WAY: [&str; 14] = [
     "the same frame again",
     "the same frame again, its answer still outstanding",
     "sound frame behind damage, without an idle mark",
@@ -40,6 +40,8 @@ const ON_THE_WAY: [&str; 12] = [
     "bus value, mark set already",
     "1000 datapoints, 64 items or 255 parameter bytes, a request carried out",
     "no datapoint, item or parameter byte, a request carried out",
+    "parameter bytes set, and got at once",
+    "parameter bytes set, and got behind other events",
 ];
 
 pub fn episode(bench: &mut Bench) {
@@ -156,6 +158,9 @@ fn ask(bench: &mut Bench) {
     if carried && quiet {
         check(bench, &request, sent);
         edges(bench);
+        if request.aim.starts_with("set parameters: answered") && bench.random.coin() {
+            return get_back(bench, &request.message);
+        }
     }
     match bench.random.below(10) {
         0 | 1 => {
@@ -194,6 +199,41 @@ fn check(bench: &mut Bench, request: &Request, sent: Vec<u8>) {
         bench.missed(request.aim, &Ok(sent));
     }
     bench.counts.hit("requests, by aim", request.aim);
+}
+
+/// Parameter bytes were set by this message: a get of the same range gives them back, also behind events that leave them.
+fn get_back(bench: &mut Bench, set: &[u8]) {
+    let at_once = bench.random.coin();
+    if !at_once {
+        bus_values(bench);
+        outcome(bench);
+        bench.ack_wait_over();
+        acknowledge(bench);
+        bench.poll();
+        bench.idle_mark();
+        fixed_frame(bench);
+    }
+    if !at_start(bench) {
+        bench.idle_mark();
+    }
+    if bench.server.link.held != 0 {
+        bench.byte(0xE5);
+    }
+    let mut message = set[..6].to_vec();
+    message[1] = 7;
+    let frame = frames::data(frames::host_control(bench.server.link.expected), &message);
+    let (sent, quiet) = deliver(bench, &frame, frame.len() - 1);
+    if quiet {
+        if sent.get(12..sent.len().saturating_sub(2)) != Some(&set[6..]) {
+            bench.missed("a get of the parameter bytes that were set", &Ok(sent));
+        }
+        let label = if at_once {
+            "parameter bytes set, and got at once"
+        } else {
+            "parameter bytes set, and got behind other events"
+        };
+        bench.counts.hit("on the way", label);
+    }
 }
 
 fn edges(bench: &mut Bench) {
@@ -474,5 +514,6 @@ fn alter_tables(bench: &mut Bench) {
     for item in &mut bench.server.items {
         item.writable = bench.random.bit();
     }
+    bench.random.fill(&mut bench.server.parameters);
     bench.lend();
 }

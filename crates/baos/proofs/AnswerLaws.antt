@@ -14,7 +14,7 @@ use Rattle.baos.specs.declared.item.Item.{Item}
 use Rattle.baos.specs.Table.{Tables}
 use Rattle.baos.specs.Message.{subService, startOf, numberOf, filterOf, coded, Finding, fine, bad, Served, answerOf, served}
 use Rattle.baos.specs.Get.{AnswerEntry, inRequest, overflow, roomForEntries, listing, getFinding, getting, itemEntry, getServerItem, descriptionEntry, getDatapointDescription, valueEntry, asked, getDatapointValue, parameterEntries, getParameterByte}
-use Rattle.baos.specs.Set.{SetEntry, setFinding, setting, setServerItem, setDatapointValue}
+use Rattle.baos.specs.Set.{SetEntry, setFinding, setting, setServerItem, setDatapointValue, setParameterFinding, setParameterByte}
 use Rattle.baos.specs.Service.{service, carriedOut}
 use Rattle.baos.specs.Indication.{needs, goes, roomAfter, choices, reported, indicationOf, indication}
 use Rattle.baos.proofs.DispatchLaws.{by-service, by-message}
@@ -69,13 +69,14 @@ get-sized size badFilter es t t′ m h =
     go false false false true a b c d = simp (a, b, c, d) (listing-sized (subService m + 0x80) (startOf m) es c h (true-T d))
     go false false false false a b c d = simp (a, b, c, d) (coded-sized m (getD (overflow roomForEntries es) 0 0) 3)
 
+set-answer-sized : (f : Finding) (m : List ℕ) → Sized (answerOf f m (coded m (startOf m) 0))
+unfolding answerOf
+set-answer-sized fine m = coded-sized m (startOf m) 0
+set-answer-sized (bad id code) m = coded-sized m id code
+
 set-sized : (h : ℕ) (first : List ℕ → SetEntry) (judge : SetEntry → ℕ) (done : List SetEntry → Tables) (t : Tables) (m : List ℕ) → Sized (setting h first judge done t m .says)
 unfolding setting served
-set-sized h first judge done t m = go (setFinding h first judge m)
-  where
-    go : (f : Finding) → Sized (answerOf f m (coded m (startOf m) 0))
-    go fine = unfold answerOf in coded-sized m (startOf m) 0
-    go (bad id code) = unfold answerOf in coded-sized m id code
+set-sized h first judge done t m = set-answer-sized (setFinding h first judge m) m
 
 -- ---- each service's entries have bytes
 items-have : (p : Item → Bool) (xs : List Item) → T (every hasBytes (map itemEntry (keep p xs)))
@@ -106,6 +107,7 @@ service-sized t m =
     (λ e. get-sized 7 (ltb 2 (filterOf m)) _ t _ m (values-have (keep (asked m) (t .datapoints))))
     (λ e. set-sized 4 _ _ _ t m)
     (λ e. get-sized 6 false _ t t m (parameters (eqb (startOf m) 0)))
+    (λ e. unfold setParameterByte served in set-answer-sized (setParameterFinding (length (t .parameters)) m) m)
     (coded-sized m (startOf m) 5)
   where
     parameters : (u : Bool) → T (every hasBytes (if u then [] else keep (λ (e : AnswerEntry). inRequest m (e .id)) (parameterEntries 1 (t .parameters))))

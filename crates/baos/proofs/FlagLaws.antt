@@ -7,7 +7,7 @@ use native.Mathlib.Omega.{arith}
 use lib.ListN.{length, drop}
 use lib.Dec.{T, eqb, leb, ltb}
 use borrow.Author.Tests.{lt-leb, ne-eqb, eqb-true}
-use Rattle.words.specs.Words.{if_then_else_, isEmpty, keep, every}
+use Rattle.words.specs.Words.{if_then_else_, isEmpty, keep, every, put}
 use Rattle.words.proofs.WordLaws.{left, right}
 use Rattle.baos.specs.declared.datapoint.Datapoint.{Datapoint}
 use Rattle.baos.specs.declared.item.Item.{Item}
@@ -18,10 +18,10 @@ use Rattle.baos.specs.Datapoint.{datapointId, datapointOk, valueOf, with
 use Rattle.baos.specs.Flags.{neededBitsOn, withFlags, reflagged, reflaggedServed}
 use Rattle.baos.specs.Item.{itemId}
 use Rattle.baos.specs.Lookup.{communicates, transmits, lookupOf, isPresent}
-use Rattle.baos.specs.Table.{Tables, withDatapoints, withItems, rising, tableOk, wellFormed, found, changedAt}
+use Rattle.baos.specs.Table.{Tables, withDatapoints, withItems, withParameters, rising, tableOk, wellFormed, found, changedAt}
 use Rattle.baos.specs.Message.{subService, startOf, numberOf, filterOf, coded, Finding, fine, bad, Served, answerOf, afterOf, served}
 use Rattle.baos.specs.Get.{AnswerEntry, inRequest, overflow, roomForEntries, listing, getFinding, getting, itemEntry, getServerItem, descriptionEntry, getDatapointDescription, valueEntry, passes, asked, handingOut, getDatapointValue, parameterEntries, getParameterByte}
-use Rattle.baos.specs.Set.{SetEntry, firstItemEntry, firstDatapointEntry, fills, setEntries, takesCommand, datapointCode, judgedItem, judgedDatapoint, firstBad, setFinding, applied, setting, setItem, setServerItem, setDatapoint, setDatapointValue}
+use Rattle.baos.specs.Set.{SetEntry, firstItemEntry, firstDatapointEntry, fills, setEntries, takesCommand, datapointCode, judgedItem, judgedDatapoint, firstBad, setFinding, applied, setting, setItem, setServerItem, setDatapoint, setDatapointValue, setParameterFinding, setParameterByte}
 use Rattle.baos.specs.Service.{service, unanswered, carriedOut}
 use Rattle.baos.specs.Bus.{takes, taken, foundTakes}
 use Rattle.baos.specs.Indication.{needs, goes, roomAfter, Choice, choices, reported, afterReport, indicationOf, indication}
@@ -319,6 +319,12 @@ module _ (flags : ℕ → ℕ) where
   set-items-flagged t m =
       setting-flagged 3 firstItemEntry (λ e. judgedItem (found itemId (e .id) (t .items)) e) _ (λ es. withItems (applied itemId setItem es (t .items)) t) _ t m refl (λ es. refl)
 
+  set-parameters-flagged : (t : Tables) (m : List ℕ) → setParameterByte (reflagged flags t) m ≡ reflaggedServed flags (setParameterByte t m)
+  unfolding setParameterByte served reflagged
+  set-parameters-flagged t m =
+      let f : Finding = setParameterFinding (length (t .parameters)) m in
+      ap (λ (x : Tables). record { says = answerOf f m (coded m (startOf m) 0); after = x }) (after-flagged f t (withParameters (put (t .parameters) (startOf m - 1) (drop 6 m)) t))
+
   -- ---- every message, but for descriptions and sets
   both-ways : (u : Bool) (x y x′ y′ : Served) → (u ≡ true → x′ ≡ reflaggedServed flags x) → y′ ≡ reflaggedServed flags y → (if u then x′ else y′) ≡ reflaggedServed flags (if u then x else y)
   both-ways true x y x′ y′ p q = p refl
@@ -334,7 +340,8 @@ module _ (flags : ℕ → ℕ) where
       (both-ways (sub 0x03) _ _ _ _ (λ e. descriptions (eqb-true (subService m) 0x03 e))
       (both-ways (sub 0x05) _ _ _ _ (λ e. get-values-flagged t m)
       (both-ways (sub 0x06) _ _ _ _ (λ e. sets (eqb-true (subService m) 0x06 e))
-      (both-ways (sub 0x07) _ _ _ _ (λ e. get-parameters-flagged t m) refl))))))
+      (both-ways (sub 0x07) _ _ _ _ (λ e. get-parameters-flagged t m)
+      (both-ways (sub 0x08) _ _ _ _ (λ e. set-parameters-flagged t m) refl)))))))
     where
       sub : ℕ → Bool
       sub n = eqb (subService m) n

@@ -1,27 +1,28 @@
 -- Well-formed tables stay well formed, whatever message is carried out and whatever is indicated.
 use Prim.Native.Nat.{ℕ, suc, _-_}
-use mathlib.Core.Path.{_≡_, refl, ap}
+use mathlib.Core.Path.{_≡_, refl, sym, ap, subst}
 use mathlib.Core.Bool.{Bool, true, false, not, _||_}
 use mathlib.Core.List.{List, [], _∷_, map}
 use native.Mathlib.Omega.{arith}
 use lib.ListN.{length, drop}
 use lib.Dec.{T, leb, eqb, eqb→eq}
-use Rattle.words.specs.Words.{if_then_else_, isYes, isEmpty, every}
+use Rattle.words.specs.Words.{if_then_else_, isYes, isEmpty, every, put}
 use Rattle.words.proofs.WordLaws.{left, right, both, parts3, join3, T-true, every-imp, every-true}
 use Rattle.baos.specs.declared.datapoint.Datapoint.{Datapoint}
 use Rattle.baos.specs.declared.item.Item.{Item}
 use Rattle.baos.specs.Datapoint.{datapointId, datapointOk, sizeOf, unusedBitsOk, isValue, withState, withMark, handedOut}
 use Rattle.baos.specs.Item.{itemId, itemOk, withBytes}
 use Rattle.baos.specs.Lookup.{lookupOf, isPresent}
-use Rattle.baos.specs.Table.{Tables, withDatapoints, rising, tableOk, wellFormed, found}
+use Rattle.baos.specs.Table.{Tables, withDatapoints, withParameters, rising, tableOk, wellFormed, found}
 use Rattle.baos.specs.Message.{startOf, numberOf, Finding, fine, bad, Served, afterOf, served}
 use Rattle.baos.specs.Get.{roomForEntries, getting, getServerItem, getDatapointDescription, asked, handingOut, getDatapointValue, getParameterByte}
-use Rattle.baos.specs.Set.{SetEntry, firstItemEntry, firstDatapointEntry, fills, setEntries, itemCode, takesCommand, datapointCode, judgedItem, judgedDatapoint, firstBad, setFinding, setting, setItem, setServerItem, setDatapoint, setDatapointValue}
+use Rattle.baos.specs.Set.{SetEntry, firstItemEntry, firstDatapointEntry, fills, setEntries, itemCode, takesCommand, datapointCode, judgedItem, judgedDatapoint, firstBad, setFinding, setting, setItem, setServerItem, setDatapoint, setDatapointValue, setParameterByte}
 use Rattle.baos.specs.Service.{service, carriedOut}
 use Rattle.baos.proofs.LookupLaws.{present-one}
 use Rattle.baos.specs.Indication.{goes, roomAfter, Choice, choices, reported, afterReport, indicationOf, indication}
 use Rattle.baos.proofs.TableLaws
 use Rattle.baos.proofs.DispatchLaws.{by-service, by-message}
+use Rattle.baos.proofs.SetParameterLaws.{set-length}
 use Rattle.baos.proofs.DatapointLaws
 
 -- ---- the three tables
@@ -180,6 +181,16 @@ values-keep t m w =
     (λ o k. TableLaws.found-fits datapointId (o .id) (datapointFits o) (λ xs. eqb (judgedDatapoint xs o) 0) (datapoint-judged o) 0 (t .datapoints) (TableLaws.ids-rise datapointId 1000 datapointOk (t .datapoints) (parts t w .datapoints)) k) os j)
     (parts t w .datapoints)))
 
+-- as many parameter bytes as there were
+parameters-keep : (t : Tables) (m : List ℕ) → T (wellFormed t) → T (wellFormed (setParameterByte t m .after))
+unfolding setParameterByte served
+parameters-keep t m w =
+    after-keeps _ t _ w (λ f. whole (withParameters (put (t .parameters) (startOf m - 1) (drop 6 m)) t) (record {
+      datapoints = parts t w .datapoints;
+      items = parts t w .items;
+      parameters = subst (λ (n : ℕ). T (leb n 255)) (sym (set-length (t .parameters) m f)) (parts t w .parameters);
+    }))
+
 -- ---- every message
 service-keeps : (t : Tables) (m : List ℕ) → T (wellFormed t) → T (wellFormed (service t m .after))
 unfolding getServerItem getDatapointDescription getDatapointValue getParameterByte getting served
@@ -191,6 +202,7 @@ service-keeps t m w =
     (λ e. after-keeps _ t _ w (λ p. out-keeps m t w))
     (λ e. values-keep t m w)
     (λ e. after-keeps _ t t w (λ p. w))
+    (λ e. parameters-keep t m w)
     w
 
 pub carried-out-keeps : (t : Tables) (m : List ℕ) → T (wellFormed t) → T (wellFormed (carriedOut t m .after))

@@ -29,6 +29,7 @@ pub mod ServiceExamples
 pub mod ServiceLaws
 pub mod SetJoins
 pub mod SetLaws
+pub mod SetParameterLaws
 pub mod SettingLaws
 pub mod TableLaws
 pub mod Types

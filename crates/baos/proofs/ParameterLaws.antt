@@ -3,6 +3,7 @@ use Prim.Native.Nat.{ℕ, zero, suc, _+_, _-_, _≤_, _<_}
 use mathlib.Core.Bool.{Bool, true, false, _&&_}
 use mathlib.Core.List.{List, [], _∷_, _++_, map, flatten}
 use mathlib.Core.Path.{_≡_, refl, sym, _∙_, ap}
+use native.Mathlib.Nat.{pos-of-ne-zero}
 use native.Mathlib.Omega.{arith}
 use lib.Dec.{leb, ltb, eqb}
 use lib.ListN.{length, getD, take, drop, length-drop}
@@ -66,10 +67,6 @@ one-over (suc room) k (b ∷ ps) h =
 one-over room k [] h = absurd (omega arith)
 
 -- ---- the answer
-positive : (n : ℕ) → (n ≡ 0 → ⊥) → 1 ≤ n
-positive zero h = absurd (h refl)
-positive (suc n) h = omega arith
-
 module _ (ps m : List ℕ) where
   abbrev start : ℕ
   start = startOf m
@@ -114,7 +111,7 @@ module _ (ps m : List ℕ) where
   start-there h e = omega (arith, none-at-0 e)
 
   pub present-short : 1 ≤ present → (1 ≤ start) × (start - 1 + present ≤ length ps)
-  present-short h = (positive start (start-there h), omega (arith, present-fits (start-there h)))
+  present-short h = (pos-of-ne-zero (start-there h), omega (arith, present-fits (start-there h)))
 
   pub part-length : (start ≡ 0 → ⊥) → length part ≡ present
   part-length n = length-take-le present (drop (start - 1) ps) (omega (arith, length-drop (start - 1) ps, present-fits n))

@@ -1,5 +1,5 @@
 -- What the carrying out of a message rests on: each service looks at its own table alone, which service a sub-service is, and what errors leave as it was.
-use Prim.Native.Nat.{ℕ, zero, suc, _+_, _/_, _%_, _≤_, _<_}
+use Prim.Native.Nat.{ℕ, zero, suc, _+_, _-_, _/_, _%_, _≤_, _<_}
 use mathlib.Core.Path.{_≡_, refl, sym, _∙_, ap}
 use mathlib.Core.Bool.{Bool, true, false, not, _||_}
 use mathlib.Core.List.{List, [], _∷_, map}
@@ -7,17 +7,17 @@ use native.Mathlib.Omega.{arith}
 use lib.ListN.{length, getD, drop, length-map}
 use lib.Dec.{leb, ltb, eqb}
 use borrow.Author.Tests.{eq-eqb, ne-eqb, ltb-false, leb-false}
-use Rattle.words.specs.Words.{if_then_else_, keep}
+use Rattle.words.specs.Words.{if_then_else_, keep, put}
 use Rattle.words.proofs.WordLaws.{true-T}
 use Rattle.baos.specs.declared.datapoint.Datapoint.{Datapoint}
 use Rattle.baos.specs.declared.item.Item.{Item}
 use Rattle.baos.specs.Datapoint.{datapointId, zeroDatapoint, withState, handedOut}
 use Rattle.baos.specs.Item.{itemId}
-use Rattle.baos.specs.Table.{Tables, found, datapointsOnly, itemsOnly, parametersOnly, withDatapoints, withItems}
+use Rattle.baos.specs.Table.{Tables, found, datapointsOnly, itemsOnly, parametersOnly, withDatapoints, withItems, withParameters}
 use Rattle.baos.proofs.TableLaws.{same-tables}
 use Rattle.baos.specs.Message.{mainService, subService, startOf, numberOf, filterOf, coded, Finding, fine, bad, Served, answerOf, afterOf, served}
 use Rattle.baos.specs.Get.{AnswerEntry, inRequest, listing, getFinding, getting, itemEntry, descriptionEntry, valueEntry, asked, parameterEntries, getServerItem, getDatapointDescription, handingOut, getDatapointValue, getParameterByte}
-use Rattle.baos.specs.Set.{SetEntry, firstItemEntry, firstDatapointEntry, setEntries, setFinding, judgedItem, judgedDatapoint, setting, setServerItem, setDatapointValue}
+use Rattle.baos.specs.Set.{SetEntry, firstItemEntry, firstDatapointEntry, setEntries, setFinding, judgedItem, judgedDatapoint, setting, setServerItem, setDatapointValue, setParameterFinding, setParameterByte}
 use Rattle.baos.specs.Inner.Gather.{getDatapoints}
 use Rattle.baos.specs.Service.{service, unanswered, carriedOut}
 
@@ -119,6 +119,22 @@ module _ (t : Tables) (m : List ℕ) where
   unfolding getParameterByte getting served
   parameters-leave-all = after-all _ t
 
+  pub set-parameters-say : setParameterByte t m .says ≡ setParameterByte (parametersOnly (t .parameters)) m .says
+  unfolding setParameterByte served
+  set-parameters-say = refl
+
+  pub set-parameters-after : setParameterByte t m .after .parameters ≡ setParameterByte (parametersOnly (t .parameters)) m .after .parameters
+  unfolding setParameterByte served
+  set-parameters-after = after-same parametersOf _ t _ (parametersOnly (t .parameters)) _ refl refl
+
+  pub set-parameters-keep-datapoints : setParameterByte t m .after .datapoints ≡ t .datapoints
+  unfolding setParameterByte served
+  set-parameters-keep-datapoints = after-part datapointsOf _ t _ refl
+
+  pub set-parameters-keep-items : setParameterByte t m .after .items ≡ t .items
+  unfolding setParameterByte served
+  set-parameters-keep-items = after-part itemsOf _ t _ refl
+
   -- each service as a whole, by what it does with its own table
   pub get-datapoints-whole : (values : Bool)
       → getDatapoints values t m
@@ -161,6 +177,18 @@ module _ (t : Tables) (m : List ℕ) where
 
   pub get-parameters-whole : getParameterByte t m ≡ record { says = getParameterByte (parametersOnly (t .parameters)) m .says; after = t }
   get-parameters-whole = λ i. record { says = parameters-say i; after = parameters-leave-all i }
+
+  pub set-parameters-whole :
+      setParameterByte t m
+      ≡ record {
+        says = setParameterByte (parametersOnly (t .parameters)) m .says;
+        after = withParameters (setParameterByte (parametersOnly (t .parameters)) m .after .parameters) t;
+      }
+  set-parameters-whole =
+      λ i. record {
+        says = set-parameters-say i;
+        after = same-tables set-parameters-keep-datapoints set-parameters-keep-items set-parameters-after i;
+      }
 
 -- ---- which messages are answered
 pub not-answered : (t : Tables) (m : List ℕ) → unanswered m ≡ true → carriedOut t m ≡ record { says = []; after = t }
@@ -222,12 +250,18 @@ module _ (t : Tables) (m : List ℕ) (u : unanswered m ≡ false) where
       answered
       ∙ simp (not-this 1 e (λ q. omega (arith, q)), not-this 2 e (λ q. omega (arith, q)), not-this 3 e (λ q. omega (arith, q)), not-this 5 e (λ q. omega (arith, q)), not-this 6 e (λ q. omega (arith, q)), eq-eqb (subService m) 7 e)
 
-  pub is-no-service : (subService m ≡ 1 → ⊥) → (subService m ≡ 2 → ⊥) → (subService m ≡ 3 → ⊥) → (subService m ≡ 5 → ⊥) → (subService m ≡ 6 → ⊥)
-      → (subService m ≡ 7 → ⊥) → carriedOut t m ≡ record { says = coded m (startOf m) 5; after = t }
+  pub is-set-parameter : subService m ≡ 8 → carriedOut t m ≡ setParameterByte t m
   unfolding service
-  is-no-service n1 n2 n3 n5 n6 n7 =
+  is-set-parameter e =
       answered
-      ∙ simp (ne-eqb (subService m) 1 n1, ne-eqb (subService m) 2 n2, ne-eqb (subService m) 3 n3, ne-eqb (subService m) 5 n5, ne-eqb (subService m) 6 n6, ne-eqb (subService m) 7 n7)
+      ∙ simp (not-this 1 e (λ q. omega (arith, q)), not-this 2 e (λ q. omega (arith, q)), not-this 3 e (λ q. omega (arith, q)), not-this 5 e (λ q. omega (arith, q)), not-this 6 e (λ q. omega (arith, q)), not-this 7 e (λ q. omega (arith, q)), eq-eqb (subService m) 8 e)
+
+  pub is-no-service : (subService m ≡ 1 → ⊥) → (subService m ≡ 2 → ⊥) → (subService m ≡ 3 → ⊥) → (subService m ≡ 5 → ⊥) → (subService m ≡ 6 → ⊥)
+      → (subService m ≡ 7 → ⊥) → (subService m ≡ 8 → ⊥) → carriedOut t m ≡ record { says = coded m (startOf m) 5; after = t }
+  unfolding service
+  is-no-service n1 n2 n3 n5 n6 n7 n8 =
+      answered
+      ∙ simp (ne-eqb (subService m) 1 n1, ne-eqb (subService m) 2 n2, ne-eqb (subService m) 3 n3, ne-eqb (subService m) 5 n5, ne-eqb (subService m) 6 n6, ne-eqb (subService m) 7 n7, ne-eqb (subService m) 8 n8)
 
 -- ---- an error answer leaves everything as it was
 pub bad-served : (i c : ℕ) (m answer : List ℕ) (t t′ : Tables) → served (bad i c) m answer t t′ ≡ record { says = coded m i c; after = t }
@@ -295,6 +329,19 @@ module _ (t : Tables) (m : List ℕ) where
   pub bad-set-value : {i c : ℕ} → setValueFinding ≡ bad i c → setDatapointValue t m ≡ record { says = coded m i c; after = t }
   unfolding setDatapointValue
   bad-set-value e = bad-set 4 firstDatapointEntry _ _ t m e
+
+  pub bad-set-parameter : {i c : ℕ} → setParameterFinding (length (t .parameters)) m ≡ bad i c → setParameterByte t m ≡ record { says = coded m i c; after = t }
+  unfolding setParameterByte
+  bad-set-parameter {i} {c} e =
+      let t′ = withParameters (put (t .parameters) (startOf m - 1) (drop 6 m)) t in
+      ap (λ (f : Finding). served f m (coded m (startOf m) 0) t t′) e ∙ bad-served i c m (coded m (startOf m) 0) t t′
+
+  pub fine-set-parameter : setParameterFinding (length (t .parameters)) m ≡ fine
+      → setParameterByte t m ≡ record { says = coded m (startOf m) 0; after = withParameters (put (t .parameters) (startOf m - 1) (drop 6 m)) t }
+  unfolding setParameterByte
+  fine-set-parameter e =
+      let t′ = withParameters (put (t .parameters) (startOf m - 1) (drop 6 m)) t in
+      ap (λ (f : Finding). served f m (coded m (startOf m) 0) t t′) e ∙ fine-served m (coded m (startOf m) 0) t t′
 
 -- ---- what a positive get of values shows and leaves
 -- bit 3 cleared, and nothing else changed

@@ -29,8 +29,8 @@ lookupNumber Closed = 2
 lookupNumber Open = 3
 
 -- "Gets and bus events treat the last two alike." This is all that a bus event asks of the finding: absent is refused
--- (`foundTakes`). A get looks up no single ID, and answers about those of its range that are present. A set treats no
--- two alike (`datapointCode`).
+-- (`foundTakes`). A get looks up no single ID, and answers about those of its range that are present. A set of
+-- datapoints treats no two alike (`datapointCode`).
 unfoldable pub isPresent : Lookup → Bool
 isPresent Absent = false
 isPresent Closed = true

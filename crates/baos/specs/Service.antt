@@ -8,9 +8,9 @@ use Rattle.words.specs.Words.{if_then_else_}
 use Rattle.baos.specs.Table.{Tables}
 use Rattle.baos.specs.Message.{mainService, subService, startOf, coded, Served}
 use Rattle.baos.specs.Get.{getServerItem, getDatapointDescription, getDatapointValue, getParameterByte}
-use Rattle.baos.specs.Set.{setServerItem, setDatapointValue}
+use Rattle.baos.specs.Set.{setServerItem, setDatapointValue, setParameterByte}
 
--- the six services; row 5: "sub not one of the six"
+-- Row 5: "sub not one of the six", of the seven below since document 02, item 5: "code 5 no longer for sub 08"
 unfoldable pub service : Tables → List ℕ → Served
 service t m =
     if eqb (subService m) 0x01 then getServerItem t m
@@ -19,6 +19,7 @@ service t m =
     else if eqb (subService m) 0x05 then getDatapointValue t m
     else if eqb (subService m) 0x06 then setDatapointValue t m
     else if eqb (subService m) 0x07 then getParameterByte t m
+    else if eqb (subService m) 0x08 then setParameterByte t m
     else record { says = coded m (startOf m) 5; after = t }
 
 -- "Shorter than 6 bytes, first byte not F0, or sub 80 and above: no answer."

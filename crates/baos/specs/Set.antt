@@ -1,10 +1,10 @@
--- The sets: SetServerItem and SetDatapointValue.
+-- The sets: SetServerItem, SetDatapointValue, SetParameterByte.
 use Prim.Native.Nat.{ℕ, zero, suc, _+_, _-_}
 use mathlib.Core.Bool.{Bool, true, false, not, _&&_, _||_}
 use mathlib.Core.List.{List, [], _∷_}
 use lib.ListN.{length, getD, take, drop}
-use lib.Dec.{leb, eqb}
-use Rattle.words.specs.Words.{if_then_else_, isYes, ofTwoBytes, isEmpty, every}
+use lib.Dec.{leb, ltb, eqb}
+use Rattle.words.specs.Words.{if_then_else_, isYes, ofTwoBytes, keep, isEmpty, every, put}
 use Rattle.baos.specs.declared.datapoint.Datapoint.{Datapoint}
 use Rattle.baos.specs.declared.item.Item.{Item}
 use Rattle.baos.specs.declared.lookup.Lookup.{Lookup}
@@ -12,10 +12,10 @@ use Rattle.baos.specs.declared.lookup.Lookup.the-variants.{Absent, Close
 use Rattle.baos.specs.Datapoint.{datapointId, zeroDatapoint, sizeOf, unusedBitsOk, isSend, commanded}
 use Rattle.baos.specs.Item.{itemId, withBytes}
 use Rattle.baos.specs.Lookup.{transmits, lookupOf, isPresent}
-use Rattle.baos.specs.Table.{Tables, withDatapoints, withItems, found, changedAt}
+use Rattle.baos.specs.Table.{Tables, withDatapoints, withItems, withParameters, found, changedAt}
 use Rattle.baos.specs.Message.{startOf, numberOf, coded, Finding, fine, bad, Served, served}
 
--- an entry of a set request: an ID, a command (an item's entry has none: 0) and the bytes sent
+-- an entry of a request to set items or datapoints: an ID, a command (an item's entry has none: 0) and the bytes sent
 pub record SetEntry : Type 0 where
   pub id : ℕ
   pub command : ℕ
@@ -126,6 +126,35 @@ unfoldable pub setDatapointValue : Tables → List ℕ → Served
 setDatapointValue t m =
     setting 4 firstDatapointEntry (λ e. judgedDatapoint (found datapointId (e .id) (t .datapoints)) e)
     (λ es. withDatapoints (applied datapointId setDatapoint es (t .datapoints)) t) t m
+
+-- so many indices, from `start` on: as for gets, "The range is start to start + number - 1 worked out without wrapping"
+unfoldable pub indices : ℕ → ℕ → List ℕ
+indices start zero = []
+indices start (suc n) = start ∷ indices (suc start) n
+
+-- those that are not in a table of so many bytes, of which "the first has index 1"
+unfoldable pub absentIndices : ℕ → ℕ → ℕ → List ℕ
+absentIndices count start number = keep (λ i. eqb i 0 || ltb count i) (indices start number)
+
+-- "7 with the first index not in the table" (document 02, item 5)
+unfoldable pub absentFinding : List ℕ → Finding
+absentFinding [] = fine
+absentFinding (i ∷ is) = bad i 7
+
+-- Rows 10, 6 and 7, for a table of so many bytes. An entry is one byte here, and has no head. Row 6 is also met by 000's
+-- request to flush what was written (3.17: start 0, number 0, no byte).
+unfoldable pub setParameterFinding : ℕ → List ℕ → Finding
+setParameterFinding count m =
+    if not (eqb (length m) (6 + numberOf m)) then bad (startOf m) 10
+    else if eqb (numberOf m) 0 then bad (startOf m) 6
+    else absentFinding (absentIndices count (startOf m) (numberOf m))
+
+-- "All or nothing as with items"; "Positive set answer: start echoed, 00 00, 00." The byte of index 1 is the table's
+-- first.
+unfoldable pub setParameterByte : Tables → List ℕ → Served
+setParameterByte t m =
+    served (setParameterFinding (length (t .parameters)) m) m (coded m (startOf m) 0) t
+    (withParameters (put (t .parameters) (startOf m - 1) (drop 6 m)) t)
 
 -- no entry has more bytes of value than a record has room for
 unfoldable pub allShort : ℕ → List SetEntry → Bool

@@ -15,6 +15,8 @@ pub const SET_DATAPOINT_VALUE: u8 = 0x06;
 
 pub const GET_PARAMETER_BYTE: u8 = 0x07;
 
+pub const SET_PARAMETER_BYTE: u8 = 0x08;
+
 pub const ANSWER: u8 = 0x80;
 
 // DatapointValue.Ind.

@@ -21,7 +21,7 @@ pub fn step(bench: Bench, event: Event) -> Bench
         &b.value[..v],
         &mut b.datapoints[..d],
         &mut b.items[..i],
-        &b.parameters[..p],
+        &mut b.parameters[..p],
         &mut b.link,
         &mut b.out,
     );

@@ -1,7 +1,7 @@
 -- What the exported functions give: where the numbers name an event, where they name none, and of a fresh link record.
 use Prim.Native.Nat.{ℕ, _≤_, _<_, _^_}
 use native.Mathlib.Nat.{pos-of-ne-zero}
-use mathlib.Core.Path.{_≡_, refl, ap}
+use mathlib.Core.Path.{_≡_, refl}
 use mathlib.Core.Bool.{Bool, true, false, not}
 use mathlib.Core.List.{List}
 use native.Mathlib.Omega.{arith}
@@ -16,7 +16,7 @@ use Rattle.ft12.specs.Record.{Line, lineOf, linkOf, lineOk, receiverOk, outstan
 use Rattle.ft12.specs.Receiver.{gathers, isBeginning}
 use Rattle.ft12.specs.Rules.{atStart, cleared, expecting, onHeard}
 use Rattle.ft12.proofs.RecordLaws.{line-in-range}
-use Rattle.baos.specs.Table.{Tables, tablesOf, wellFormed}
+use Rattle.baos.specs.Table.{Tables, wellFormed}
 use Rattle.calls.specs.declared.event.Event.{Event}
 use Rattle.calls.specs.Event.{busOk}
 use Rattle.calls.specs.Reply.{sentCount}
@@ -31,12 +31,10 @@ module _ (event byte id outcome : ℕ) (v : List ℕ) (t : Tables) (k : Link) (o
   no-event n = simp n (record { number = refl; tables = refl; link = refl; output = refl })
 
   pub an-event : isEvent event outcome ≡ true
-      → let c = call (eventNumbered event byte id outcome) v t k out in t .parameters ≡ c .tables .parameters
-      → Gives (calledBy event byte id outcome v t k out) (replyNumber (c .reply)) (tablesOf (c .tables .datapoints) (c .tables .items) (t .parameters)) (c .link) (c .output)
+      → let c = call (eventNumbered event byte id outcome) v t k out in
+      Gives (calledBy event byte id outcome v t k out) (replyNumber (c .reply)) (c .tables) (c .link) (c .output)
   unfolding calledBy answered
-  an-event n p =
-      let c = call (eventNumbered event byte id outcome) v t k out in
-      simp n (record { number = refl; tables = ap (λ (ps : List ℕ). tablesOf (c .tables .datapoints) (c .tables .items) ps) p; link = refl; output = refl })
+  an-event n = simp n (record { number = refl; tables = refl; link = refl; output = refl })
 
   -- the count of bytes sent is a number of 32 bits
   pub count-fits : sentCount (call (eventNumbered event byte id outcome) v t k out .reply) < 2 ^ 31

@@ -5,8 +5,8 @@ use mathlib.Core.Bool.{Bool, true, false}
 use mathlib.Core.List.{List, [], _∷_, _++_}
 use native.Mathlib.Omega.{arith}
 use lib.ListN.{length, take, drop, length-take}
-use lib.Dec.{T, ltb, eqb, leb→le}
-use borrow.Author.Tests.{le-ltb, ltb-false, eqb-true, eqb-false}
+use lib.Dec.{T, ltb, leb→le}
+use borrow.Author.Tests.{le-ltb, ltb-false}
 use Rattle.ft12.specs.declared.record.Link.{Link}
 use Rattle.ft12.specs.declared.rules.Heard.{Heard}
 use Rattle.ft12.specs.declared.rules.Heard.the-variants.{Gathered, Dropped, Ignored, Acknowledged, Reset, Repeat, Request}
@@ -27,8 +27,8 @@ use Rattle.baos.specs.declared.item.Item.{Item}
 use Rattle.baos.specs.Datapoint.{datapointId, datapointOk}
 use Rattle.baos.specs.Item.{itemId, itemOk}
 use Rattle.baos.specs.Table.{Tables, tablesOf, tableOk, wellFormed}
-use Rattle.baos.specs.Message.{subService, Served}
-use Rattle.baos.specs.Service.{unanswered, carriedOut}
+use Rattle.baos.specs.Message.{Served}
+use Rattle.baos.specs.Service.{carriedOut}
 use Rattle.baos.proofs.ServiceLaws
 use Rattle.baos.proofs.AnswerLaws
 use Rattle.baos.proofs.KeepLaws
@@ -70,27 +70,6 @@ asked Acknowledged z = absurd (z refl)
 asked Reset z = absurd (z refl)
 asked Repeat z = absurd (z refl)
 asked (Request n) z = record { size = n; is = refl; l = refl }
-
--- carrying out leaves the parameters
-pub carried-parameters : (t : Tables) (m : List ℕ) → carriedOut t m .after .parameters ≡ t .parameters
-carried-parameters t m = go (unanswered m) refl
-  where
-    sub : ℕ
-    sub = subService m
-
-    served : unanswered m ≡ false → (a b c d e f : Bool) → eqb sub 1 ≡ a → eqb sub 2 ≡ b → eqb sub 3 ≡ c → eqb sub 5 ≡ d → eqb sub 6 ≡ e → eqb sub 7 ≡ f → carriedOut t m .after .parameters ≡ t .parameters
-    served u true b c d e f p1 p2 p3 p5 p6 p7 = ap (λ (v : Served). v .after .parameters) (ServiceLaws.is-get-item t m u (eqb-true sub 1 p1)) ∙ ap (λ (x : Tables). x .parameters) (ServiceLaws.items-leave-all t m)
-    served u false true c d e f p1 p2 p3 p5 p6 p7 = ap (λ (v : Served). v .after .parameters) (ServiceLaws.is-set-item t m u (eqb-true sub 2 p2)) ∙ ServiceLaws.set-items-keep-parameters t m
-    served u false false true d e f p1 p2 p3 p5 p6 p7 = ap (λ (v : Served). v .after .parameters) (ServiceLaws.is-get-description t m u (eqb-true sub 3 p3)) ∙ ServiceLaws.datapoints-keep-parameters t m false
-    served u false false false true e f p1 p2 p3 p5 p6 p7 = ap (λ (v : Served). v .after .parameters) (ServiceLaws.is-get-value t m u (eqb-true sub 5 p5)) ∙ ServiceLaws.datapoints-keep-parameters t m true
-    served u false false false false true f p1 p2 p3 p5 p6 p7 = ap (λ (v : Served). v .after .parameters) (ServiceLaws.is-set-value t m u (eqb-true sub 6 p6)) ∙ ServiceLaws.set-datapoints-keep-parameters t m
-    served u false false false false false true p1 p2 p3 p5 p6 p7 = ap (λ (v : Served). v .after .parameters) (ServiceLaws.is-get-parameter t m u (eqb-true sub 7 p7)) ∙ ap (λ (x : Tables). x .parameters) (ServiceLaws.parameters-leave-all t m)
-    served u false false false false false false p1 p2 p3 p5 p6 p7 =
-        ap (λ (v : Served). v .after .parameters) (ServiceLaws.is-no-service t m u (eqb-false sub 1 p1) (eqb-false sub 2 p2) (eqb-false sub 3 p3) (eqb-false sub 5 p5) (eqb-false sub 6 p6) (eqb-false sub 7 p7))
-
-    go : (u : Bool) → unanswered m ≡ u → carriedOut t m .after .parameters ≡ t .parameters
-    go true e = ap (λ (v : Served). v .after .parameters) (ServiceLaws.not-answered t m e)
-    go false e = served e (eqb sub 1) (eqb sub 2) (eqb sub 3) (eqb sub 5) (eqb sub 6) (eqb sub 7) refl refl refl refl refl refl
 
 -- what a request leaves of the record: its bytes, for the message stands among them
 asked-receiver : (k : Link) (b n : ℕ) → T (inRange k) → heardAt b (lineOf k) ≡ Request n → afterHostByte b k .receiver ≡ k .receiver
@@ -257,16 +236,16 @@ module _ (b : ℕ) (k : Link) (out : List ℕ) (ds : List Datapoint) (is : List 
               put-over acknowledgedOut 6 1 (carries .says) (takenBack .sent) (omega arith) (omega (arith, acknowledged-room)) (omega (arith, n))
               ∙ ap (λ (s : List ℕ). put (put out 0 s) 1 (takenBack .sent)) first ∙ put-put out 0 1 acknowledgement (takenBack .sent) (omega arith) (omega (arith, w, n, g))
 
-      answered : Leaves (accepted out (saying acknowledgement carries (onHostByte b (lineOf k) .line))) (Accepted (length (takenBack .sent) + 1)) (tablesOf (carries .after .datapoints) (carries .after .items) ps) (linkOf (takenBack .line)) (put answeredOut 1 (takenBack .sent))
+      answered : Leaves (accepted out (saying acknowledgement carries (onHostByte b (lineOf k) .line))) (Accepted (length (takenBack .sent) + 1)) (carries .after) (linkOf (takenBack .line)) (put answeredOut 1 (takenBack .sent))
       unfolding accepted saying replyNumbers
       answered =
           let n : length (takenBack .sent) + 1 ≡ length (acknowledgement ++ onMessage (carries .says) (onHostByte b (lineOf k) .line) .sent) = omega (arith, ap (λ (v : Moved). length (v .sent)) taken) in
           record {
             reply = ap {B = List ℕ} (λ (x : ℕ). 0 ∷ x ∷ []) n;
-            tables = ap (tablesOf (carries .after .datapoints) (carries .after .items)) (sym (carried-parameters (tablesOf ds is ps) asks));
+            tables = refl;
             link = ap (λ (v : Moved). linkOf (v .line)) taken;
             output = frame-out ∙ put-front out (acknowledgement ++ takenBack .sent) ∙ ap (λ (v : Moved). (acknowledgement ++ v .sent) ++ drop (length (acknowledgement ++ v .sent)) out) taken;
           }
 
-      pub request-answered : Leaves (accepted out (onMoved (onHostByte b (lineOf k)) (tablesOf ds is ps))) (Accepted (length (takenBack .sent) + 1)) (tablesOf (carries .after .datapoints) (carries .after .items) ps) (linkOf (takenBack .line)) (put answeredOut 1 (takenBack .sent))
+      pub request-answered : Leaves (accepted out (onMoved (onHostByte b (lineOf k)) (tablesOf ds is ps))) (Accepted (length (takenBack .sent) + 1)) (carries .after) (linkOf (takenBack .line)) (put answeredOut 1 (takenBack .sent))
       request-answered = rw (asked-done b (q .size) (lineOf k) asks (tablesOf ds is ps) (q .is) handed) answered

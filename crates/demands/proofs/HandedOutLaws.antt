@@ -23,7 +23,7 @@ use Rattle.baos.specs.Datapoint.{datapointId, datapointOk, sizeOf, valueOf, isU
 use Rattle.baos.specs.Table.{Tables, rising, changedAt, wellFormed}
 use Rattle.baos.specs.Message.{subService, startOf, numberOf, filterOf, coded, Finding, fine, bad, Served, answerOf, afterOf, served}
 use Rattle.baos.specs.Get.{AnswerEntry, listing, getFinding, getting, getServerItem, getDatapointDescription, valueEntry, asked, handingOut, getDatapointValue, getParameterByte}
-use Rattle.baos.specs.Set.{SetEntry, setFinding, applied, setting, setServerItem, setDatapoint, setDatapointValue}
+use Rattle.baos.specs.Set.{SetEntry, setFinding, applied, setting, setServerItem, setDatapoint, setDatapointValue, setParameterFinding, setParameterByte}
 use Rattle.baos.specs.Service.{carriedOut}
 use Rattle.baos.specs.Get.{roomForEntries}
 use Rattle.baos.specs.Indication.{Choice, roomAfter, choices, reported, afterReport, indicationOf, indication}
@@ -222,11 +222,15 @@ module _ (id : ℕ) (t : Tables) (m : List ℕ) where
       (λ e. silent id t t _ (listing-silent id (subService m + 0x80) (startOf m) es (ap (λ (n : ℕ). eqb (n + 0x80) 0x85) s ∙ p) (ap (λ (n : ℕ). eqb (n + 0x80) 0xC1) s ∙ q)) (λ f. f))
 
   -- a set, by what it does to the datapoints
+  -- a set by its finding, and by its entries
+  a-finding : (f : Finding) (t′ : Tables) → (fresh id (t .datapoints) ≡ false → fresh id (t′ .datapoints) ≡ false)
+      → Spends id t (afterOf f t t′) (answerOf f m (coded m (startOf m) 0))
+  a-finding f t′ k = by-finding f (coded m (startOf m) 0) t′ (λ e. silent id t t′ (coded m (startOf m) 0) (coded-shows id (startOf m) 0 m) k)
+
   a-set : (h : ℕ) (first : List ℕ → SetEntry) (judge : SetEntry → ℕ) (done : List SetEntry → Tables) → ((es : List SetEntry) → fresh id (t .datapoints) ≡ false → fresh id (done es .datapoints) ≡ false)
       → Spends id t (setting h first judge done t m .after) (setting h first judge done t m .says)
   unfolding setting served
-  a-set h first judge done k =
-      by-finding (setFinding h first judge m) (coded m (startOf m) 0) _ (λ e. silent id t _ (coded m (startOf m) 0) (coded-shows id (startOf m) 0 m) (k _))
+  a-set h first judge done k = a-finding (setFinding h first judge m) _ (k _)
 
 -- a command leaves ID and bit 3
 command-fresh : (id c : ℕ) (v : List ℕ) (d : Datapoint) → isFresh id d ≡ false → isFresh id (commanded c v d) ≡ false
@@ -330,7 +334,7 @@ module _ (id : ℕ) (t : Tables) (m : List ℕ) (w : T (wellFormed t)) where
 
   -- every message
   message-spends : Spends id t (carriedOut t m .after) (carriedOut t m .says)
-  unfolding getServerItem setServerItem getDatapointDescription getDatapointValue setDatapointValue getParameterByte
+  unfolding getServerItem setServerItem getDatapointDescription getDatapointValue setDatapointValue getParameterByte setParameterByte
   message-spends =
       by-message (λ (s : Served). Spends id t (s .after) (s .says)) t m (no-message id t)
       (by-service (λ (s : Served). Spends id t (s .after) (s .says)) t m
@@ -340,6 +344,7 @@ module _ (id : ℕ) (t : Tables) (m : List ℕ) (w : T (wellFormed t)) where
       (λ s. unfold getting served in by-finding id t m (getFinding 7 (ltb 2 (filterOf m)) m _) _ (handingOut m t) (λ e. values-spend s))
       (λ s. a-set id t m 4 _ _ _ (λ es f. applied-fresh id es table f))
       (λ s. other-get id t m 6 0x07 false _ s refl refl)
+      (λ s. unfold served in a-finding id t m (setParameterFinding (length (t .parameters)) m) _ (λ f. f))
       (silent id t t (coded m (startOf m) 5) (coded-shows id (startOf m) 5 m) (λ f. f)))
 
 -- ---- the indication

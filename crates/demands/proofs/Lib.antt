@@ -12,3 +12,4 @@ pub mod Demand2
 pub mod EntryErrorLaws
 pub mod StatusLaws
 pub mod ClosedLaws
+pub mod ParametersLaws

@@ -19,10 +19,10 @@ use Rattle.baos.specs.declared.bus.Outcome.the-variants.{Sent, Failed, InProgre
 use Rattle.baos.specs.Datapoint.{datapointId, zeroDatapoint, withState, withValue, withMark, handedOut, busValue, outcome, isSend, commanded}
 use Rattle.baos.specs.Bus.{statusOf}
 use Rattle.baos.specs.Lookup.{lookupOf, isPresent}
-use Rattle.baos.specs.Table.{Tables, withItems, found, changedAt}
+use Rattle.baos.specs.Table.{Tables, withItems, withParameters, found, changedAt}
 use Rattle.baos.specs.Message.{subService, startOf, coded, Finding, fine, bad, Served, afterOf, served}
 use Rattle.baos.specs.Get.{roomForEntries, getting, getServerItem, getDatapointDescription, asked, handingOut, getDatapointValue, getParameterByte}
-use Rattle.baos.specs.Set.{SetEntry, firstDatapointEntry, judgedDatapoint, applied, setting, setServerItem, setDatapoint, setDatapointValue}
+use Rattle.baos.specs.Set.{SetEntry, firstDatapointEntry, judgedDatapoint, applied, setting, setServerItem, setDatapoint, setDatapointValue, setParameterByte}
 use Rattle.baos.specs.Service.{service, carriedOut}
 use Rattle.baos.specs.Indication.{choices, goes, roomAfter, afterReport, indication}
 use Rattle.baos.proofs.DatapointLaws.{command-same, command-status, bits-without-updated, bits-with-status, bits-from-bus}
@@ -204,7 +204,7 @@ module _ (id : ℕ) (t : Tables) (m : List ℕ) where
       (λ z. statuses-applied id (entriesOf m) (t .datapoints) ∙ ap (λ (u : Bool). replaced (if u then 3 ∷ [] else []) (statusAt id t)) (sym (with-code _ ∙ holds-six (isSendFor id) e)))
 
   request-leaves : Leaves (carriedOut t m)
-  unfolding getServerItem setServerItem getDatapointDescription getDatapointValue getParameterByte getting setting
+  unfolding getServerItem setServerItem getDatapointDescription getDatapointValue getParameterByte setParameterByte getting setting
   request-leaves =
       by-message Leaves t m (kept (record { says = []; after = t }) refl (no-code _ refl))
       (by-service Leaves t m
@@ -214,6 +214,7 @@ module _ (id : ℕ) (t : Tables) (m : List ℕ) where
       (λ e. keeps-as 0x05 _ _ (handingOut m t) e refl (statuses-out id m t))
       set-leaves
       (λ e. keeps-as 0x07 _ _ t e refl refl)
+      (λ e. keeps-as 0x08 _ _ (withParameters _ t) e refl (unfold statusAt in refl))
       (kept (record { says = coded m (startOf m) 5; after = t }) refl (no-code _ (unfold coded in refl))))
 
 pub after-request : AfterRequest

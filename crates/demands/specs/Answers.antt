@@ -45,7 +45,8 @@ OutcomeIsCall =
     → Leaves (call e v t k out) r t′ k′ out′
     → call e v t k out ≡ record { reply = r; output = out′; tables = t′; link = k′ }
 
--- ---- "A request that is answered with an error code changes no datapoint and no item."
+-- ---- "A request that is answered with an error code changes no datapoint and no item." Nor a parameter byte: "Demands 2
+-- and 3 read "tables" with the parameters among them" (document 02, item 5)
 -- "an error answer is F0, sub + 80, an ID, 00 00, code (7 bytes)", as it is read from an answer's bytes: seven, no
 -- number of entries, a code. The positive answer of a set has code 0; that of a get has a number of entries.
 pub record ErrorAnswer (answer : List ℕ) : Type 0 where
@@ -53,7 +54,7 @@ pub record ErrorAnswer (answer : List ℕ) : Type 0 where
   pub no-entries : (getD answer 4 0 ≡ 0) × (getD answer 5 0 ≡ 0)
   pub code : getD answer 6 0 ≢ 0
 
--- over messages, for all six services and for those that are none
+-- over messages, for every service and for subs that are none
 abbrev pub ErrorsChangeNothing : Type 0
 ErrorsChangeNothing = (t : Tables) (m : List ℕ) → ErrorAnswer (carriedOut t m .says) → carriedOut t m .after ≡ t
 

@@ -9,3 +9,4 @@ pub mod Entries
 pub mod Status
 pub mod Exchange
 pub mod Closed
+pub mod Parameters

@@ -23,14 +23,14 @@ pub fn call(
     value: &[u8],
     datapoints: &mut [Datapoint],
     items: &mut [Item],
-    parameters: &[u8],
+    parameters: &mut [u8],
     link: &mut Link,
     out: &mut [u8],
 ) -> Reply
     ensures { λ r. ⌜ Leaves (call event (now (value .entry))
         (tablesOf (now (datapoints .entry)) (now (items .entry)) (now (parameters .entry))) (now (link .entry))
         (now (out .entry))) r
-        (tablesOf (now (datapoints .exit)) (now (items .exit)) (now (parameters .entry))) (now (link .exit))
+        (tablesOf (now (datapoints .exit)) (now (items .exit)) (now (parameters .exit))) (now (link .exit))
         (now (out .exit)) ⌝ }
 {
     let held = link.held;

@@ -70,7 +70,7 @@ pub fn on_host_byte(
     b: u8,
     datapoints: &mut [Datapoint],
     items: &mut [Item],
-    parameters: &[u8],
+    parameters: &mut [u8],
     link: &mut Link,
     out: &mut [u8],
 ) -> Reply
@@ -78,7 +78,7 @@ pub fn on_host_byte(
         × (262 ≤ length (now out)) ⌝ }
     ensures { λ r. ⌜ Leaves (accepted (now (out .entry)) (onMoved (onHostByte b (lineOf (now (link .entry))))
         (tablesOf (now (datapoints .entry)) (now (items .entry)) (now (parameters .entry))))) r
-        (tablesOf (now (datapoints .exit)) (now (items .exit)) (now (parameters .entry))) (now (link .exit))
+        (tablesOf (now (datapoints .exit)) (now (items .exit)) (now (parameters .exit))) (now (link .exit))
         (now (out .exit)) ⌝ }
 {
     let heard = host_byte(link, b);

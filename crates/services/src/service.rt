@@ -19,6 +19,7 @@ use baos::service::GET_SERVER_ITEM;
 use baos::service::MAIN_SERVICE;
 use baos::service::MESSAGE_HEAD;
 use baos::service::SET_DATAPOINT_VALUE;
+use baos::service::SET_PARAMETER_BYTE;
 use baos::service::SET_SERVER_ITEM;
 use gets::get::get_datapoints;
 use gets::get::get_items;
@@ -26,6 +27,7 @@ use gets::get::get_parameters;
 use messages::message::put_coded;
 use messages::message::start_of;
 use messages::message::sub_service_of;
+use parameters::parameter::set_parameters;
 use sets::set::set_datapoints;
 use sets::set::set_items;
 
@@ -46,7 +48,7 @@ fn is_unanswered(m: &[u8]) -> bool
 pub fn carry_out(
     datapoints: &mut [Datapoint],
     items: &mut [Item],
-    parameters: &[u8],
+    parameters: &mut [u8],
     m: &[u8],
     out: &mut [u8],
     at: usize,
@@ -56,7 +58,8 @@ pub fn carry_out(
         × (at + 254 ≤ length (now out)) × (length (now m) ≤ 254) ⌝ }
     ensures { λ r. ⌜ Carried (carriedOut
         (tablesOf (now (datapoints .entry)) (now (items .entry)) (now (parameters .entry))) (now (m .entry)))
-        (now (out .entry)) at r (now (out .exit)) (now (datapoints .exit)) (now (items .exit)) ⌝ }
+        (now (out .entry)) at r (now (out .exit)) (now (datapoints .exit)) (now (items .exit))
+        (now (parameters .exit)) ⌝ }
 {
     if is_unanswered(m) {
         return at;
@@ -79,6 +82,9 @@ pub fn carry_out(
     }
     if sub == GET_PARAMETER_BYTE {
         return get_parameters(parameters, m, out, at);
+    }
+    if sub == SET_PARAMETER_BYTE {
+        return set_parameters(parameters, m, out, at);
     }
     let start = start_of(m);
     put_coded(out, at, m, start, SERVICE_NOT_SUPPORTED)

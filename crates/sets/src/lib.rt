@@ -1,2 +1,2 @@
-// The sets: entries found, judged, then applied.
+// The sets of items and datapoints: entries found, judged, then applied.
 pub mod set;

@@ -1,4 +1,5 @@
-// The sets: the entries of a request. An entry is given by the request's bytes and the place where it begins.
+// The sets of items and datapoints: the entries of a request. An entry is given by the request's bytes and the place
+// where it begins.
 ghost use mathlib.Core.Path.{_≡_};
 ghost use mathlib.Core.Bool.{true};
 ghost use mathlib.Core.List.{[], _∷_, map};

@@ -22,14 +22,14 @@ pub extern "C" fn tagobrelin_call(
     value: &[u8],
     datapoints: &mut [Datapoint],
     items: &mut [Item],
-    parameters: &[u8],
+    parameters: &mut [u8],
     link: &mut Link,
     out: &mut [u8],
 ) -> i32
     ensures { λ r. ⌜ Gives (calledBy event byte id outcome (now (value .entry))
         (tablesOf (now (datapoints .entry)) (now (items .entry)) (now (parameters .entry))) (now (link .entry))
         (now (out .entry))) r
-        (tablesOf (now (datapoints .exit)) (now (items .exit)) (now (parameters .entry))) (now (link .exit))
+        (tablesOf (now (datapoints .exit)) (now (items .exit)) (now (parameters .exit))) (now (link .exit))
         (now (out .exit)) ⌝ }
 {
     if !is_event(event, outcome) {

@@ -1,12 +1,12 @@
 -- Laws of bytes: tested to be 0, made 0, written over a part of a buffer.
-use Prim.Native.Nat.{ℕ, zero, suc, _+_, _<_, _≤_}
+use Prim.Native.Nat.{ℕ, zero, suc, _+_, _-_, _<_, _≤_}
 use mathlib.Core.Path.{_≡_, refl, ap, sym, _∙_}
 use mathlib.Core.List.{List, [], _∷_, _++_, append-assoc}
 use mathlib.Core.Bool.{Bool, true, false, _&&_, and-true, and-false, and-assoc}
 use native.Mathlib.Omega.{arith}
 use native.Mathlib.Decide.{ℕ-discrete}
-use lib.ListN.{length, take, drop, getD, set, replicate, length-append, length-take, length-drop, take-append-drop}
-use lib.Seq.{take-all, take-suc, take-take, take-add, take-append-le, take-at, drop-at, drop-drop, drop-append-add, length-take-le, sets, sets-eq}
+use lib.ListN.{List·getD-append, length, take, drop, getD, set, replicate, length-append, length-take, length-drop, take-append-drop}
+use lib.Seq.{take-all, take-suc, take-take, take-add, take-append-le, take-at, drop-at, drop-drop, drop-append-add, length-take-le, getD-append-add, getD-take, getD-drop, sets, sets-eq}
 use lib.Bits.{bitOr, or-zero-l, or-add-and, and-le-r}
 use lib.Dec.{eqb}
 use borrow.Author.Tests.{ne-eqb}
@@ -133,3 +133,36 @@ put-read l at k n vs ws h e m =
     let g : put l at (vs ++ ws) ≡ p ++ (ws ++ r) = simp append-assoc in
     let d : drop k (p ++ (ws ++ r)) ≡ ws ++ r = drop-at p (ws ++ r) k (simp (length-append, length-take) (omega arith)) in
     rw (g, d) (take-at ws r n (sym m))
+
+-- byte by byte: those written where they are, and the buffer's in front and behind
+module _ (l : List ℕ) (at : ℕ) (vs : List ℕ) (h : at + length vs ≤ length l) where
+  abbrev front : List ℕ
+  front = take at l ++ vs
+
+  abbrev behind : List ℕ
+  behind = drop (at + length vs) l
+
+  taken-long : length (take at l) ≡ at
+  taken-long = length-take-le at l (omega (arith, h))
+
+  front-long : length front ≡ at + length vs
+  front-long = omega (arith, length-append (take at l) vs, taken-long)
+
+  pub getD-put-within : (k : ℕ) → at ≤ k → k < at + length vs → getD (put l at vs) k 0 ≡ getD vs (k - at) 0
+  unfolding put
+  getD-put-within k a b =
+      List·getD-append front behind 0 k (omega (arith, front-long, b))
+      ∙ ap (λ (n : ℕ). getD front n 0) {x = k} {y = length (take at l) + (k - at)} (omega (arith, taken-long, a))
+      ∙ getD-append-add (take at l) vs (k - at) 0
+
+  pub getD-put-front : (k : ℕ) → k < at → getD (put l at vs) k 0 ≡ getD l k 0
+  unfolding put
+  getD-put-front k b =
+      List·getD-append front behind 0 k (omega (arith, front-long, b)) ∙ List·getD-append (take at l) vs 0 k (omega (arith, taken-long, b)) ∙ getD-take at l k 0 b
+
+  pub getD-put-behind : (k : ℕ) → at + length vs ≤ k → getD (put l at vs) k 0 ≡ getD l k 0
+  unfolding put
+  getD-put-behind k b =
+      let j : ℕ = k - (at + length vs) in
+      ap (λ (n : ℕ). getD (front ++ behind) n 0) {x = k} {y = length front + j} (omega (arith, front-long, b))
+      ∙ getD-append-add front behind j 0 ∙ getD-drop (at + length vs) l j 0 ∙ ap (λ (n : ℕ). getD l n 0) {x = at + length vs + j} {y = k} (omega (arith, b))

@@ -34,11 +34,12 @@ pub record Answered {A : Type 0} (left : List A) (out : List ℕ) (at : ℕ) (by
   pub buffer : out′ ≡ put out at bytes
   pub ends : end ≡ at + length bytes
 
--- a message carried out: its answer written, and both tables
-pub record Carried (s : Served) (out : List ℕ) (at end : ℕ) (out′ : List ℕ) (ds′ : List Datapoint) (is′ : List Item) :
-    Type 0 where
+-- a message carried out: its answer written, and the tables
+pub record Carried (s : Served) (out : List ℕ) (at end : ℕ) (out′ : List ℕ) (ds′ : List Datapoint) (is′ : List Item)
+    (ps′ : List ℕ) : Type 0 where
   pub datapoints : ds′ ≡ s .after .datapoints
   pub items : is′ ≡ s .after .items
+  pub parameters : ps′ ≡ s .after .parameters
   pub buffer : out′ ≡ put out at (s .says)
   pub ends : end ≡ at + length (s .says)
 

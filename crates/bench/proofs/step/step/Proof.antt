@@ -107,10 +107,10 @@ left s event =
 module _ (s : Bench) (event : Event) where
   -- after the call, and after its result is stored
   abbrev s₁ : Bench
-  s₁ = record { link = left s event .link; datapoints = left s event .tables .datapoints ++ dropL (s .datapointcount) (s .datapoints); datapointcount = s .datapointcount; items = left s event .tables .items ++ dropL (s .itemcount) (s .items); itemcount = s .itemcount; parameters = s .parameters; parametercount = s .parametercount; value = s .value; valuesize = s .valuesize; out = left s event .output; reply = s .reply }
+  s₁ = record { link = left s event .link; datapoints = left s event .tables .datapoints ++ dropL (s .datapointcount) (s .datapoints); datapointcount = s .datapointcount; items = left s event .tables .items ++ dropL (s .itemcount) (s .items); itemcount = s .itemcount; parameters = left s event .tables .parameters ++ dropL (s .parametercount) (s .parameters); parametercount = s .parametercount; value = s .value; valuesize = s .valuesize; out = left s event .output; reply = s .reply }
 
   abbrev s₂ : Bench
-  s₂ = record { link = left s event .link; datapoints = left s event .tables .datapoints ++ dropL (s .datapointcount) (s .datapoints); datapointcount = s .datapointcount; items = left s event .tables .items ++ dropL (s .itemcount) (s .items); itemcount = s .itemcount; parameters = s .parameters; parametercount = s .parametercount; value = s .value; valuesize = s .valuesize; out = left s event .output; reply = left s event .reply }
+  s₂ = record { link = left s event .link; datapoints = left s event .tables .datapoints ++ dropL (s .datapointcount) (s .datapoints); datapointcount = s .datapointcount; items = left s event .tables .items ++ dropL (s .itemcount) (s .items); itemcount = s .itemcount; parameters = left s event .tables .parameters ++ dropL (s .parametercount) (s .parameters); parametercount = s .parametercount; value = s .value; valuesize = s .valuesize; out = left s event .output; reply = left s event .reply }
 
   as-stated : s₂ ≡ stepped s event
   unfolding stepped called tablesIn
@@ -153,19 +153,19 @@ module _ (s : Bench) (event : Event) where
         fsplit ! $ move ! (1 ∷ []) $
         fsplit ! $ as-records ! I.the-type 4 fullShare (s .items) (l .1 .1 .1 .0) 1640 $ lends-prefix ! tt itemD tt 4 (s .itemcount) (s .items) (l .1 .1 .1 .0) 1640 (within .items) (room-items (s .itemcount) (within .items)) (λ ν2 δ2 long2 lu2. move ! (3 ∷ []) $
         fsplit ! $ move ! (1 ∷ []) $
-        fsplit ! $ rewrite ! 0 (λ (zs : List ℕ). ‵ (partAt (Array (byteD .row) 255) fullShare zs (l .1 .1 .1 .0) 1728)) (map-id (s .parameters)) refl $ shares-prefix ! tt byteD tt fullShare 255 (s .parametercount) (s .parameters) (l .1 .1 .1 .0) 1728 (within .parameters) (room-parameters (s .parametercount) (within .parameters)) (λ ν3 δ3 long3. move ! (3 ∷ []) $
+        fsplit ! $ rewrite ! 0 (λ (zs : List ℕ). ‵ (partAt (Array (byteD .row) 255) fullShare zs (l .1 .1 .1 .0) 1728)) (map-id (s .parameters)) refl $ lends-prefix ! tt byteD tt 255 (s .parametercount) (s .parameters) (l .1 .1 .1 .0) 1728 (within .parameters) (room-parameters (s .parametercount) (within .parameters)) (λ ν3 δ3 long3 lu3. move ! (3 ∷ []) $
         fsplit ! $ move ! (1 ∷ []) $
         fsplit ! $ rewrite ! 0 (λ (zs : List ℕ). ‵ (partAt (Array (byteD .row) 14) fullShare zs (l .1 .1 .1 .0) 1992)) (map-id (s .value)) refl $ shares-prefix ! tt byteD tt fullShare 14 (s .valuesize) (s .value) (l .1 .1 .1 .0) 1992 (within .value) (room-value (s .valuesize) (within .value)) (λ ν0 δ0 long0. move ! (3 ∷ []) $
         fsplit ! $ move ! (1 ∷ []) $
         fsplit ! $ rewrite ! 0 (λ (zs : List ℕ). ‵ (partAt (Array (byteD .row) 262) fullShare zs (l .1 .1 .1 .0) 2016)) (map-id (s .out)) refl $ lends-array ! tt byteD tt 262 (s .out) (l .1 .1 .1 .0) 2016 room-out (λ ν5 δ5 long5.
         use0 W (‵ (eventD .row .own event (eventD .val event ∷ []))) (eventD .made 𝓤 H A W event (eventD .val event ∷ []) event-ok) $
         move ! (6 ∷ 18 ∷ 14 ∷ 10 ∷ 21 ∷ 1 ∷ 0 ∷ 7 ∷ 19 ∷ 15 ∷ 11 ∷ 22 ∷ 2 ∷ []) $
-        calls-any ! (fmOf 𝓤 H (W .laws) 𝓣) g.ended (g.clauses 𝓤 H A mem run) known (((ν0 ∷ [], (ν1 ∷ [], (ν2 ∷ [], (ν3 ∷ [], (ν4 ∷ [], (ν5 ∷ [], tt)))))), (fullShare, (fullShare, (fullShare, (fullShare, (fullShare, (fullShare, tt)))))), tt, (event, (record { ptr = ((l .1 .1 .1 .0), 1992); name = δ0; now = take (s .valuesize) (s .value) }, (record { ptr = ((l .1 .1 .1 .0), 530); name = δ1; now = take (s .datapointcount) (s .datapoints) }, (record { ptr = ((l .1 .1 .1 .0), 1640); name = δ2; now = take (s .itemcount) (s .items) }, (record { ptr = ((l .1 .1 .1 .0), 1728); name = δ3; now = take (s .parametercount) (s .parameters) }, (record { ptr = ((l .1 .1 .1 .0), 0); name = δ4; now = s .link }, (record { ptr = ((l .1 .1 .1 .0), 2016); name = δ5; now = s .out }, tt))))))), (eventD .val event ∷ [], (sliceVal ((l .1 .1 .1 .0), 1992) (s .valuesize) ∷ [], (sliceVal ((l .1 .1 .1 .0), 530) (s .datapointcount) ∷ [], (sliceVal ((l .1 .1 .1 .0), 1640) (s .itemcount) ∷ [], (sliceVal ((l .1 .1 .1 .0), 1728) (s .parametercount) ∷ [], (vptr (l .1 .1 .1 .0) 0 ∷ [], (sliceVal ((l .1 .1 .1 .0), 2016) 262 ∷ [], tt)))))))), tt) (id⊢ 𝓤 _) replyD (left s event .reply) (λ ws. ((ws .1 .1 .0 ≡ left s event .tables .datapoints) × ((ws .1 .1 .1 .0 ≡ left s event .tables .items) × ((ws .1 .1 .1 .1 .1 .0 ≡ left s event .link) × (ws .1 .1 .1 .1 .1 .1 .0 ≡ left s event .output)))))
-        (λ v r ws is. fact-use 𝓤 _ (id⊢ 𝓤 _) (λ z. factI 𝓤 _ _ ((ap (λ (t : ServerTables). t .datapoints) (z .tables), (ap (λ (t : ServerTables). t .items) (z .tables), (z .link, z .output))), pinned replyD r (left s event .reply) v is (reply-told r (left s event .reply) (z .reply)))))
+        calls-any ! (fmOf 𝓤 H (W .laws) 𝓣) g.ended (g.clauses 𝓤 H A mem run) known (((ν0 ∷ [], (ν1 ∷ [], (ν2 ∷ [], (ν3 ∷ [], (ν4 ∷ [], (ν5 ∷ [], tt)))))), (fullShare, (fullShare, (fullShare, (fullShare, (fullShare, (fullShare, tt)))))), tt, (event, (record { ptr = ((l .1 .1 .1 .0), 1992); name = δ0; now = take (s .valuesize) (s .value) }, (record { ptr = ((l .1 .1 .1 .0), 530); name = δ1; now = take (s .datapointcount) (s .datapoints) }, (record { ptr = ((l .1 .1 .1 .0), 1640); name = δ2; now = take (s .itemcount) (s .items) }, (record { ptr = ((l .1 .1 .1 .0), 1728); name = δ3; now = take (s .parametercount) (s .parameters) }, (record { ptr = ((l .1 .1 .1 .0), 0); name = δ4; now = s .link }, (record { ptr = ((l .1 .1 .1 .0), 2016); name = δ5; now = s .out }, tt))))))), (eventD .val event ∷ [], (sliceVal ((l .1 .1 .1 .0), 1992) (s .valuesize) ∷ [], (sliceVal ((l .1 .1 .1 .0), 530) (s .datapointcount) ∷ [], (sliceVal ((l .1 .1 .1 .0), 1640) (s .itemcount) ∷ [], (sliceVal ((l .1 .1 .1 .0), 1728) (s .parametercount) ∷ [], (vptr (l .1 .1 .1 .0) 0 ∷ [], (sliceVal ((l .1 .1 .1 .0), 2016) 262 ∷ [], tt)))))))), tt) (id⊢ 𝓤 _) replyD (left s event .reply) (λ ws. ((ws .1 .1 .0 ≡ left s event .tables .datapoints) × ((ws .1 .1 .1 .0 ≡ left s event .tables .items) × ((ws .1 .1 .1 .1 .0 ≡ left s event .tables .parameters) × ((ws .1 .1 .1 .1 .1 .0 ≡ left s event .link) × (ws .1 .1 .1 .1 .1 .1 .0 ≡ left s event .output))))))
+        (λ v r ws is. fact-use 𝓤 _ (id⊢ 𝓤 _) (λ z. factI 𝓤 _ _ ((ap (λ (t : ServerTables). t .datapoints) (z .tables), (ap (λ (t : ServerTables). t .items) (z .tables), (ap (λ (t : ServerTables). t .parameters) (z .tables), (z .link, z .output)))), pinned replyD r (left s event .reply) v is (reply-told r (left s event .reply) (z .reply)))))
         (and-then ! (load ! (from ! (stop !)) (look ! 46 refl)) (and-then ! (load ! (from ! (stop !)) (look ! 31 refl)) (and-then ! (load ! (from ! (stop !)) (look ! 27 refl)) (and-then ! (load ! (from ! (stop !)) (look ! 23 refl)) (and-then ! (load ! (from ! (stop !)) (look ! 19 refl)) (and-then ! (load ! (from ! (stop !)) (look ! 17 refl)) (and-then ! (load ! (from ! (stop !)) (look ! 13 refl)) (no-more !)))))))) (λ ws e is.
-        rewrite ! 11 (λ (z : Link). ‵ (fres δ4 (linkD .row .coded .code z))) (e .1 .1 .0) refl $
+        rewrite ! 11 (λ (z : Link). ‵ (fres δ4 (linkD .row .coded .code z))) (e .1 .1 .1 .0) refl $
         move ! (5 ∷ 12 ∷ 13 ∷ []) $
-        array-back ! tt byteD 262 (s .out) (l .1 .1 .1 .0) 2016 long5 (ws .1 .1 .1 .1 .1 .1 .0) (s₁ .out) (e .1 .1 .1) (
+        array-back ! tt byteD 262 (s .out) (l .1 .1 .1 .0) 2016 long5 (ws .1 .1 .1 .1 .1 .1 .0) (s₁ .out) (e .1 .1 .1 .1) (
         rewrite ! 0 (λ (zs : List ℕ). ‵ (partAt (Array (byteD .row) 262) fullShare zs (l .1 .1 .1 .0) 2016)) (sym (map-id (s₁ .out))) refl $
         move ! (0 ∷ 12 ∷ []) $
         fjoin ! $
@@ -177,30 +177,28 @@ module _ (s : Bench) (event : Event) where
         fjoin ! $
         move ! (11 ∷ 0 ∷ []) $
         fjoin ! $
-        move ! (3 ∷ 11 ∷ []) $
-        prefix-unshared ! tt byteD fullShare 255 (s .parametercount) (s .parameters) (l .1 .1 .1 .0) 1728 long3 $
+        move ! (3 ∷ 9 ∷ 11 ∷ []) $
+        prefix-back ! tt byteD 255 (s .parametercount) (s .parameters) (l .1 .1 .1 .0) 1728 (within .parameters) long3 lu3 (ws .1 .1 .1 .1 .0) (left s event .tables .parameters) (e .1 .1 .0) (
         rewrite ! 0 (λ (zs : List ℕ). ‵ (partAt (Array (byteD .row) 255) fullShare zs (l .1 .1 .1 .0) 1728)) (sym (map-id (s₁ .parameters))) refl $
         fjoin ! $
-        move ! (10 ∷ 0 ∷ []) $
+        move ! (9 ∷ 0 ∷ []) $
         fjoin ! $
-        move ! (2 ∷ 7 ∷ 10 ∷ []) $
+        move ! (2 ∷ 7 ∷ 9 ∷ []) $
         prefix-back ! tt itemD 4 (s .itemcount) (s .items) (l .1 .1 .1 .0) 1640 (within .items) long2 lu2 (ws .1 .1 .1 .0) (left s event .tables .items) (e .1 .0) (
         as-tuples ! I.the-type 4 fullShare (s₁ .items) (l .1 .1 .1 .0) 1640 $
         fjoin ! $
-        move ! (8 ∷ 0 ∷ []) $
+        move ! (7 ∷ 0 ∷ []) $
         fjoin ! $
-        move ! (1 ∷ 5 ∷ 8 ∷ []) $
+        move ! (1 ∷ 5 ∷ 7 ∷ []) $
         prefix-back ! tt datapointD 50 (s .datapointcount) (s .datapoints) (l .1 .1 .1 .0) 530 (within .datapoints) long1 lu1 (ws .1 .1 .0) (left s event .tables .datapoints) (e .0) (
         as-tuples ! P.the-type 50 fullShare (s₁ .datapoints) (l .1 .1 .1 .0) 530 $
         fjoin ! $
-        move ! (1 ∷ 5 ∷ 6 ∷ []) $
+        move ! (1 ∷ 4 ∷ 5 ∷ []) $
         part-back ! tt (linkD .row) (s₁ .link) (l .1 .1 .1 .0) 0 $
         as-tuple ! L.the-type fullShare (s₁ .link) (l .1 .1 .1 .0) 0 $
         fjoin ! $
-        move ! (0 ∷ 4 ∷ []) $
+        move ! (0 ∷ 3 ∷ []) $
         use2 W (‵ (partAt (benchD .row) fullShare s₁ (l .1 .1 .1 .0) 0)) (parts-in (B.the-type .name) members Bench (B.the-type .to) (B.the-type .to-one) 𝓤 H A W (lawfuls 𝓤 H A W) fullShare s₁ (l .1 .1 .1 .0) 0) $
-        move ! (1 ∷ []) $
-        drop ! $
         move ! (1 ∷ []) $
         drop ! $
         move ! (1 ∷ []) $
@@ -212,7 +210,7 @@ module _ (s : Bench) (event : Event) where
         assigns ! (of-opd ! (load ! (from ! (stop !)) (look ! 32 refl))) (from ! (stop !)) (init ! 38 refl (typed 𝓤 H A benchD W s₂ (stored is₁ is) .0)) $
         returns ! (look ! 38 refl) $ frees-all ! (cell ∷ cell ∷ cell ∷ cell ∷ cell ∷ cell ∷ cell ∷ cell ∷ cell ∷ cell ∷ cell ∷ cell ∷ cell ∷ cell ∷ cell ∷ cell ∷ cell ∷ cell ∷ cell ∷ cell ∷ []) _ $
         suffices ! _ (ends-in 0 𝓤 H A W ps benchD (f.clauses 𝓤 H A mem run) tt tt x tt s₂ (tt, (tt, tt)) (tt, (tt, tt)) (stored is₁ is) (factI 𝓤 _ (emp 𝓤) as-stated)) $
-        nothing ! $ nothing ! $ nothing ! $ nothing ! $ keep ! (0 ∷ 1 ∷ 2 ∷ 3 ∷ []) $ group ! 1 $ frame ! $ done !))))))))))))
+        nothing ! $ nothing ! $ nothing ! $ nothing ! $ keep ! (0 ∷ 1 ∷ 2 ∷ 3 ∷ []) $ group ! 1 $ frame ! $ done !)))))))))))))
 
 pub step-spec : {M : Type 1} → stated.statement M
 unfolding code.routine tablesOf

@@ -1,5 +1,5 @@
 -- `server::call::call` meets its contract: a walk of its MIR. What is lent is judged, and then there is one arm for each event; each exit is one law of CallJoins.
-use Rattle.walks.proofs.Data.{uintD, unitD, Good, typed, pinned, ShrS}
+use Rattle.walks.proofs.Data.{uintD, unitD, Good, typed, pinned}
 use Rattle.walks.proofs.Walk.{allocs-all, frees-all, Param, dataP, mutP, mutSliceP, shrSliceP, Ends, ends-in, Walk, meets-by, behind, starts, cell, room}
 use Rattle.walks.proofs.Branches.{leaves-early, no-T, yes-T, armOf, goes-flat}
 use Rattle.walks.proofs.Fields.{opened, closed, lends, backs, lends-as-ref, ref-back-as}
@@ -100,7 +100,7 @@ use Rattle.server.proofs.call.call.Statement as stated
 use Rattle.server.proofs.call.call.Code as code
 
 abbrev ps : List (Param 6)
-ps = dataP 6 eventD ∷ shrSliceP 6 0 tt byteD ∷ mutSliceP 6 1 tt datapointD ∷ mutSliceP 6 2 tt itemD ∷ shrSliceP 6 3 tt byteD ∷ mutP 6 4 tt linkD ∷ mutSliceP 6 5 tt byteD ∷ []
+ps = dataP 6 eventD ∷ shrSliceP 6 0 tt byteD ∷ mutSliceP 6 1 tt datapointD ∷ mutSliceP 6 2 tt itemD ∷ mutSliceP 6 3 tt byteD ∷ mutP 6 4 tt linkD ∷ mutSliceP 6 5 tt byteD ∷ []
 
 -- what is known of the values of the two enums
 refused-good : (n : ℕ) → Good byteD n → Good replyD (Refused n)
@@ -225,38 +225,40 @@ module _ {M : Type 1} (𝓤 : URA M) (H : Heap 𝓤) (A : Atoms 𝓤) (W : Given
   walk : Walk 6 𝓤 H A W ps replyD (f.clauses 𝓤 H A mem run) 𝓣 code.function (κ0, (κ1, (κ2, (κ3, (κ4, (κ5, tt)))))) (q0, (q1, (q2, (q3, (q4, (q5, tt)))))) x tt
   walk =
       starts 𝓤 H A W 6 ps (κ0, (κ1, (κ2, (κ3, (κ4, (κ5, tt)))))) (q0, (q1, (q2, (q3, (q4, (q5, tt)))))) x ∵ enter ! (𝓣 .C) (𝓣 .Λ) code.function _ _ $ allocs-all ! (code.function .locals) (λ l. params1 ! $
-      pass1 ! (init ! 88 refl (typed 𝓤 H A eventD W event event-ok .0)) $
-      pass1 ! (init ! 86 refl (tt, (tt, (record { fits = value-room .0 }, tt)))) $
-      pass1 ! (init ! 84 refl (tt, (tt, (record { fits = datapoints-room .0 }, tt)))) $
-      pass1 ! (init ! 82 refl (tt, (tt, (record { fits = items-room .0 }, tt)))) $
-      pass1 ! (init ! 80 refl (tt, (tt, (record { fits = parameters-room .0 }, tt)))) $
-      pass1 ! (init ! 78 refl (tt, tt)) $
-      pass1 ! (init ! 76 refl (tt, (tt, (record { fits = out-room .0 }, tt)))) $
+      pass1 ! (init ! 96 refl (typed 𝓤 H A eventD W event event-ok .0)) $
+      pass1 ! (init ! 94 refl (tt, (tt, (record { fits = value-room .0 }, tt)))) $
+      pass1 ! (init ! 92 refl (tt, (tt, (record { fits = datapoints-room .0 }, tt)))) $
+      pass1 ! (init ! 90 refl (tt, (tt, (record { fits = items-room .0 }, tt)))) $
+      pass1 ! (init ! 88 refl (tt, (tt, (record { fits = parameters-room .0 }, tt)))) $
+      pass1 ! (init ! 86 refl (tt, tt)) $
+      pass1 ! (init ! 84 refl (tt, (tt, (record { fits = out-room .0 }, tt)))) $
       pass0 ! $
-      move ! (103 ∷ 96 ∷ []) $
+      move ! (111 ∷ 104 ∷ []) $
       opened ! tt linkD h (λ was.
-      assigns ! (of-opd ! (load ! (from ! (hop ! (look ! 82 refl) (fld ! refl (stop !)))) (look-in ! 0 (sub ! 6 refl (whole !))))) (from ! (stop !)) (init ! 78 refl (typed 𝓤 H A (uintD w16) W (h .held) (held-good h was) .0)) $
+      assigns ! (of-opd ! (load ! (from ! (hop ! (look ! 90 refl) (fld ! refl (stop !)))) (look-in ! 0 (sub ! 6 refl (whole !))))) (from ! (stop !)) (init ! 86 refl (typed 𝓤 H A (uintD w16) W (h .held) (held-good h was) .0)) $
       closed ! tt linkD h h was $
-      assigns ! (addr ! (from ! (fld ! refl (hop ! (look-in ! 86 (sub ! 0 refl (whole !))) (stop !))))) (from ! (stop !)) (init ! 62 refl (tt, tt)) $
-      assigns ! (agg ! (and-then ! (load ! (from ! (stop !)) (look ! 62 refl)) (and-then ! (load ! (from ! (fld ! refl (stop !))) (look-in ! 86 (sub ! 1 refl (whole !)))) (no-more !)))) (from ! (stop !)) (init ! 60 refl (tt, (tt, (record { fits = datapoints-room .0 }, tt)))) $
-      assigns ! (addr ! (from ! (fld ! refl (hop ! (look-in ! 84 (sub ! 0 refl (whole !))) (stop !))))) (from ! (stop !)) (init ! 58 refl (tt, tt)) $
-      assigns ! (agg ! (and-then ! (load ! (from ! (stop !)) (look ! 58 refl)) (and-then ! (load ! (from ! (fld ! refl (stop !))) (look-in ! 84 (sub ! 1 refl (whole !)))) (no-more !)))) (from ! (stop !)) (init ! 56 refl (tt, (tt, (record { fits = items-room .0 }, tt)))) $
-      assigns ! (addr ! (from ! (hop ! (look ! 80 refl) (stop !)))) (from ! (stop !)) (init ! 54 refl (tt, tt)) $
-      assigns ! (of-opd ! (load ! (from ! (fld ! refl (stop !))) (look-in ! 78 (sub ! 1 refl (whole !))))) (from ! (stop !)) (init ! 52 refl (tt, record { fits = out-room .0 })) $
-      move ! (101 ∷ 95 ∷ []) $
+      assigns ! (addr ! (from ! (fld ! refl (hop ! (look-in ! 94 (sub ! 0 refl (whole !))) (stop !))))) (from ! (stop !)) (init ! 70 refl (tt, tt)) $
+      assigns ! (agg ! (and-then ! (load ! (from ! (stop !)) (look ! 70 refl)) (and-then ! (load ! (from ! (fld ! refl (stop !))) (look-in ! 94 (sub ! 1 refl (whole !)))) (no-more !)))) (from ! (stop !)) (init ! 68 refl (tt, (tt, (record { fits = datapoints-room .0 }, tt)))) $
+      assigns ! (addr ! (from ! (fld ! refl (hop ! (look-in ! 92 (sub ! 0 refl (whole !))) (stop !))))) (from ! (stop !)) (init ! 66 refl (tt, tt)) $
+      assigns ! (agg ! (and-then ! (load ! (from ! (stop !)) (look ! 66 refl)) (and-then ! (load ! (from ! (fld ! refl (stop !))) (look-in ! 92 (sub ! 1 refl (whole !)))) (no-more !)))) (from ! (stop !)) (init ! 64 refl (tt, (tt, (record { fits = items-room .0 }, tt)))) $
+      assigns ! (addr ! (from ! (fld ! refl (hop ! (look-in ! 90 (sub ! 0 refl (whole !))) (stop !))))) (from ! (stop !)) (init ! 62 refl (tt, tt)) $
+      assigns ! (agg ! (and-then ! (load ! (from ! (stop !)) (look ! 62 refl)) (and-then ! (load ! (from ! (fld ! refl (stop !))) (look-in ! 90 (sub ! 1 refl (whole !)))) (no-more !)))) (from ! (stop !)) (init ! 60 refl (tt, (tt, (record { fits = parameters-room .0 }, tt)))) $
+      assigns ! (addr ! (from ! (hop ! (look ! 88 refl) (stop !)))) (from ! (stop !)) (init ! 58 refl (tt, tt)) $
+      assigns ! (of-opd ! (load ! (from ! (fld ! refl (stop !))) (look-in ! 86 (sub ! 1 refl (whole !))))) (from ! (stop !)) (init ! 56 refl (tt, record { fits = out-room .0 })) $
+      move ! (109 ∷ 103 ∷ []) $
       lends-as-shr ! tt datapointD (length ds) ds refl (λ νdatapoints δdatapoints.
-      move ! (103 ∷ 98 ∷ []) $
+      move ! (111 ∷ 106 ∷ []) $
       lends-as-shr ! tt itemD (length is) is refl (λ νitems δitems.
       move ! (6 ∷ 7 ∷ []) $
       lends-as-ref ! tt linkD h (λ νlink δlink.
-      move ! (106 ∷ []) $
-      use1 W (‵ (ShrS byteD κ3 (parameters .ptr .0) (parameters .ptr .1) (parameters .name) (length ps′) ps′) ⊛ ‵ (ShrS byteD κ3 (parameters .ptr .0) (parameters .ptr .1) (parameters .name) (length ps′) ps′)) (shr-slice-copy 𝓤 H A W erased κ3 (byteD .row) .twice parameters (sliceVal (parameters .ptr) (length ps′) ∷ [])) $ split ! $
+      move ! (114 ∷ 110 ∷ []) $
+      lends-as-shr ! tt byteD (length ps′) ps′ refl (λ νparameters δparameters.
       use0 W (‵ (sizeD .row .own (length os) (sizeD .val (length os) ∷ []))) (sizeD .made 𝓤 H A W (length os) (sizeD .val (length os) ∷ []) (refl, out-room .0)) $
       use0 W (‵ (idD .row .own (h .held) (idD .val (h .held) ∷ []))) (idD .made 𝓤 H A W (h .held) (idD .val (h .held) ∷ []) (held-good h was)) $
-      move ! (10 ∷ 7 ∷ 106 ∷ 4 ∷ 11 ∷ 8 ∷ 2 ∷ 0 ∷ 5 ∷ 1 ∷ []) $
-      calls-any ! (fmOf 𝓤 H (W .laws) 𝓣) refusal-of.ended (refusal-of.clauses 𝓤 H A mem run) known-refusal-of (((νdatapoints ∷ [], (νitems ∷ [], (κ3, (νlink ∷ [], tt)))), (fullShare, (fullShare, (q3, (fullShare, tt)))), tt, (record { ptr = datapoints .ptr; name = δdatapoints; now = ds }, (record { ptr = items .ptr; name = δitems; now = is }, (parameters, ((h .held), (record { ptr = link .ptr; name = δlink; now = h }, ((length os), tt)))))), (sliceVal (datapoints .ptr) (length ds) ∷ [], (sliceVal (items .ptr) (length is) ∷ [], (sliceVal (parameters .ptr) (length ps′) ∷ [], (idD .val (h .held) ∷ [], (vptr (link .ptr .0) (link .ptr .1) ∷ [], (sizeD .val (length os) ∷ [], tt))))))), tt) (id⊢ 𝓤 _) byteD n (λ ws. Unit {0})
+      move ! (11 ∷ 8 ∷ 2 ∷ 5 ∷ 12 ∷ 9 ∷ 3 ∷ 0 ∷ 6 ∷ 1 ∷ []) $
+      calls-any ! (fmOf 𝓤 H (W .laws) 𝓣) refusal-of.ended (refusal-of.clauses 𝓤 H A mem run) known-refusal-of (((νdatapoints ∷ [], (νitems ∷ [], (νparameters ∷ [], (νlink ∷ [], tt)))), (fullShare, (fullShare, (fullShare, (fullShare, tt)))), tt, (record { ptr = datapoints .ptr; name = δdatapoints; now = ds }, (record { ptr = items .ptr; name = δitems; now = is }, (record { ptr = parameters .ptr; name = δparameters; now = ps′ }, ((h .held), (record { ptr = link .ptr; name = δlink; now = h }, ((length os), tt)))))), (sliceVal (datapoints .ptr) (length ds) ∷ [], (sliceVal (items .ptr) (length is) ∷ [], (sliceVal (parameters .ptr) (length ps′) ∷ [], (idD .val (h .held) ∷ [], (vptr (link .ptr .0) (link .ptr .1) ∷ [], (sizeD .val (length os) ∷ [], tt))))))), tt) (id⊢ 𝓤 _) byteD n (λ ws. Unit {0})
       (λ v r ws fits. fact-use 𝓤 _ (id⊢ 𝓤 _) (λ z. factI 𝓤 _ _ (tt, pinned byteD r n v fits z)))
-      (and-then ! (load ! (from ! (stop !)) (look ! 63 refl)) (and-then ! (load ! (from ! (stop !)) (look ! 59 refl)) (and-then ! (load ! (from ! (stop !)) (look ! 85 refl)) (and-then ! (load ! (from ! (stop !)) (look ! 79 refl)) (and-then ! (load ! (from ! (stop !)) (look ! 57 refl)) (and-then ! (load ! (from ! (stop !)) (look ! 55 refl)) (no-more !))))))) (λ ws z isrefusalof.
+      (and-then ! (load ! (from ! (stop !)) (look ! 71 refl)) (and-then ! (load ! (from ! (stop !)) (look ! 67 refl)) (and-then ! (load ! (from ! (stop !)) (look ! 63 refl)) (and-then ! (load ! (from ! (stop !)) (look ! 87 refl)) (and-then ! (load ! (from ! (stop !)) (look ! 61 refl)) (and-then ! (load ! (from ! (stop !)) (look ! 59 refl)) (no-more !))))))) (λ ws z isrefusalof.
       move ! (4 ∷ []) $
       toss ! $
       move ! (4 ∷ []) $
@@ -273,77 +275,85 @@ module _ {M : Type 1} (𝓤 : URA M) (H : Heap 𝓤) (A : Atoms 𝓤) (W : Given
       shr-back ! tt datapointD (length ds) ds refl $
       move ! (2 ∷ 7 ∷ []) $
       shr-back ! tt itemD (length is) is refl $
-      move ! (5 ∷ 7 ∷ []) $
+      move ! (4 ∷ 6 ∷ []) $
+      shr-back ! tt byteD (length ps′) ps′ refl $
+      move ! (6 ∷ 7 ∷ []) $
       ref-back-as ! tt linkD h $
-      land ! (from ! (stop !)) (init ! 80 refl (typed 𝓤 H A byteD W n isrefusalof .0)) $
-      assigns ! (bin ! (load ! (from ! (stop !)) (look ! 80 refl)) (lit ! tt) tt) (from ! (stop !)) (init ! 56 refl (tt, tt)) $
-      leaves-early ! (load ! (from ! (stop !)) (look ! 56 refl)) (λ some.
-      assigns ! (agg ! (and-then ! (lit ! tt) (and-then ! (load ! (from ! (stop !)) (look ! 80 refl)) (no-more !)))) (from ! (stop !)) (init ! 98 refl (typed 𝓤 H A replyD W (Refused n) (refused-good n isrefusalof) .0)) $
-      returns-within ! Done refl (look ! 98 refl) $ behind ! 8 $ frees-all ! (room ∷ room ∷ room ∷ room ∷ room ∷ room ∷ room ∷ room ∷ room ∷ room ∷ room ∷ room ∷ room ∷ room ∷ room ∷ room ∷ room ∷ room ∷ room ∷ room ∷ room ∷ room ∷ room ∷ room ∷ cell ∷ cell ∷ cell ∷ cell ∷ cell ∷ cell ∷ cell ∷ room ∷ room ∷ room ∷ room ∷ room ∷ cell ∷ cell ∷ cell ∷ cell ∷ cell ∷ cell ∷ cell ∷ cell ∷ cell ∷ cell ∷ []) _ $
-      suffices ! _ (ends-in 6 𝓤 H A W ps replyD (f.clauses 𝓤 H A mem run) (κ0, (κ1, (κ2, (κ3, (κ4, (κ5, tt)))))) (q0, (q1, (q2, (q3, (q4, (q5, tt)))))) x tt (Refused n) (tt, (tt, (ds, (is, (tt, (h, (os, tt))))))) (tt, (tt, (refl, (refl, (tt, (tt, (refl, tt))))))) (refused-good n isrefusalof) (factI 𝓤 _ (emp 𝓤) (leaves-refused event v t h os (no-T (eqb n 0) some)))) $
-      nothing ! $ nothing ! $ nothing ! $ nothing ! $ nothing ! $ keep ! (5 ∷ 15 ∷ 13 ∷ 16 ∷ 11 ∷ 6 ∷ 0 ∷ 1 ∷ 2 ∷ 14 ∷ 12 ∷ 3 ∷ 10 ∷ 9 ∷ 4 ∷ []) $ group ! 7 $ frame ! $ done !
+      land ! (from ! (stop !)) (init ! 88 refl (typed 𝓤 H A byteD W n isrefusalof .0)) $
+      assigns ! (bin ! (load ! (from ! (stop !)) (look ! 88 refl)) (lit ! tt) tt) (from ! (stop !)) (init ! 60 refl (tt, tt)) $
+      leaves-early ! (load ! (from ! (stop !)) (look ! 60 refl)) (λ some.
+      assigns ! (agg ! (and-then ! (lit ! tt) (and-then ! (load ! (from ! (stop !)) (look ! 88 refl)) (no-more !)))) (from ! (stop !)) (init ! 106 refl (typed 𝓤 H A replyD W (Refused n) (refused-good n isrefusalof) .0)) $
+      returns-within ! Done refl (look ! 106 refl) $ behind ! 8 $ frees-all ! (room ∷ room ∷ room ∷ room ∷ room ∷ room ∷ room ∷ room ∷ room ∷ room ∷ room ∷ room ∷ room ∷ room ∷ room ∷ room ∷ room ∷ room ∷ room ∷ room ∷ room ∷ room ∷ room ∷ room ∷ room ∷ room ∷ cell ∷ cell ∷ cell ∷ cell ∷ cell ∷ cell ∷ cell ∷ cell ∷ cell ∷ room ∷ room ∷ room ∷ room ∷ room ∷ cell ∷ cell ∷ cell ∷ cell ∷ cell ∷ cell ∷ cell ∷ cell ∷ cell ∷ cell ∷ []) _ $
+      suffices ! _ (ends-in 6 𝓤 H A W ps replyD (f.clauses 𝓤 H A mem run) (κ0, (κ1, (κ2, (κ3, (κ4, (κ5, tt)))))) (q0, (q1, (q2, (q3, (q4, (q5, tt)))))) x tt (Refused n) (tt, (tt, (ds, (is, (ps′, (h, (os, tt))))))) (tt, (tt, (refl, (refl, (refl, (tt, (refl, tt))))))) (refused-good n isrefusalof) (factI 𝓤 _ (emp 𝓤) (leaves-refused event v t h os (no-T (eqb n 0) some)))) $
+      nothing ! $ nothing ! $ nothing ! $ nothing ! $ keep ! (4 ∷ 16 ∷ 14 ∷ 12 ∷ 10 ∷ 5 ∷ 0 ∷ 1 ∷ 2 ∷ 15 ∷ 13 ∷ 11 ∷ 9 ∷ 8 ∷ 3 ∷ []) $ group ! 7 $ frame ! $ done !
       ) (λ none.
       by-event event
       (λ b it.
-      rewrite ! 96 (λ (y : Event). ‵ (fat fullShare E′.mir (l .1 .0) 0 (eventD .val y))) it refl $
-      goes-flat ! 𝓣 (armOf part.s-11 0) (load ! (from ! (vrt ! refl (fld ! refl (stop !)))) (look-tag ! 96 (whole !))) (λ Q. refl) $
-      assigns ! (of-opd ! (load ! (from ! (vrt ! refl (fld ! refl (stop !)))) (look-in ! 96 (in-variant ! 0 0 refl refl (whole !))))) (from ! (stop !)) (init ! 78 refl (typed 𝓤 H A byteD W b (byte-good b (at-event it)) .0)) $
-      assigns ! (addr ! (from ! (fld ! refl (hop ! (look-in ! 92 (sub ! 0 refl (whole !))) (stop !))))) (from ! (stop !)) (init ! 52 refl (tt, tt)) $
-      assigns ! (agg ! (and-then ! (load ! (from ! (stop !)) (look ! 52 refl)) (and-then ! (load ! (from ! (fld ! refl (stop !))) (look-in ! 92 (sub ! 1 refl (whole !)))) (no-more !)))) (from ! (stop !)) (init ! 50 refl (tt, (tt, (record { fits = datapoints-room .0 }, tt)))) $
-      assigns ! (addr ! (from ! (fld ! refl (hop ! (look-in ! 90 (sub ! 0 refl (whole !))) (stop !))))) (from ! (stop !)) (init ! 48 refl (tt, tt)) $
-      assigns ! (agg ! (and-then ! (load ! (from ! (stop !)) (look ! 48 refl)) (and-then ! (load ! (from ! (fld ! refl (stop !))) (look-in ! 90 (sub ! 1 refl (whole !)))) (no-more !)))) (from ! (stop !)) (init ! 46 refl (tt, (tt, (record { fits = items-room .0 }, tt)))) $
-      assigns ! (addr ! (from ! (hop ! (look ! 86 refl) (stop !)))) (from ! (stop !)) (init ! 44 refl (tt, tt)) $
-      assigns ! (addr ! (from ! (fld ! refl (hop ! (look-in ! 84 (sub ! 0 refl (whole !))) (stop !))))) (from ! (stop !)) (init ! 42 refl (tt, tt)) $
-      assigns ! (agg ! (and-then ! (load ! (from ! (stop !)) (look ! 42 refl)) (and-then ! (load ! (from ! (fld ! refl (stop !))) (look-in ! 84 (sub ! 1 refl (whole !)))) (no-more !)))) (from ! (stop !)) (init ! 40 refl (tt, (tt, (record { fits = out-room .0 }, tt)))) $
-      move ! (4 ∷ 5 ∷ []) $
-      lendsS ! tt datapointD (length ds) ds refl (λ νdatapoints δdatapoints room-datapoints.
-      move ! (5 ∷ 6 ∷ []) $
-      lendsS ! tt itemD (length is) is refl (λ νitems δitems room-items.
+      rewrite ! 104 (λ (y : Event). ‵ (fat fullShare E′.mir (l .1 .0) 0 (eventD .val y))) it refl $
+      goes-flat ! 𝓣 (armOf part.s-13 0) (load ! (from ! (vrt ! refl (fld ! refl (stop !)))) (look-tag ! 104 (whole !))) (λ Q. refl) $
+      assigns ! (of-opd ! (load ! (from ! (vrt ! refl (fld ! refl (stop !)))) (look-in ! 104 (in-variant ! 0 0 refl refl (whole !))))) (from ! (stop !)) (init ! 86 refl (typed 𝓤 H A byteD W b (byte-good b (at-event it)) .0)) $
+      assigns ! (addr ! (from ! (fld ! refl (hop ! (look-in ! 100 (sub ! 0 refl (whole !))) (stop !))))) (from ! (stop !)) (init ! 56 refl (tt, tt)) $
+      assigns ! (agg ! (and-then ! (load ! (from ! (stop !)) (look ! 56 refl)) (and-then ! (load ! (from ! (fld ! refl (stop !))) (look-in ! 100 (sub ! 1 refl (whole !)))) (no-more !)))) (from ! (stop !)) (init ! 54 refl (tt, (tt, (record { fits = datapoints-room .0 }, tt)))) $
+      assigns ! (addr ! (from ! (fld ! refl (hop ! (look-in ! 98 (sub ! 0 refl (whole !))) (stop !))))) (from ! (stop !)) (init ! 52 refl (tt, tt)) $
+      assigns ! (agg ! (and-then ! (load ! (from ! (stop !)) (look ! 52 refl)) (and-then ! (load ! (from ! (fld ! refl (stop !))) (look-in ! 98 (sub ! 1 refl (whole !)))) (no-more !)))) (from ! (stop !)) (init ! 50 refl (tt, (tt, (record { fits = items-room .0 }, tt)))) $
+      assigns ! (addr ! (from ! (fld ! refl (hop ! (look-in ! 96 (sub ! 0 refl (whole !))) (stop !))))) (from ! (stop !)) (init ! 48 refl (tt, tt)) $
+      assigns ! (agg ! (and-then ! (load ! (from ! (stop !)) (look ! 48 refl)) (and-then ! (load ! (from ! (fld ! refl (stop !))) (look-in ! 96 (sub ! 1 refl (whole !)))) (no-more !)))) (from ! (stop !)) (init ! 46 refl (tt, (tt, (record { fits = parameters-room .0 }, tt)))) $
+      assigns ! (addr ! (from ! (hop ! (look ! 94 refl) (stop !)))) (from ! (stop !)) (init ! 44 refl (tt, tt)) $
+      assigns ! (addr ! (from ! (fld ! refl (hop ! (look-in ! 92 (sub ! 0 refl (whole !))) (stop !))))) (from ! (stop !)) (init ! 42 refl (tt, tt)) $
+      assigns ! (agg ! (and-then ! (load ! (from ! (stop !)) (look ! 42 refl)) (and-then ! (load ! (from ! (fld ! refl (stop !))) (look-in ! 92 (sub ! 1 refl (whole !)))) (no-more !)))) (from ! (stop !)) (init ! 40 refl (tt, (tt, (record { fits = out-room .0 }, tt)))) $
       move ! (6 ∷ 7 ∷ []) $
+      lendsS ! tt datapointD (length ds) ds refl (λ νdatapoints δdatapoints room-datapoints.
+      move ! (7 ∷ 8 ∷ []) $
+      lendsS ! tt itemD (length is) is refl (λ νitems δitems room-items.
+      move ! (8 ∷ 9 ∷ []) $
+      lendsS ! tt byteD (length ps′) ps′ refl (λ νparameters δparameters room-parameters.
+      move ! (9 ∷ 10 ∷ []) $
       lends ! tt linkD h (λ νlink δlink.
-      move ! (107 ∷ 104 ∷ []) $
+      move ! (116 ∷ 113 ∷ []) $
       lendsS ! tt byteD (length os) os refl (λ νout δout room-out.
       use0 W (‵ (byteD .row .own b (byteD .val b ∷ []))) (byteD .made 𝓤 H A W b (byteD .val b ∷ []) (byte-good b (at-event it))) $
-      move ! (10 ∷ 7 ∷ 13 ∷ 4 ∷ 1 ∷ 0 ∷ 11 ∷ 8 ∷ 14 ∷ 5 ∷ 2 ∷ []) $
-      calls-any ! (fmOf 𝓤 H (W .laws) 𝓣) on-host-byte.ended (on-host-byte.clauses 𝓤 H A mem run) known-on-host-byte (((νdatapoints ∷ [], (νitems ∷ [], (κ3, (νlink ∷ [], (νout ∷ [], tt))))), (fullShare, (fullShare, (q3, (fullShare, (fullShare, tt))))), tt, (b, (record { ptr = datapoints .ptr; name = δdatapoints; now = ds }, (record { ptr = items .ptr; name = δitems; now = is }, (parameters, (record { ptr = link .ptr; name = δlink; now = h }, (record { ptr = out .ptr; name = δout; now = os }, tt)))))), (byteD .val b ∷ [], (sliceVal (datapoints .ptr) (length ds) ∷ [], (sliceVal (items .ptr) (length is) ∷ [], (sliceVal (parameters .ptr) (length ps′) ∷ [], (vptr (link .ptr .0) (link .ptr .1) ∷ [], (sliceVal (out .ptr) (length os) ∷ [], tt))))))), tt) (factI 𝓤 _ (emp 𝓤) ((passed none) .0, (passed none) .1, (passed none) .2)) replyD (heard b .reply) (λ ws. Leaves (heard b) (heard b .reply) (lentTables (ws .1 .0) (ws .1 .1 .0) ps′) (ws .1 .1 .1 .1 .0) (ws .1 .1 .1 .1 .1 .0))
+      move ! (13 ∷ 10 ∷ 7 ∷ 4 ∷ 1 ∷ 0 ∷ 14 ∷ 11 ∷ 8 ∷ 5 ∷ 2 ∷ []) $
+      calls-any ! (fmOf 𝓤 H (W .laws) 𝓣) on-host-byte.ended (on-host-byte.clauses 𝓤 H A mem run) known-on-host-byte (((νdatapoints ∷ [], (νitems ∷ [], (νparameters ∷ [], (νlink ∷ [], (νout ∷ [], tt))))), (fullShare, (fullShare, (fullShare, (fullShare, (fullShare, tt))))), tt, (b, (record { ptr = datapoints .ptr; name = δdatapoints; now = ds }, (record { ptr = items .ptr; name = δitems; now = is }, (record { ptr = parameters .ptr; name = δparameters; now = ps′ }, (record { ptr = link .ptr; name = δlink; now = h }, (record { ptr = out .ptr; name = δout; now = os }, tt)))))), (byteD .val b ∷ [], (sliceVal (datapoints .ptr) (length ds) ∷ [], (sliceVal (items .ptr) (length is) ∷ [], (sliceVal (parameters .ptr) (length ps′) ∷ [], (vptr (link .ptr .0) (link .ptr .1) ∷ [], (sliceVal (out .ptr) (length os) ∷ [], tt))))))), tt) (factI 𝓤 _ (emp 𝓤) ((passed none) .0, (passed none) .1, (passed none) .2)) replyD (heard b .reply) (λ ws. Leaves (heard b) (heard b .reply) (lentTables (ws .1 .0) (ws .1 .1 .0) (ws .1 .1 .1 .0)) (ws .1 .1 .1 .1 .0) (ws .1 .1 .1 .1 .1 .0))
       (λ v r ws fits. fact-use 𝓤 _ (id⊢ 𝓤 _) (λ z. factI 𝓤 _ _ (record { reply = refl; tables = z .tables; link = z .link; output = z .output }, pinned replyD r (heard b .reply) v fits (reply-told r (heard b .reply) (z .reply)))))
-      (and-then ! (load ! (from ! (stop !)) (look ! 75 refl)) (and-then ! (load ! (from ! (stop !)) (look ! 47 refl)) (and-then ! (load ! (from ! (stop !)) (look ! 43 refl)) (and-then ! (load ! (from ! (stop !)) (look ! 85 refl)) (and-then ! (load ! (from ! (stop !)) (look ! 41 refl)) (and-then ! (load ! (from ! (stop !)) (look ! 37 refl)) (no-more !))))))) (λ ws z isonhostbyte.
-      move ! (0 ∷ 6 ∷ 14 ∷ []) $
+      (and-then ! (load ! (from ! (stop !)) (look ! 84 refl)) (and-then ! (load ! (from ! (stop !)) (look ! 52 refl)) (and-then ! (load ! (from ! (stop !)) (look ! 48 refl)) (and-then ! (load ! (from ! (stop !)) (look ! 44 refl)) (and-then ! (load ! (from ! (stop !)) (look ! 42 refl)) (and-then ! (load ! (from ! (stop !)) (look ! 38 refl)) (no-more !))))))) (λ ws z isonhostbyte.
+      move ! (0 ∷ 6 ∷ 15 ∷ []) $
       backsS ! tt datapointD (length ds) ds refl room-datapoints (ws .1 .0) (ws .1 .0) refl (λ long-datapoints.
-      move ! (2 ∷ 7 ∷ 13 ∷ []) $
+      move ! (2 ∷ 7 ∷ 14 ∷ []) $
       backsS ! tt itemD (length is) is refl room-items (ws .1 .1 .0) (ws .1 .1 .0) refl (λ long-items.
-      move ! (5 ∷ 9 ∷ 12 ∷ []) $
+      move ! (4 ∷ 8 ∷ 13 ∷ []) $
+      backsS ! tt byteD (length ps′) ps′ refl room-parameters (ws .1 .1 .1 .0) (ws .1 .1 .1 .0) refl (λ long-parameters.
+      move ! (6 ∷ 9 ∷ 12 ∷ []) $
       backs ! tt linkD h (ws .1 .1 .1 .1 .0) $
-      move ! (7 ∷ 10 ∷ 11 ∷ []) $
+      move ! (8 ∷ 10 ∷ 11 ∷ []) $
       backsS ! tt byteD (length os) os refl room-out (ws .1 .1 .1 .1 .1 .0) (ws .1 .1 .1 .1 .1 .0) refl (λ long-out.
-      land ! (from ! (stop !)) (init ! 57 refl (typed 𝓤 H A replyD W (heard b .reply) isonhostbyte .0)) $
-      assigns ! (of-opd ! (load ! (from ! (stop !)) (look ! 57 refl))) (from ! (stop !)) (init ! 101 refl (typed 𝓤 H A replyD W (heard b .reply) isonhostbyte .0)) $
-      returns ! (look ! 101 refl) $ behind ! 11 $ frees-all ! (room ∷ room ∷ room ∷ room ∷ room ∷ room ∷ room ∷ room ∷ room ∷ room ∷ room ∷ room ∷ room ∷ room ∷ room ∷ room ∷ cell ∷ cell ∷ cell ∷ cell ∷ cell ∷ cell ∷ cell ∷ cell ∷ cell ∷ cell ∷ cell ∷ cell ∷ cell ∷ cell ∷ cell ∷ room ∷ room ∷ room ∷ room ∷ cell ∷ cell ∷ cell ∷ cell ∷ cell ∷ cell ∷ cell ∷ cell ∷ cell ∷ cell ∷ cell ∷ []) _ $
-      suffices ! _ (ends-in 6 𝓤 H A W ps replyD (f.clauses 𝓤 H A mem run) (κ0, (κ1, (κ2, (κ3, (κ4, (κ5, tt)))))) (q0, (q1, (q2, (q3, (q4, (q5, tt)))))) x tt (heard b .reply) (tt, (tt, ((ws .1 .0), ((ws .1 .1 .0), (tt, ((ws .1 .1 .1 .1 .0), ((ws .1 .1 .1 .1 .1 .0), tt))))))) (tt, (tt, (sym long-datapoints, (sym long-items, (tt, (tt, (sym long-out, tt))))))) isonhostbyte (factI 𝓤 _ (emp 𝓤) (same-event event (HostByte b) v t h os it (leaves-host-byte v t h os (lent none) b (heard b .reply) (lentTables (ws .1 .0) (ws .1 .1 .0) ps′) (ws .1 .1 .1 .1 .0) (ws .1 .1 .1 .1 .1 .0) z)))) $
-      nothing ! $ nothing ! $ nothing ! $ nothing ! $ nothing ! $ keep ! (5 ∷ 15 ∷ 13 ∷ 16 ∷ 11 ∷ 9 ∷ 0 ∷ 1 ∷ 2 ∷ 14 ∷ 12 ∷ 3 ∷ 10 ∷ 8 ∷ 4 ∷ []) $ group ! 7 $ frame ! $ done !)))))))))
+      land ! (from ! (stop !)) (init ! 61 refl (typed 𝓤 H A replyD W (heard b .reply) isonhostbyte .0)) $
+      assigns ! (of-opd ! (load ! (from ! (stop !)) (look ! 61 refl))) (from ! (stop !)) (init ! 109 refl (typed 𝓤 H A replyD W (heard b .reply) isonhostbyte .0)) $
+      returns ! (look ! 109 refl) $ behind ! 11 $ frees-all ! (room ∷ room ∷ room ∷ room ∷ room ∷ room ∷ room ∷ room ∷ room ∷ room ∷ room ∷ room ∷ room ∷ room ∷ room ∷ room ∷ cell ∷ cell ∷ cell ∷ cell ∷ cell ∷ cell ∷ cell ∷ cell ∷ cell ∷ cell ∷ cell ∷ cell ∷ cell ∷ cell ∷ cell ∷ cell ∷ cell ∷ cell ∷ cell ∷ room ∷ room ∷ room ∷ room ∷ cell ∷ cell ∷ cell ∷ cell ∷ cell ∷ cell ∷ cell ∷ cell ∷ cell ∷ cell ∷ cell ∷ []) _ $
+      suffices ! _ (ends-in 6 𝓤 H A W ps replyD (f.clauses 𝓤 H A mem run) (κ0, (κ1, (κ2, (κ3, (κ4, (κ5, tt)))))) (q0, (q1, (q2, (q3, (q4, (q5, tt)))))) x tt (heard b .reply) (tt, (tt, ((ws .1 .0), ((ws .1 .1 .0), ((ws .1 .1 .1 .0), ((ws .1 .1 .1 .1 .0), ((ws .1 .1 .1 .1 .1 .0), tt))))))) (tt, (tt, (sym long-datapoints, (sym long-items, (sym long-parameters, (tt, (sym long-out, tt))))))) isonhostbyte (factI 𝓤 _ (emp 𝓤) (same-event event (HostByte b) v t h os it (leaves-host-byte v t h os (lent none) b (heard b .reply) (lentTables (ws .1 .0) (ws .1 .1 .0) (ws .1 .1 .1 .0)) (ws .1 .1 .1 .1 .0) (ws .1 .1 .1 .1 .1 .0) z)))) $
+      nothing ! $ nothing ! $ nothing ! $ nothing ! $ keep ! (4 ∷ 16 ∷ 14 ∷ 12 ∷ 10 ∷ 8 ∷ 0 ∷ 1 ∷ 2 ∷ 15 ∷ 13 ∷ 11 ∷ 9 ∷ 7 ∷ 3 ∷ []) $ group ! 7 $ frame ! $ done !)))))))))))
       (λ it.
-      rewrite ! 96 (λ (y : Event). ‵ (fat fullShare E′.mir (l .1 .0) 0 (eventD .val y))) it refl $
-      goes-flat ! 𝓣 (armOf part.s-11 1) (load ! (from ! (vrt ! refl (fld ! refl (stop !)))) (look-tag ! 96 (whole !))) (λ Q. refl) $
-      assigns ! (addr ! (from ! (hop ! (look ! 86 refl) (stop !)))) (from ! (stop !)) (init ! 36 refl (tt, tt)) $
+      rewrite ! 104 (λ (y : Event). ‵ (fat fullShare E′.mir (l .1 .0) 0 (eventD .val y))) it refl $
+      goes-flat ! 𝓣 (armOf part.s-13 1) (load ! (from ! (vrt ! refl (fld ! refl (stop !)))) (look-tag ! 104 (whole !))) (λ Q. refl) $
+      assigns ! (addr ! (from ! (hop ! (look ! 94 refl) (stop !)))) (from ! (stop !)) (init ! 36 refl (tt, tt)) $
       lends ! tt linkD h (λ νlink δlink.
       calls-any ! (fmOf 𝓤 H (W .laws) 𝓣) idle-mark.ended (idle-mark.clauses 𝓤 H A mem run) known-idle-mark (((νlink ∷ [], tt), (fullShare, tt), tt, (record { ptr = link .ptr; name = δlink; now = h }, tt), (vptr (link .ptr .0) (link .ptr .1) ∷ [], tt)), tt) (factI 𝓤 _ (emp 𝓤) ((passed none) .1)) unitD tt (λ ws. ws .0 ≡ idle)
       (λ v r ws fits. fact-use 𝓤 _ (id⊢ 𝓤 _) (λ z. factI 𝓤 _ _ (z, pinned unitD r tt v fits refl)))
       (and-then ! (load ! (from ! (stop !)) (look ! 36 refl)) (no-more !)) (λ ws z isidlemark.
       rewrite ! 1 (λ (y : Link). ‵ (fres δlink (linkD .row .coded .code y))) z refl $ backs ! tt linkD h idle $
       land ! (from ! (stop !)) (init ! 38 refl (tt, tt)) $
-      assigns ! (agg ! (and-then ! (lit ! tt) (and-then ! (lit ! tt) (no-more !)))) (from ! (stop !)) (init ! 54 refl (typed 𝓤 H A replyD W (Accepted 0) (accepted-good 0 zero-good) .0)) $
-      assigns ! (of-opd ! (load ! (from ! (stop !)) (look ! 54 refl))) (from ! (stop !)) (init ! 98 refl (typed 𝓤 H A replyD W (Accepted 0) (accepted-good 0 zero-good) .0)) $
-      returns ! (look ! 98 refl) $ behind ! 8 $ frees-all ! (room ∷ room ∷ room ∷ room ∷ room ∷ room ∷ room ∷ room ∷ room ∷ room ∷ room ∷ room ∷ room ∷ room ∷ cell ∷ cell ∷ room ∷ room ∷ room ∷ room ∷ room ∷ room ∷ room ∷ cell ∷ cell ∷ cell ∷ cell ∷ cell ∷ cell ∷ cell ∷ cell ∷ room ∷ room ∷ room ∷ room ∷ room ∷ cell ∷ cell ∷ cell ∷ cell ∷ cell ∷ cell ∷ cell ∷ cell ∷ cell ∷ cell ∷ []) _ $
-      suffices ! _ (ends-in 6 𝓤 H A W ps replyD (f.clauses 𝓤 H A mem run) (κ0, (κ1, (κ2, (κ3, (κ4, (κ5, tt)))))) (q0, (q1, (q2, (q3, (q4, (q5, tt)))))) x tt (Accepted 0) (tt, (tt, (ds, (is, (tt, (idle, (os, tt))))))) (tt, (tt, (refl, (refl, (tt, (tt, (refl, tt))))))) (accepted-good 0 zero-good) (factI 𝓤 _ (emp 𝓤) (same-event event (IdleMark) v t h os it (leaves-idle-mark v t h os (lent none))))) $
-      nothing ! $ nothing ! $ nothing ! $ nothing ! $ nothing ! $ keep ! (5 ∷ 15 ∷ 13 ∷ 16 ∷ 11 ∷ 6 ∷ 0 ∷ 1 ∷ 2 ∷ 14 ∷ 12 ∷ 3 ∷ 10 ∷ 9 ∷ 4 ∷ []) $ group ! 7 $ frame ! $ done !)))
+      assigns ! (agg ! (and-then ! (lit ! tt) (and-then ! (lit ! tt) (no-more !)))) (from ! (stop !)) (init ! 58 refl (typed 𝓤 H A replyD W (Accepted 0) (accepted-good 0 zero-good) .0)) $
+      assigns ! (of-opd ! (load ! (from ! (stop !)) (look ! 58 refl))) (from ! (stop !)) (init ! 106 refl (typed 𝓤 H A replyD W (Accepted 0) (accepted-good 0 zero-good) .0)) $
+      returns ! (look ! 106 refl) $ behind ! 8 $ frees-all ! (room ∷ room ∷ room ∷ room ∷ room ∷ room ∷ room ∷ room ∷ room ∷ room ∷ room ∷ room ∷ room ∷ room ∷ cell ∷ cell ∷ room ∷ room ∷ room ∷ room ∷ room ∷ room ∷ room ∷ room ∷ room ∷ cell ∷ cell ∷ cell ∷ cell ∷ cell ∷ cell ∷ cell ∷ cell ∷ cell ∷ cell ∷ room ∷ room ∷ room ∷ room ∷ room ∷ cell ∷ cell ∷ cell ∷ cell ∷ cell ∷ cell ∷ cell ∷ cell ∷ cell ∷ cell ∷ []) _ $
+      suffices ! _ (ends-in 6 𝓤 H A W ps replyD (f.clauses 𝓤 H A mem run) (κ0, (κ1, (κ2, (κ3, (κ4, (κ5, tt)))))) (q0, (q1, (q2, (q3, (q4, (q5, tt)))))) x tt (Accepted 0) (tt, (tt, (ds, (is, (ps′, (idle, (os, tt))))))) (tt, (tt, (refl, (refl, (refl, (tt, (refl, tt))))))) (accepted-good 0 zero-good) (factI 𝓤 _ (emp 𝓤) (same-event event (IdleMark) v t h os it (leaves-idle-mark v t h os (lent none))))) $
+      nothing ! $ nothing ! $ nothing ! $ nothing ! $ keep ! (4 ∷ 16 ∷ 14 ∷ 12 ∷ 10 ∷ 5 ∷ 0 ∷ 1 ∷ 2 ∷ 15 ∷ 13 ∷ 11 ∷ 9 ∷ 8 ∷ 3 ∷ []) $ group ! 7 $ frame ! $ done !)))
       (λ it.
-      rewrite ! 96 (λ (y : Event). ‵ (fat fullShare E′.mir (l .1 .0) 0 (eventD .val y))) it refl $
-      goes-flat ! 𝓣 (armOf part.s-11 2) (load ! (from ! (vrt ! refl (fld ! refl (stop !)))) (look-tag ! 96 (whole !))) (λ Q. refl) $
-      assigns ! (addr ! (from ! (hop ! (look ! 86 refl) (stop !)))) (from ! (stop !)) (init ! 34 refl (tt, tt)) $
-      assigns ! (addr ! (from ! (fld ! refl (hop ! (look-in ! 84 (sub ! 0 refl (whole !))) (stop !))))) (from ! (stop !)) (init ! 32 refl (tt, tt)) $
-      assigns ! (agg ! (and-then ! (load ! (from ! (stop !)) (look ! 32 refl)) (and-then ! (load ! (from ! (fld ! refl (stop !))) (look-in ! 84 (sub ! 1 refl (whole !)))) (no-more !)))) (from ! (stop !)) (init ! 30 refl (tt, (tt, (record { fits = out-room .0 }, tt)))) $
+      rewrite ! 104 (λ (y : Event). ‵ (fat fullShare E′.mir (l .1 .0) 0 (eventD .val y))) it refl $
+      goes-flat ! 𝓣 (armOf part.s-13 2) (load ! (from ! (vrt ! refl (fld ! refl (stop !)))) (look-tag ! 104 (whole !))) (λ Q. refl) $
+      assigns ! (addr ! (from ! (hop ! (look ! 94 refl) (stop !)))) (from ! (stop !)) (init ! 34 refl (tt, tt)) $
+      assigns ! (addr ! (from ! (fld ! refl (hop ! (look-in ! 92 (sub ! 0 refl (whole !))) (stop !))))) (from ! (stop !)) (init ! 32 refl (tt, tt)) $
+      assigns ! (agg ! (and-then ! (load ! (from ! (stop !)) (look ! 32 refl)) (and-then ! (load ! (from ! (fld ! refl (stop !))) (look-in ! 92 (sub ! 1 refl (whole !)))) (no-more !)))) (from ! (stop !)) (init ! 30 refl (tt, (tt, (record { fits = out-room .0 }, tt)))) $
       lends ! tt linkD h (λ νlink δlink.
-      move ! (105 ∷ 102 ∷ []) $
+      move ! (113 ∷ 110 ∷ []) $
       lendsS ! tt byteD (length os) os refl (λ νout δout room-out.
       move ! (3 ∷ 0 ∷ 4 ∷ 1 ∷ []) $
       calls-any ! (fmOf 𝓤 H (W .laws) 𝓣) ack-wait-over.ended (ack-wait-over.clauses 𝓤 H A mem run) known-ack-wait-over (((νlink ∷ [], (νout ∷ [], tt)), (fullShare, (fullShare, tt)), tt, (record { ptr = link .ptr; name = δlink; now = h }, (record { ptr = out .ptr; name = δout; now = os }, tt)), (vptr (link .ptr .0) (link .ptr .1) ∷ [], (sliceVal (out .ptr) (length os) ∷ [], tt))), tt) (factI 𝓤 _ (emp 𝓤) ((passed none) .1, (passed none) .2)) sizeD sent (λ ws. AckWaited h os sent (ws .1 .0) (ws .0))
@@ -353,25 +363,25 @@ module _ {M : Type 1} (𝓤 : URA M) (H : Heap 𝓤) (A : Atoms 𝓤) (W : Given
       backs ! tt linkD h (ws .0) $
       move ! (2 ∷ 3 ∷ 4 ∷ []) $
       backsS ! tt byteD (length os) os refl room-out (ws .1 .0) (ws .1 .0) refl (λ long-out.
-      land ! (from ! (stop !)) (init ! 78 refl (typed 𝓤 H A sizeD W sent isackwaitover .0)) $
-      assigns ! (agg ! (and-then ! (lit ! tt) (and-then ! (load ! (from ! (stop !)) (look ! 78 refl)) (no-more !)))) (from ! (stop !)) (init ! 56 refl (typed 𝓤 H A replyD W (Accepted sent) (accepted-good sent isackwaitover) .0)) $
-      assigns ! (of-opd ! (load ! (from ! (stop !)) (look ! 56 refl))) (from ! (stop !)) (init ! 100 refl (typed 𝓤 H A replyD W (Accepted sent) (accepted-good sent isackwaitover) .0)) $
-      returns ! (look ! 100 refl) $ behind ! 10 $ frees-all ! (room ∷ room ∷ room ∷ room ∷ room ∷ room ∷ room ∷ room ∷ room ∷ room ∷ room ∷ cell ∷ cell ∷ cell ∷ room ∷ room ∷ room ∷ room ∷ room ∷ room ∷ room ∷ room ∷ room ∷ cell ∷ cell ∷ cell ∷ cell ∷ cell ∷ cell ∷ cell ∷ cell ∷ room ∷ room ∷ room ∷ cell ∷ room ∷ cell ∷ cell ∷ cell ∷ cell ∷ cell ∷ cell ∷ cell ∷ cell ∷ cell ∷ cell ∷ []) _ $
-      suffices ! _ (ends-in 6 𝓤 H A W ps replyD (f.clauses 𝓤 H A mem run) (κ0, (κ1, (κ2, (κ3, (κ4, (κ5, tt)))))) (q0, (q1, (q2, (q3, (q4, (q5, tt)))))) x tt (Accepted sent) (tt, (tt, (ds, (is, (tt, ((ws .0), ((ws .1 .0), tt))))))) (tt, (tt, (refl, (refl, (tt, (tt, (sym long-out, tt))))))) (accepted-good sent isackwaitover) (factI 𝓤 _ (emp 𝓤) (same-event event (AckWaitOver) v t h os it (leaves-ack-wait v t h os (lent none) sent (ws .0) (ws .1 .0) z)))) $
-      nothing ! $ nothing ! $ nothing ! $ nothing ! $ nothing ! $ keep ! (5 ∷ 15 ∷ 13 ∷ 16 ∷ 11 ∷ 9 ∷ 0 ∷ 1 ∷ 2 ∷ 14 ∷ 12 ∷ 3 ∷ 10 ∷ 8 ∷ 4 ∷ []) $ group ! 7 $ frame ! $ done !)))))
+      land ! (from ! (stop !)) (init ! 86 refl (typed 𝓤 H A sizeD W sent isackwaitover .0)) $
+      assigns ! (agg ! (and-then ! (lit ! tt) (and-then ! (load ! (from ! (stop !)) (look ! 86 refl)) (no-more !)))) (from ! (stop !)) (init ! 60 refl (typed 𝓤 H A replyD W (Accepted sent) (accepted-good sent isackwaitover) .0)) $
+      assigns ! (of-opd ! (load ! (from ! (stop !)) (look ! 60 refl))) (from ! (stop !)) (init ! 108 refl (typed 𝓤 H A replyD W (Accepted sent) (accepted-good sent isackwaitover) .0)) $
+      returns ! (look ! 108 refl) $ behind ! 10 $ frees-all ! (room ∷ room ∷ room ∷ room ∷ room ∷ room ∷ room ∷ room ∷ room ∷ room ∷ room ∷ cell ∷ cell ∷ cell ∷ room ∷ room ∷ room ∷ room ∷ room ∷ room ∷ room ∷ room ∷ room ∷ room ∷ room ∷ cell ∷ cell ∷ cell ∷ cell ∷ cell ∷ cell ∷ cell ∷ cell ∷ cell ∷ cell ∷ room ∷ room ∷ room ∷ cell ∷ room ∷ cell ∷ cell ∷ cell ∷ cell ∷ cell ∷ cell ∷ cell ∷ cell ∷ cell ∷ cell ∷ []) _ $
+      suffices ! _ (ends-in 6 𝓤 H A W ps replyD (f.clauses 𝓤 H A mem run) (κ0, (κ1, (κ2, (κ3, (κ4, (κ5, tt)))))) (q0, (q1, (q2, (q3, (q4, (q5, tt)))))) x tt (Accepted sent) (tt, (tt, (ds, (is, (ps′, ((ws .0), ((ws .1 .0), tt))))))) (tt, (tt, (refl, (refl, (refl, (tt, (sym long-out, tt))))))) (accepted-good sent isackwaitover) (factI 𝓤 _ (emp 𝓤) (same-event event (AckWaitOver) v t h os it (leaves-ack-wait v t h os (lent none) sent (ws .0) (ws .1 .0) z)))) $
+      nothing ! $ nothing ! $ nothing ! $ nothing ! $ keep ! (4 ∷ 16 ∷ 14 ∷ 12 ∷ 10 ∷ 8 ∷ 0 ∷ 1 ∷ 2 ∷ 15 ∷ 13 ∷ 11 ∷ 9 ∷ 7 ∷ 3 ∷ []) $ group ! 7 $ frame ! $ done !)))))
       (λ it.
-      rewrite ! 96 (λ (y : Event). ‵ (fat fullShare E′.mir (l .1 .0) 0 (eventD .val y))) it refl $
-      goes-flat ! 𝓣 (armOf part.s-11 3) (load ! (from ! (vrt ! refl (fld ! refl (stop !)))) (look-tag ! 96 (whole !))) (λ Q. refl) $
-      assigns ! (addr ! (from ! (fld ! refl (hop ! (look-in ! 92 (sub ! 0 refl (whole !))) (stop !))))) (from ! (stop !)) (init ! 28 refl (tt, tt)) $
-      assigns ! (agg ! (and-then ! (load ! (from ! (stop !)) (look ! 28 refl)) (and-then ! (load ! (from ! (fld ! refl (stop !))) (look-in ! 92 (sub ! 1 refl (whole !)))) (no-more !)))) (from ! (stop !)) (init ! 26 refl (tt, (tt, (record { fits = datapoints-room .0 }, tt)))) $
-      assigns ! (addr ! (from ! (hop ! (look ! 86 refl) (stop !)))) (from ! (stop !)) (init ! 24 refl (tt, tt)) $
-      assigns ! (addr ! (from ! (fld ! refl (hop ! (look-in ! 84 (sub ! 0 refl (whole !))) (stop !))))) (from ! (stop !)) (init ! 22 refl (tt, tt)) $
-      assigns ! (agg ! (and-then ! (load ! (from ! (stop !)) (look ! 22 refl)) (and-then ! (load ! (from ! (fld ! refl (stop !))) (look-in ! 84 (sub ! 1 refl (whole !)))) (no-more !)))) (from ! (stop !)) (init ! 20 refl (tt, (tt, (record { fits = out-room .0 }, tt)))) $
-      move ! (4 ∷ 5 ∷ []) $
+      rewrite ! 104 (λ (y : Event). ‵ (fat fullShare E′.mir (l .1 .0) 0 (eventD .val y))) it refl $
+      goes-flat ! 𝓣 (armOf part.s-13 3) (load ! (from ! (vrt ! refl (fld ! refl (stop !)))) (look-tag ! 104 (whole !))) (λ Q. refl) $
+      assigns ! (addr ! (from ! (fld ! refl (hop ! (look-in ! 100 (sub ! 0 refl (whole !))) (stop !))))) (from ! (stop !)) (init ! 28 refl (tt, tt)) $
+      assigns ! (agg ! (and-then ! (load ! (from ! (stop !)) (look ! 28 refl)) (and-then ! (load ! (from ! (fld ! refl (stop !))) (look-in ! 100 (sub ! 1 refl (whole !)))) (no-more !)))) (from ! (stop !)) (init ! 26 refl (tt, (tt, (record { fits = datapoints-room .0 }, tt)))) $
+      assigns ! (addr ! (from ! (hop ! (look ! 94 refl) (stop !)))) (from ! (stop !)) (init ! 24 refl (tt, tt)) $
+      assigns ! (addr ! (from ! (fld ! refl (hop ! (look-in ! 92 (sub ! 0 refl (whole !))) (stop !))))) (from ! (stop !)) (init ! 22 refl (tt, tt)) $
+      assigns ! (agg ! (and-then ! (load ! (from ! (stop !)) (look ! 22 refl)) (and-then ! (load ! (from ! (fld ! refl (stop !))) (look-in ! 92 (sub ! 1 refl (whole !)))) (no-more !)))) (from ! (stop !)) (init ! 20 refl (tt, (tt, (record { fits = out-room .0 }, tt)))) $
+      move ! (6 ∷ 7 ∷ []) $
       lendsS ! tt datapointD (length ds) ds refl (λ νdatapoints δdatapoints room-datapoints.
       move ! (3 ∷ 4 ∷ []) $
       lends ! tt linkD h (λ νlink δlink.
-      move ! (106 ∷ 103 ∷ []) $
+      move ! (114 ∷ 111 ∷ []) $
       lendsS ! tt byteD (length os) os refl (λ νout δout room-out.
       move ! (6 ∷ 3 ∷ 0 ∷ 7 ∷ 4 ∷ 1 ∷ []) $
       calls-any ! (fmOf 𝓤 H (W .laws) 𝓣) on-poll.ended (on-poll.clauses 𝓤 H A mem run) known-on-poll (((νdatapoints ∷ [], (νlink ∷ [], (νout ∷ [], tt))), (fullShare, (fullShare, (fullShare, tt))), tt, (record { ptr = datapoints .ptr; name = δdatapoints; now = ds }, (record { ptr = link .ptr; name = δlink; now = h }, (record { ptr = out .ptr; name = δout; now = os }, tt))), (sliceVal (datapoints .ptr) (length ds) ∷ [], (vptr (link .ptr .0) (link .ptr .1) ∷ [], (sliceVal (out .ptr) (length os) ∷ [], tt)))), tt) (factI 𝓤 _ (emp 𝓤) (table-ok none, (passed none) .1, (passed none) .2)) replyD (polled .reply) (λ ws. Leaves polled (polled .reply) (datapointsOnly (ws .0)) (ws .1 .0) (ws .1 .1 .0))
@@ -383,56 +393,56 @@ module _ {M : Type 1} (𝓤 : URA M) (H : Heap 𝓤) (A : Atoms 𝓤) (W : Given
       backs ! tt linkD h (ws .1 .0) $
       move ! (4 ∷ 5 ∷ 6 ∷ []) $
       backsS ! tt byteD (length os) os refl room-out (ws .1 .1 .0) (ws .1 .1 .0) refl (λ long-out.
-      land ! (from ! (stop !)) (init ! 56 refl (typed 𝓤 H A replyD W (polled .reply) isonpoll .0)) $
-      assigns ! (of-opd ! (load ! (from ! (stop !)) (look ! 56 refl))) (from ! (stop !)) (init ! 100 refl (typed 𝓤 H A replyD W (polled .reply) isonpoll .0)) $
-      returns ! (look ! 100 refl) $ behind ! 10 $ frees-all ! (room ∷ room ∷ room ∷ room ∷ room ∷ room ∷ cell ∷ cell ∷ cell ∷ cell ∷ cell ∷ room ∷ room ∷ room ∷ room ∷ room ∷ room ∷ room ∷ room ∷ room ∷ room ∷ room ∷ room ∷ cell ∷ cell ∷ cell ∷ cell ∷ cell ∷ cell ∷ cell ∷ cell ∷ room ∷ room ∷ room ∷ room ∷ room ∷ cell ∷ cell ∷ cell ∷ cell ∷ cell ∷ cell ∷ cell ∷ cell ∷ cell ∷ cell ∷ []) _ $
-      suffices ! _ (ends-in 6 𝓤 H A W ps replyD (f.clauses 𝓤 H A mem run) (κ0, (κ1, (κ2, (κ3, (κ4, (κ5, tt)))))) (q0, (q1, (q2, (q3, (q4, (q5, tt)))))) x tt (polled .reply) (tt, (tt, ((ws .0), (is, (tt, ((ws .1 .0), ((ws .1 .1 .0), tt))))))) (tt, (tt, (sym long-datapoints, (refl, (tt, (tt, (sym long-out, tt))))))) isonpoll (factI 𝓤 _ (emp 𝓤) (same-event event (Poll) v t h os it (leaves-poll v ds is ps′ h os (lent none) (polled .reply) (ws .0) (ws .1 .0) (ws .1 .1 .0) z)))) $
-      nothing ! $ nothing ! $ nothing ! $ nothing ! $ nothing ! $ keep ! (5 ∷ 13 ∷ 15 ∷ 16 ∷ 11 ∷ 9 ∷ 0 ∷ 1 ∷ 2 ∷ 12 ∷ 14 ∷ 3 ∷ 10 ∷ 8 ∷ 4 ∷ []) $ group ! 7 $ frame ! $ done !)))))))
+      land ! (from ! (stop !)) (init ! 60 refl (typed 𝓤 H A replyD W (polled .reply) isonpoll .0)) $
+      assigns ! (of-opd ! (load ! (from ! (stop !)) (look ! 60 refl))) (from ! (stop !)) (init ! 108 refl (typed 𝓤 H A replyD W (polled .reply) isonpoll .0)) $
+      returns ! (look ! 108 refl) $ behind ! 10 $ frees-all ! (room ∷ room ∷ room ∷ room ∷ room ∷ room ∷ cell ∷ cell ∷ cell ∷ cell ∷ cell ∷ room ∷ room ∷ room ∷ room ∷ room ∷ room ∷ room ∷ room ∷ room ∷ room ∷ room ∷ room ∷ room ∷ room ∷ cell ∷ cell ∷ cell ∷ cell ∷ cell ∷ cell ∷ cell ∷ cell ∷ cell ∷ cell ∷ room ∷ room ∷ room ∷ room ∷ room ∷ cell ∷ cell ∷ cell ∷ cell ∷ cell ∷ cell ∷ cell ∷ cell ∷ cell ∷ cell ∷ []) _ $
+      suffices ! _ (ends-in 6 𝓤 H A W ps replyD (f.clauses 𝓤 H A mem run) (κ0, (κ1, (κ2, (κ3, (κ4, (κ5, tt)))))) (q0, (q1, (q2, (q3, (q4, (q5, tt)))))) x tt (polled .reply) (tt, (tt, ((ws .0), (is, (ps′, ((ws .1 .0), ((ws .1 .1 .0), tt))))))) (tt, (tt, (sym long-datapoints, (refl, (refl, (tt, (sym long-out, tt))))))) isonpoll (factI 𝓤 _ (emp 𝓤) (same-event event (Poll) v t h os it (leaves-poll v ds is ps′ h os (lent none) (polled .reply) (ws .0) (ws .1 .0) (ws .1 .1 .0) z)))) $
+      nothing ! $ nothing ! $ nothing ! $ nothing ! $ keep ! (4 ∷ 12 ∷ 16 ∷ 14 ∷ 10 ∷ 8 ∷ 0 ∷ 1 ∷ 2 ∷ 11 ∷ 15 ∷ 13 ∷ 9 ∷ 7 ∷ 3 ∷ []) $ group ! 7 $ frame ! $ done !)))))))
       (λ id it.
-      rewrite ! 96 (λ (y : Event). ‵ (fat fullShare E′.mir (l .1 .0) 0 (eventD .val y))) it refl $
-      goes-flat ! 𝓣 (armOf part.s-11 4) (load ! (from ! (vrt ! refl (fld ! refl (stop !)))) (look-tag ! 96 (whole !))) (λ Q. refl) $
-      assigns ! (of-opd ! (load ! (from ! (vrt ! refl (fld ! refl (stop !)))) (look-in ! 96 (in-variant ! 4 0 refl refl (whole !))))) (from ! (stop !)) (init ! 74 refl (typed 𝓤 H A idD W id (value-good id (at-event it)) .0)) $
+      rewrite ! 104 (λ (y : Event). ‵ (fat fullShare E′.mir (l .1 .0) 0 (eventD .val y))) it refl $
+      goes-flat ! 𝓣 (armOf part.s-13 4) (load ! (from ! (vrt ! refl (fld ! refl (stop !)))) (look-tag ! 104 (whole !))) (λ Q. refl) $
+      assigns ! (of-opd ! (load ! (from ! (vrt ! refl (fld ! refl (stop !)))) (look-in ! 104 (in-variant ! 4 0 refl refl (whole !))))) (from ! (stop !)) (init ! 82 refl (typed 𝓤 H A idD W id (value-good id (at-event it)) .0)) $
       assigns ! (agg ! (and-then ! (lit ! tt) (no-more !))) (from ! (stop !)) (init ! 18 refl (typed 𝓤 H A busEventD W Value bus-value-good .0)) $
-      assigns ! (addr ! (from ! (fld ! refl (hop ! (look-in ! 92 (sub ! 0 refl (whole !))) (stop !))))) (from ! (stop !)) (init ! 16 refl (tt, tt)) $
-      assigns ! (agg ! (and-then ! (load ! (from ! (stop !)) (look ! 16 refl)) (and-then ! (load ! (from ! (fld ! refl (stop !))) (look-in ! 92 (sub ! 1 refl (whole !)))) (no-more !)))) (from ! (stop !)) (init ! 14 refl (tt, (tt, (record { fits = datapoints-room .0 }, tt)))) $
-      move ! (4 ∷ 5 ∷ []) $
+      assigns ! (addr ! (from ! (fld ! refl (hop ! (look-in ! 100 (sub ! 0 refl (whole !))) (stop !))))) (from ! (stop !)) (init ! 16 refl (tt, tt)) $
+      assigns ! (agg ! (and-then ! (load ! (from ! (stop !)) (look ! 16 refl)) (and-then ! (load ! (from ! (fld ! refl (stop !))) (look-in ! 100 (sub ! 1 refl (whole !)))) (no-more !)))) (from ! (stop !)) (init ! 14 refl (tt, (tt, (record { fits = datapoints-room .0 }, tt)))) $
+      move ! (6 ∷ 7 ∷ []) $
       lendsS ! tt datapointD (length ds) ds refl (λ νdatapoints δdatapoints room-datapoints.
       use0 W (‵ (idD .row .own id (idD .val id ∷ []))) (idD .made 𝓤 H A W id (idD .val id ∷ []) (value-good id (at-event it))) $
       use0 W (‵ (busEventD .row .own Value (busEventD .val Value ∷ []))) (busEventD .made 𝓤 H A W Value (busEventD .val Value ∷ []) bus-value-good) $
-      move ! (103 ∷ 2 ∷ 0 ∷ 1 ∷ 106 ∷ 3 ∷ []) $
+      move ! (111 ∷ 2 ∷ 0 ∷ 1 ∷ 114 ∷ 3 ∷ []) $
       calls-any ! (fmOf 𝓤 H (W .laws) 𝓣) on-bus-event.ended (on-bus-event.clauses 𝓤 H A mem run) known-on-bus-event (((κ0, (νdatapoints ∷ [], tt)), (q0, (fullShare, tt)), tt, (Value, (id, (value, (record { ptr = datapoints .ptr; name = δdatapoints; now = ds }, tt)))), (busEventD .val Value ∷ [], (idD .val id ∷ [], (sliceVal (value .ptr) (length (value .now)) ∷ [], (sliceVal (datapoints .ptr) (length ds) ∷ [], tt))))), tt) (factI 𝓤 _ (emp 𝓤) (table-ok none)) replyD (told Value id) (λ ws. BusEventTaken Value id v ds (told Value id) (ws .1 .1 .1 .0))
       (λ v r ws fits. fact-use 𝓤 _ (id⊢ 𝓤 _) (λ z. factI 𝓤 _ _ (record { reply = refl; datapoints = z .datapoints }, pinned replyD r (told Value id) v fits (z .reply))))
-      (and-then ! (load ! (from ! (stop !)) (look ! 18 refl)) (and-then ! (load ! (from ! (stop !)) (look ! 74 refl)) (and-then ! (load ! (from ! (stop !)) (look ! 94 refl)) (and-then ! (load ! (from ! (stop !)) (look ! 14 refl)) (no-more !))))) (λ ws z isonbusevent.
+      (and-then ! (load ! (from ! (stop !)) (look ! 18 refl)) (and-then ! (load ! (from ! (stop !)) (look ! 82 refl)) (and-then ! (load ! (from ! (stop !)) (look ! 102 refl)) (and-then ! (load ! (from ! (stop !)) (look ! 14 refl)) (no-more !))))) (λ ws z isonbusevent.
       move ! (1 ∷ 5 ∷ 6 ∷ []) $
       backsS ! tt datapointD (length ds) ds refl room-datapoints (ws .1 .1 .1 .0) (ws .1 .1 .1 .0) refl (λ long-datapoints.
-      land ! (from ! (stop !)) (init ! 58 refl (typed 𝓤 H A replyD W (told Value id) isonbusevent .0)) $
-      assigns ! (of-opd ! (load ! (from ! (stop !)) (look ! 58 refl))) (from ! (stop !)) (init ! 102 refl (typed 𝓤 H A replyD W (told Value id) isonbusevent .0)) $
-      returns ! (look ! 102 refl) $ behind ! 12 $ frees-all ! (room ∷ room ∷ room ∷ cell ∷ cell ∷ cell ∷ room ∷ room ∷ room ∷ room ∷ room ∷ room ∷ room ∷ room ∷ room ∷ room ∷ room ∷ room ∷ room ∷ room ∷ room ∷ room ∷ room ∷ cell ∷ cell ∷ cell ∷ cell ∷ cell ∷ cell ∷ cell ∷ cell ∷ room ∷ room ∷ cell ∷ room ∷ room ∷ cell ∷ cell ∷ cell ∷ cell ∷ cell ∷ cell ∷ cell ∷ cell ∷ cell ∷ cell ∷ []) _ $
-      suffices ! _ (ends-in 6 𝓤 H A W ps replyD (f.clauses 𝓤 H A mem run) (κ0, (κ1, (κ2, (κ3, (κ4, (κ5, tt)))))) (q0, (q1, (q2, (q3, (q4, (q5, tt)))))) x tt (told Value id) (tt, (tt, ((ws .1 .1 .1 .0), (is, (tt, (h, (os, tt))))))) (tt, (tt, (sym long-datapoints, (refl, (tt, (tt, (refl, tt))))))) isonbusevent (factI 𝓤 _ (emp 𝓤) (same-event event (BusValue id) v t h os it (leaves-bus-value v ds is ps′ h os (lent none) id (told Value id) (ws .1 .1 .1 .0) z)))) $
-      nothing ! $ nothing ! $ nothing ! $ nothing ! $ nothing ! $ keep ! (10 ∷ 9 ∷ 17 ∷ 18 ∷ 15 ∷ 5 ∷ 0 ∷ 1 ∷ 2 ∷ 8 ∷ 16 ∷ 3 ∷ 14 ∷ 7 ∷ 4 ∷ []) $ group ! 7 $ frame ! $ done !))))
+      land ! (from ! (stop !)) (init ! 62 refl (typed 𝓤 H A replyD W (told Value id) isonbusevent .0)) $
+      assigns ! (of-opd ! (load ! (from ! (stop !)) (look ! 62 refl))) (from ! (stop !)) (init ! 110 refl (typed 𝓤 H A replyD W (told Value id) isonbusevent .0)) $
+      returns ! (look ! 110 refl) $ behind ! 12 $ frees-all ! (room ∷ room ∷ room ∷ cell ∷ cell ∷ cell ∷ room ∷ room ∷ room ∷ room ∷ room ∷ room ∷ room ∷ room ∷ room ∷ room ∷ room ∷ room ∷ room ∷ room ∷ room ∷ room ∷ room ∷ room ∷ room ∷ cell ∷ cell ∷ cell ∷ cell ∷ cell ∷ cell ∷ cell ∷ cell ∷ cell ∷ cell ∷ room ∷ room ∷ cell ∷ room ∷ room ∷ cell ∷ cell ∷ cell ∷ cell ∷ cell ∷ cell ∷ cell ∷ cell ∷ cell ∷ cell ∷ []) _ $
+      suffices ! _ (ends-in 6 𝓤 H A W ps replyD (f.clauses 𝓤 H A mem run) (κ0, (κ1, (κ2, (κ3, (κ4, (κ5, tt)))))) (q0, (q1, (q2, (q3, (q4, (q5, tt)))))) x tt (told Value id) (tt, (tt, ((ws .1 .1 .1 .0), (is, (ps′, (h, (os, tt))))))) (tt, (tt, (sym long-datapoints, (refl, (refl, (tt, (refl, tt))))))) isonbusevent (factI 𝓤 _ (emp 𝓤) (same-event event (BusValue id) v t h os it (leaves-bus-value v ds is ps′ h os (lent none) id (told Value id) (ws .1 .1 .1 .0) z)))) $
+      nothing ! $ nothing ! $ nothing ! $ nothing ! $ keep ! (9 ∷ 8 ∷ 18 ∷ 16 ∷ 14 ∷ 4 ∷ 0 ∷ 1 ∷ 2 ∷ 7 ∷ 17 ∷ 15 ∷ 13 ∷ 6 ∷ 3 ∷ []) $ group ! 7 $ frame ! $ done !))))
       (λ id o it.
-      rewrite ! 96 (λ (y : Event). ‵ (fat fullShare E′.mir (l .1 .0) 0 (eventD .val y))) it refl $
-      goes-flat ! 𝓣 (armOf part.s-11 5) (load ! (from ! (vrt ! refl (fld ! refl (stop !)))) (look-tag ! 96 (whole !))) (λ Q. refl) $
-      assigns ! (of-opd ! (load ! (from ! (vrt ! refl (fld ! refl (stop !)))) (look-in ! 96 (in-variant ! 5 0 refl refl (whole !))))) (from ! (stop !)) (init ! 72 refl (typed 𝓤 H A idD W id (outcome-good id o (at-event it)) .0)) $
-      assigns ! (of-opd ! (load ! (from ! (vrt ! refl (fld ! refl (stop !)))) (look-in ! 96 (in-variant ! 5 1 refl refl (whole !))))) (from ! (stop !)) (init ! 70 refl (typed 𝓤 H A outcomeD W o (outcome-told id o (at-event it)) .0)) $
-      assigns ! (agg ! (and-then ! (lit ! tt) (and-then ! (load ! (from ! (stop !)) (look ! 70 refl)) (no-more !)))) (from ! (stop !)) (init ! 12 refl (typed 𝓤 H A busEventD W (Transmission o) (transmission-good o (outcome-told id o (at-event it))) .0)) $
-      assigns ! (addr ! (from ! (fld ! refl (hop ! (look-in ! 92 (sub ! 0 refl (whole !))) (stop !))))) (from ! (stop !)) (init ! 10 refl (tt, tt)) $
-      assigns ! (agg ! (and-then ! (load ! (from ! (stop !)) (look ! 10 refl)) (and-then ! (load ! (from ! (fld ! refl (stop !))) (look-in ! 92 (sub ! 1 refl (whole !)))) (no-more !)))) (from ! (stop !)) (init ! 8 refl (tt, (tt, (record { fits = datapoints-room .0 }, tt)))) $
-      move ! (4 ∷ 5 ∷ []) $
+      rewrite ! 104 (λ (y : Event). ‵ (fat fullShare E′.mir (l .1 .0) 0 (eventD .val y))) it refl $
+      goes-flat ! 𝓣 (armOf part.s-13 5) (load ! (from ! (vrt ! refl (fld ! refl (stop !)))) (look-tag ! 104 (whole !))) (λ Q. refl) $
+      assigns ! (of-opd ! (load ! (from ! (vrt ! refl (fld ! refl (stop !)))) (look-in ! 104 (in-variant ! 5 0 refl refl (whole !))))) (from ! (stop !)) (init ! 80 refl (typed 𝓤 H A idD W id (outcome-good id o (at-event it)) .0)) $
+      assigns ! (of-opd ! (load ! (from ! (vrt ! refl (fld ! refl (stop !)))) (look-in ! 104 (in-variant ! 5 1 refl refl (whole !))))) (from ! (stop !)) (init ! 78 refl (typed 𝓤 H A outcomeD W o (outcome-told id o (at-event it)) .0)) $
+      assigns ! (agg ! (and-then ! (lit ! tt) (and-then ! (load ! (from ! (stop !)) (look ! 78 refl)) (no-more !)))) (from ! (stop !)) (init ! 12 refl (typed 𝓤 H A busEventD W (Transmission o) (transmission-good o (outcome-told id o (at-event it))) .0)) $
+      assigns ! (addr ! (from ! (fld ! refl (hop ! (look-in ! 100 (sub ! 0 refl (whole !))) (stop !))))) (from ! (stop !)) (init ! 10 refl (tt, tt)) $
+      assigns ! (agg ! (and-then ! (load ! (from ! (stop !)) (look ! 10 refl)) (and-then ! (load ! (from ! (fld ! refl (stop !))) (look-in ! 100 (sub ! 1 refl (whole !)))) (no-more !)))) (from ! (stop !)) (init ! 8 refl (tt, (tt, (record { fits = datapoints-room .0 }, tt)))) $
+      move ! (6 ∷ 7 ∷ []) $
       lendsS ! tt datapointD (length ds) ds refl (λ νdatapoints δdatapoints room-datapoints.
       use0 W (‵ (idD .row .own id (idD .val id ∷ []))) (idD .made 𝓤 H A W id (idD .val id ∷ []) (outcome-good id o (at-event it))) $
       use0 W (‵ (busEventD .row .own (Transmission o) (busEventD .val (Transmission o) ∷ []))) (busEventD .made 𝓤 H A W (Transmission o) (busEventD .val (Transmission o) ∷ []) (transmission-good o (outcome-told id o (at-event it)))) $
-      move ! (103 ∷ 2 ∷ 0 ∷ 1 ∷ 106 ∷ 3 ∷ []) $
+      move ! (111 ∷ 2 ∷ 0 ∷ 1 ∷ 114 ∷ 3 ∷ []) $
       calls-any ! (fmOf 𝓤 H (W .laws) 𝓣) on-bus-event.ended (on-bus-event.clauses 𝓤 H A mem run) known-on-bus-event (((κ0, (νdatapoints ∷ [], tt)), (q0, (fullShare, tt)), tt, ((Transmission o), (id, (value, (record { ptr = datapoints .ptr; name = δdatapoints; now = ds }, tt)))), (busEventD .val (Transmission o) ∷ [], (idD .val id ∷ [], (sliceVal (value .ptr) (length (value .now)) ∷ [], (sliceVal (datapoints .ptr) (length ds) ∷ [], tt))))), tt) (factI 𝓤 _ (emp 𝓤) (table-ok none)) replyD (told (Transmission o) id) (λ ws. BusEventTaken (Transmission o) id v ds (told (Transmission o) id) (ws .1 .1 .1 .0))
       (λ v r ws fits. fact-use 𝓤 _ (id⊢ 𝓤 _) (λ z. factI 𝓤 _ _ (record { reply = refl; datapoints = z .datapoints }, pinned replyD r (told (Transmission o) id) v fits (z .reply))))
-      (and-then ! (load ! (from ! (stop !)) (look ! 12 refl)) (and-then ! (load ! (from ! (stop !)) (look ! 72 refl)) (and-then ! (load ! (from ! (stop !)) (look ! 94 refl)) (and-then ! (load ! (from ! (stop !)) (look ! 8 refl)) (no-more !))))) (λ ws z isonbusevent.
+      (and-then ! (load ! (from ! (stop !)) (look ! 12 refl)) (and-then ! (load ! (from ! (stop !)) (look ! 80 refl)) (and-then ! (load ! (from ! (stop !)) (look ! 102 refl)) (and-then ! (load ! (from ! (stop !)) (look ! 8 refl)) (no-more !))))) (λ ws z isonbusevent.
       move ! (1 ∷ 5 ∷ 6 ∷ []) $
       backsS ! tt datapointD (length ds) ds refl room-datapoints (ws .1 .1 .1 .0) (ws .1 .1 .1 .0) refl (λ long-datapoints.
-      land ! (from ! (stop !)) (init ! 58 refl (typed 𝓤 H A replyD W (told (Transmission o) id) isonbusevent .0)) $
-      assigns ! (of-opd ! (load ! (from ! (stop !)) (look ! 58 refl))) (from ! (stop !)) (init ! 102 refl (typed 𝓤 H A replyD W (told (Transmission o) id) isonbusevent .0)) $
-      returns ! (look ! 102 refl) $ behind ! 12 $ frees-all ! (cell ∷ cell ∷ cell ∷ room ∷ room ∷ room ∷ room ∷ room ∷ room ∷ room ∷ room ∷ room ∷ room ∷ room ∷ room ∷ room ∷ room ∷ room ∷ room ∷ room ∷ room ∷ room ∷ room ∷ cell ∷ cell ∷ cell ∷ cell ∷ cell ∷ cell ∷ cell ∷ cell ∷ cell ∷ cell ∷ room ∷ room ∷ room ∷ cell ∷ cell ∷ cell ∷ cell ∷ cell ∷ cell ∷ cell ∷ cell ∷ cell ∷ cell ∷ []) _ $
-      suffices ! _ (ends-in 6 𝓤 H A W ps replyD (f.clauses 𝓤 H A mem run) (κ0, (κ1, (κ2, (κ3, (κ4, (κ5, tt)))))) (q0, (q1, (q2, (q3, (q4, (q5, tt)))))) x tt (told (Transmission o) id) (tt, (tt, ((ws .1 .1 .1 .0), (is, (tt, (h, (os, tt))))))) (tt, (tt, (sym long-datapoints, (refl, (tt, (tt, (refl, tt))))))) isonbusevent (factI 𝓤 _ (emp 𝓤) (same-event event (TransmissionOutcome id o) v t h os it (leaves-outcome v ds is ps′ h os (lent none) id o (told (Transmission o) id) (ws .1 .1 .1 .0) z)))) $
-      nothing ! $ nothing ! $ nothing ! $ nothing ! $ nothing ! $ keep ! (10 ∷ 9 ∷ 17 ∷ 18 ∷ 15 ∷ 5 ∷ 0 ∷ 1 ∷ 2 ∷ 8 ∷ 16 ∷ 3 ∷ 14 ∷ 7 ∷ 4 ∷ []) $ group ! 7 $ frame ! $ done !)))))))))))
+      land ! (from ! (stop !)) (init ! 62 refl (typed 𝓤 H A replyD W (told (Transmission o) id) isonbusevent .0)) $
+      assigns ! (of-opd ! (load ! (from ! (stop !)) (look ! 62 refl))) (from ! (stop !)) (init ! 110 refl (typed 𝓤 H A replyD W (told (Transmission o) id) isonbusevent .0)) $
+      returns ! (look ! 110 refl) $ behind ! 12 $ frees-all ! (cell ∷ cell ∷ cell ∷ room ∷ room ∷ room ∷ room ∷ room ∷ room ∷ room ∷ room ∷ room ∷ room ∷ room ∷ room ∷ room ∷ room ∷ room ∷ room ∷ room ∷ room ∷ room ∷ room ∷ room ∷ room ∷ cell ∷ cell ∷ cell ∷ cell ∷ cell ∷ cell ∷ cell ∷ cell ∷ cell ∷ cell ∷ cell ∷ cell ∷ room ∷ room ∷ room ∷ cell ∷ cell ∷ cell ∷ cell ∷ cell ∷ cell ∷ cell ∷ cell ∷ cell ∷ cell ∷ []) _ $
+      suffices ! _ (ends-in 6 𝓤 H A W ps replyD (f.clauses 𝓤 H A mem run) (κ0, (κ1, (κ2, (κ3, (κ4, (κ5, tt)))))) (q0, (q1, (q2, (q3, (q4, (q5, tt)))))) x tt (told (Transmission o) id) (tt, (tt, ((ws .1 .1 .1 .0), (is, (ps′, (h, (os, tt))))))) (tt, (tt, (sym long-datapoints, (refl, (refl, (tt, (refl, tt))))))) isonbusevent (factI 𝓤 _ (emp 𝓤) (same-event event (TransmissionOutcome id o) v t h os it (leaves-outcome v ds is ps′ h os (lent none) id o (told (Transmission o) id) (ws .1 .1 .1 .0) z)))) $
+      nothing ! $ nothing ! $ nothing ! $ nothing ! $ keep ! (9 ∷ 8 ∷ 18 ∷ 16 ∷ 14 ∷ 4 ∷ 0 ∷ 1 ∷ 2 ∷ 7 ∷ 17 ∷ 15 ∷ 13 ∷ 6 ∷ 3 ∷ []) $ group ! 7 $ frame ! $ done !))))))))))))
 
 pub call-spec : {M : Type 1} → stated.statement M
 unfolding code.routine tablesOf

@@ -1,6 +1,6 @@
 -- A walk: the byte is heard and acknowledged; where it ends a request, its message is handed up where it stands and carried out, and the answer is taken back. Each exit is one law of HostByteLaws. Assumes nothing.
 use Rattle.walks.proofs.Data.{unitD, Good, typed, pinned}
-use Rattle.walks.proofs.Walk.{allocs-all, frees-all, Param, dataP, mutP, mutSliceP, shrSliceP, Ends, ends-in, Walk, meets-by, behind, starts, cell, room}
+use Rattle.walks.proofs.Walk.{allocs-all, frees-all, Param, dataP, mutP, mutSliceP, Ends, ends-in, Walk, meets-by, behind, starts, cell, room}
 use Rattle.walks.proofs.Branches.{leaves-early, no-T}
 use Rattle.walks.proofs.Fields.{lends, backs}
 use Rattle.walks.proofs.Slices.{lendsS, backsS}
@@ -91,7 +91,7 @@ use Rattle.server.proofs.host_byte.on_host_byte.Statement as stated
 use Rattle.server.proofs.host_byte.on_host_byte.Code as code
 
 abbrev ps : List (Param 5)
-ps = dataP 5 byteD ∷ mutSliceP 5 0 tt datapointD ∷ mutSliceP 5 1 tt itemD ∷ shrSliceP 5 2 tt byteD ∷ mutP 5 3 tt linkD ∷ mutSliceP 5 4 tt byteD ∷ []
+ps = dataP 5 byteD ∷ mutSliceP 5 0 tt datapointD ∷ mutSliceP 5 1 tt itemD ∷ mutSliceP 5 2 tt byteD ∷ mutP 5 3 tt linkD ∷ mutSliceP 5 4 tt byteD ∷ []
 
 less : (a c : ℕ) → a < 2 ^ 64 → a - c < 2 ^ 64
 less a c h = omega (arith, h)
@@ -186,6 +186,9 @@ module _ {M : Type 1} (𝓤 : URA M) (H : Heap 𝓤) (A : Atoms 𝓤) (W : Given
   abbrev is′ : List Item
   is′ = s .after .items
 
+  abbrev ps″ : List ℕ
+  ps″ = s .after .parameters
+
   abbrev out₂ : List ℕ
   out₂ = answeredOut b h (out .now) ds is ps′
 
@@ -219,94 +222,98 @@ module _ {M : Type 1} (𝓤 : URA M) (H : Heap 𝓤) (A : Atoms 𝓤) (W : Given
   walk : Walk 5 𝓤 H A W ps replyD (f.clauses 𝓤 H A mem run) 𝓣 code.function (κ0, (κ1, (κ2, (κ3, (κ4, tt))))) (q0, (q1, (q2, (q3, (q4, tt))))) x tt
   walk =
       starts 𝓤 H A W 5 ps (κ0, (κ1, (κ2, (κ3, (κ4, tt))))) (q0, (q1, (q2, (q3, (q4, tt))))) x ∵ enter ! (𝓣 .C) (𝓣 .Λ) code.function _ _ $ allocs-all ! (code.function .locals) (λ l. params1 ! $
-      pass1 ! (init ! 56 refl (typed 𝓤 H A byteD W b b-ok .0)) $
-      pass1 ! (init ! 54 refl (tt, (tt, (record { fits = datapoints-room .0 }, tt)))) $
-      pass1 ! (init ! 52 refl (tt, (tt, (record { fits = items-room .0 }, tt)))) $
-      pass1 ! (init ! 50 refl (tt, (tt, (record { fits = parameters-room .0 }, tt)))) $
-      pass1 ! (init ! 48 refl (tt, tt)) $
-      pass1 ! (init ! 46 refl (tt, (tt, (record { fits = out-room .0 }, tt)))) $
+      pass1 ! (init ! 60 refl (typed 𝓤 H A byteD W b b-ok .0)) $
+      pass1 ! (init ! 58 refl (tt, (tt, (record { fits = datapoints-room .0 }, tt)))) $
+      pass1 ! (init ! 56 refl (tt, (tt, (record { fits = items-room .0 }, tt)))) $
+      pass1 ! (init ! 54 refl (tt, (tt, (record { fits = parameters-room .0 }, tt)))) $
+      pass1 ! (init ! 52 refl (tt, tt)) $
+      pass1 ! (init ! 50 refl (tt, (tt, (record { fits = out-room .0 }, tt)))) $
       pass0 ! $
-      move ! (69 ∷ 63 ∷ 66 ∷ 60 ∷ 67 ∷ 61 ∷ 68 ∷ 62 ∷ 70 ∷ 64 ∷ []) $
+      move ! (73 ∷ 67 ∷ 70 ∷ 64 ∷ 71 ∷ 65 ∷ 72 ∷ 66 ∷ 74 ∷ 68 ∷ []) $
       -- the byte is heard
-      assigns ! (addr ! (from ! (hop ! (look ! 58 refl) (stop !)))) (from ! (stop !)) (init ! 42 refl (tt, tt)) $
+      assigns ! (addr ! (from ! (hop ! (look ! 62 refl) (stop !)))) (from ! (stop !)) (init ! 46 refl (tt, tt)) $
       calls-mut ! (fmOf 𝓤 H (W .laws) 𝓣) linkD (byteD ∷ []) heardD (host-byte.clauses 𝓤 H A mem run) known-host-byte (λ _. (b, tt)) (λ _ _. tt) (λ _. (b-ok, tt)) (λ _ _. factI 𝓤 _ (emp 𝓤) (lt .1)) h₁ heard (λ _ _ _ _. fact-use 𝓤 _ (id⊢ 𝓤 _) (λ z. factI 𝓤 _ _ (z .link, z .answer)))
-      (λ _ _ _. (and-then ! (load ! (from ! (stop !)) (look ! 42 refl)) (and-then ! (load ! (from ! (stop !)) (look ! 66 refl)) (no-more !)))) (λ is₁.
-      land ! (from ! (stop !)) (init ! 54 refl (typed 𝓤 H A heardD W heard is₁ .0)) $
+      (λ _ _ _. (and-then ! (load ! (from ! (stop !)) (look ! 46 refl)) (and-then ! (load ! (from ! (stop !)) (look ! 70 refl)) (no-more !)))) (λ is₁.
+      land ! (from ! (stop !)) (init ! 58 refl (typed 𝓤 H A heardD W heard is₁ .0)) $
       -- it is acknowledged
-      assigns ! (addr ! (from ! (fld ! refl (hop ! (look-in ! 56 (sub ! 0 refl (whole !))) (stop !))))) (from ! (stop !)) (init ! 40 refl (tt, tt)) $
-      assigns ! (agg ! (and-then ! (load ! (from ! (stop !)) (look ! 40 refl)) (and-then ! (load ! (from ! (fld ! refl (stop !))) (look-in ! 56 (sub ! 1 refl (whole !)))) (no-more !)))) (from ! (stop !)) (init ! 38 refl (tt, (tt, (record { fits = out-room .0 }, tt)))) $
+      assigns ! (addr ! (from ! (fld ! refl (hop ! (look-in ! 60 (sub ! 0 refl (whole !))) (stop !))))) (from ! (stop !)) (init ! 44 refl (tt, tt)) $
+      assigns ! (agg ! (and-then ! (load ! (from ! (stop !)) (look ! 44 refl)) (and-then ! (load ! (from ! (fld ! refl (stop !))) (look-in ! 60 (sub ! 1 refl (whole !)))) (no-more !)))) (from ! (stop !)) (init ! 42 refl (tt, (tt, (record { fits = out-room .0 }, tt)))) $
       move ! (8 ∷ 9 ∷ []) $
       lendsS ! tt byteD m (out .now) refl (λ ν₀ δ₀ rm₀.
       use0 W (‵ (heardD .row .own heard (heardD .val heard ∷ []))) (heardD .made 𝓤 H A W heard (heardD .val heard ∷ []) is₁) $
       move ! (1 ∷ 0 ∷ 2 ∷ []) $
       calls-any ! (fmOf 𝓤 H (W .laws) 𝓣) acknowledge.ended (acknowledge.clauses 𝓤 H A mem run) known-acknowledge (((ν₀ ∷ [], tt), (fullShare, tt), tt, (heard, (record { ptr = out .ptr; name = δ₀; now = out .now }, tt)), (heardD .val heard ∷ [], (sliceVal (out .ptr) m ∷ [], tt))), tt) (factI 𝓤 _ (emp 𝓤) (lt .2)) sizeD sent (λ ws. ws .1 .0 ≡ out₁)
       (λ v r ws is. fact-use 𝓤 _ (id⊢ 𝓤 _) (λ z. factI 𝓤 _ _ (z .0, pinned sizeD r sent v is (z .1))))
-      (and-then ! (load ! (from ! (stop !)) (look ! 54 refl)) (and-then ! (load ! (from ! (stop !)) (look ! 38 refl)) (no-more !))) (λ ws z isacknowledge.
+      (and-then ! (load ! (from ! (stop !)) (look ! 58 refl)) (and-then ! (load ! (from ! (stop !)) (look ! 42 refl)) (no-more !))) (λ ws z isacknowledge.
       move ! (0 ∷ 2 ∷ 3 ∷ []) $
       backsS ! tt byteD m (out .now) refl rm₀ (ws .1 .0) out₁ z (λ long₁.
       move ! (2 ∷ []) $
       toss ! $
-      land ! (from ! (stop !)) (init ! 52 refl (typed 𝓤 H A sizeD W sent isacknowledge .0)) $
+      land ! (from ! (stop !)) (init ! 56 refl (typed 𝓤 H A sizeD W sent isacknowledge .0)) $
       -- whether it ended a request
       calls-plain ! (fmOf 𝓤 H (W .laws) 𝓣) (heardD ∷ []) byteD (request-l.clauses 𝓤 H A mem run) known-request-l (heard, tt) tt (is₁, tt) (id⊢ 𝓤 _) n (λ _ _. id⊢ 𝓤 _)
-      (λ _. (and-then ! (load ! (from ! (stop !)) (look ! 55 refl)) (no-more !))) (λ is₃.
-      land ! (from ! (stop !)) (init ! 50 refl (typed 𝓤 H A byteD W n is₃ .0)) $
-      assigns ! (bin ! (load ! (from ! (stop !)) (look ! 50 refl)) (lit ! tt) tt) (from ! (stop !)) (init ! 36 refl (tt, tt)) $
-      leaves-early ! (load ! (from ! (stop !)) (look ! 36 refl)) (λ none.
-      assigns ! (agg ! (and-then ! (lit ! tt) (and-then ! (load ! (from ! (stop !)) (look ! 52 refl)) (no-more !)))) (from ! (stop !)) (init ! 68 refl (typed 𝓤 H A replyD W (Accepted sent) (reply-good sent (isacknowledge .1)) .0)) $
-      returns-within ! Done refl (look ! 68 refl) $ behind ! 10 $ frees-all ! (room ∷ room ∷ room ∷ room ∷ room ∷ room ∷ room ∷ room ∷ room ∷ room ∷ room ∷ room ∷ room ∷ cell ∷ cell ∷ cell ∷ cell ∷ room ∷ room ∷ room ∷ cell ∷ cell ∷ cell ∷ cell ∷ cell ∷ cell ∷ cell ∷ cell ∷ cell ∷ cell ∷ []) _ $
-      suffices ! _ (ends-in 5 𝓤 H A W ps replyD (f.clauses 𝓤 H A mem run) (κ0, (κ1, (κ2, (κ3, (κ4, tt))))) (q0, (q1, (q2, (q3, (q4, tt))))) x tt (Accepted sent) (tt, (ds, (is, (tt, (h₁, (out₁, tt)))))) (tt, (refl, (refl, (tt, (tt, (sym long₁, tt)))))) (reply-good sent (isacknowledge .1)) (factI 𝓤 _ (emp 𝓤) (no-request b h (out .now) (tablesWith ds is ps′) (lt .1) (eqb→eq n 0 none)))) $
-      nothing ! $ nothing ! $ nothing ! $ nothing ! $ keep ! (10 ∷ 12 ∷ 14 ∷ 8 ∷ 6 ∷ 0 ∷ 1 ∷ 9 ∷ 11 ∷ 2 ∷ 7 ∷ 5 ∷ 3 ∷ []) $ group ! 6 $ frame ! $ done !
+      (λ _. (and-then ! (load ! (from ! (stop !)) (look ! 59 refl)) (no-more !))) (λ is₃.
+      land ! (from ! (stop !)) (init ! 54 refl (typed 𝓤 H A byteD W n is₃ .0)) $
+      assigns ! (bin ! (load ! (from ! (stop !)) (look ! 54 refl)) (lit ! tt) tt) (from ! (stop !)) (init ! 40 refl (tt, tt)) $
+      leaves-early ! (load ! (from ! (stop !)) (look ! 40 refl)) (λ none.
+      assigns ! (agg ! (and-then ! (lit ! tt) (and-then ! (load ! (from ! (stop !)) (look ! 56 refl)) (no-more !)))) (from ! (stop !)) (init ! 72 refl (typed 𝓤 H A replyD W (Accepted sent) (reply-good sent (isacknowledge .1)) .0)) $
+      returns-within ! Done refl (look ! 72 refl) $ behind ! 10 $ frees-all ! (room ∷ room ∷ room ∷ room ∷ room ∷ room ∷ room ∷ room ∷ room ∷ room ∷ room ∷ room ∷ room ∷ room ∷ room ∷ cell ∷ cell ∷ cell ∷ cell ∷ room ∷ room ∷ room ∷ cell ∷ cell ∷ cell ∷ cell ∷ cell ∷ cell ∷ cell ∷ cell ∷ cell ∷ cell ∷ []) _ $
+      suffices ! _ (ends-in 5 𝓤 H A W ps replyD (f.clauses 𝓤 H A mem run) (κ0, (κ1, (κ2, (κ3, (κ4, tt))))) (q0, (q1, (q2, (q3, (q4, tt))))) x tt (Accepted sent) (tt, (ds, (is, (ps′, (h₁, (out₁, tt)))))) (tt, (refl, (refl, (refl, (tt, (sym long₁, tt)))))) (reply-good sent (isacknowledge .1)) (factI 𝓤 _ (emp 𝓤) (no-request b h (out .now) (tablesWith ds is ps′) (lt .1) (eqb→eq n 0 none)))) $
+      nothing ! $ nothing ! $ nothing ! $ keep ! (9 ∷ 11 ∷ 13 ∷ 7 ∷ 5 ∷ 0 ∷ 1 ∷ 8 ∷ 10 ∷ 12 ∷ 6 ∷ 4 ∷ 2 ∷ []) $ group ! 6 $ frame ! $ done !
       ) (λ some.
       -- its message is handed up
-      assigns ! (addr ! (from ! (hop ! (look ! 58 refl) (fld ! refl (stop !))))) (from ! (stop !)) (init ! 34 refl (tt, tt)) $
+      assigns ! (addr ! (from ! (hop ! (look ! 62 refl) (fld ! refl (stop !))))) (from ! (stop !)) (init ! 38 refl (tt, tt)) $
       move ! (2 ∷ 3 ∷ []) $
       hands-message ! (fmOf 𝓤 H (W .laws) 𝓣) (request-message.clauses 𝓤 H A mem run) known-request-message h₁ lb lo n (λ _ _. tt) is₃ (λ _ _. factI 𝓤 _ (emp 𝓤) (some-l b h (out .now) ds is ps′ (lt .2) (lt .1) (asked some))) ms (λ _ _ _ _. id⊢ 𝓤 _)
-      (λ _ _. (and-then ! (load ! (from ! (stop !)) (look ! 34 refl)) (and-then ! (load ! (from ! (stop !)) (look ! 50 refl)) (no-more !)))) (λ ν₃ p₃ δ₃ fits.
-      land ! (from ! (stop !)) (init ! 49 refl (tt, (tt, (record { fits = fits .0 .1 .0 }, tt)))) $
+      (λ _ _. (and-then ! (load ! (from ! (stop !)) (look ! 38 refl)) (and-then ! (load ! (from ! (stop !)) (look ! 54 refl)) (no-more !)))) (λ ν₃ p₃ δ₃ fits.
+      land ! (from ! (stop !)) (init ! 53 refl (tt, (tt, (record { fits = fits .0 .1 .0 }, tt)))) $
       -- and carried out where it stands
-      assigns ! (addr ! (from ! (fld ! refl (hop ! (look-in ! 65 (sub ! 0 refl (whole !))) (stop !))))) (from ! (stop !)) (init ! 33 refl (tt, tt)) $
-      assigns ! (agg ! (and-then ! (load ! (from ! (stop !)) (look ! 33 refl)) (and-then ! (load ! (from ! (fld ! refl (stop !))) (look-in ! 65 (sub ! 1 refl (whole !)))) (no-more !)))) (from ! (stop !)) (init ! 31 refl (tt, (tt, (record { fits = datapoints-room .0 }, tt)))) $
-      assigns ! (addr ! (from ! (fld ! refl (hop ! (look-in ! 63 (sub ! 0 refl (whole !))) (stop !))))) (from ! (stop !)) (init ! 29 refl (tt, tt)) $
-      assigns ! (agg ! (and-then ! (load ! (from ! (stop !)) (look ! 29 refl)) (and-then ! (load ! (from ! (fld ! refl (stop !))) (look-in ! 63 (sub ! 1 refl (whole !)))) (no-more !)))) (from ! (stop !)) (init ! 27 refl (tt, (tt, (record { fits = items-room .0 }, tt)))) $
-      assigns ! (addr ! (from ! (fld ! refl (hop ! (look-in ! 57 (sub ! 0 refl (whole !))) (stop !))))) (from ! (stop !)) (init ! 25 refl (tt, tt)) $
-      assigns ! (agg ! (and-then ! (load ! (from ! (stop !)) (look ! 25 refl)) (and-then ! (load ! (from ! (fld ! refl (stop !))) (look-in ! 57 (sub ! 1 refl (whole !)))) (no-more !)))) (from ! (stop !)) (init ! 23 refl (tt, (tt, (record { fits = out-room .0 }, tt)))) $
+      assigns ! (addr ! (from ! (fld ! refl (hop ! (look-in ! 69 (sub ! 0 refl (whole !))) (stop !))))) (from ! (stop !)) (init ! 37 refl (tt, tt)) $
+      assigns ! (agg ! (and-then ! (load ! (from ! (stop !)) (look ! 37 refl)) (and-then ! (load ! (from ! (fld ! refl (stop !))) (look-in ! 69 (sub ! 1 refl (whole !)))) (no-more !)))) (from ! (stop !)) (init ! 35 refl (tt, (tt, (record { fits = datapoints-room .0 }, tt)))) $
+      assigns ! (addr ! (from ! (fld ! refl (hop ! (look-in ! 67 (sub ! 0 refl (whole !))) (stop !))))) (from ! (stop !)) (init ! 33 refl (tt, tt)) $
+      assigns ! (agg ! (and-then ! (load ! (from ! (stop !)) (look ! 33 refl)) (and-then ! (load ! (from ! (fld ! refl (stop !))) (look-in ! 67 (sub ! 1 refl (whole !)))) (no-more !)))) (from ! (stop !)) (init ! 31 refl (tt, (tt, (record { fits = items-room .0 }, tt)))) $
+      assigns ! (addr ! (from ! (fld ! refl (hop ! (look-in ! 65 (sub ! 0 refl (whole !))) (stop !))))) (from ! (stop !)) (init ! 29 refl (tt, tt)) $
+      assigns ! (agg ! (and-then ! (load ! (from ! (stop !)) (look ! 29 refl)) (and-then ! (load ! (from ! (fld ! refl (stop !))) (look-in ! 65 (sub ! 1 refl (whole !)))) (no-more !)))) (from ! (stop !)) (init ! 27 refl (tt, (tt, (record { fits = parameters-room .0 }, tt)))) $
+      assigns ! (addr ! (from ! (fld ! refl (hop ! (look-in ! 61 (sub ! 0 refl (whole !))) (stop !))))) (from ! (stop !)) (init ! 25 refl (tt, tt)) $
+      assigns ! (agg ! (and-then ! (load ! (from ! (stop !)) (look ! 25 refl)) (and-then ! (load ! (from ! (fld ! refl (stop !))) (look-in ! 61 (sub ! 1 refl (whole !)))) (no-more !)))) (from ! (stop !)) (init ! 23 refl (tt, (tt, (record { fits = out-room .0 }, tt)))) $
       move ! (5 ∷ 6 ∷ []) $
       lendsS ! tt datapointD (length ds) ds refl (λ ν₁ δ₁ rm₁.
       move ! (8 ∷ 9 ∷ []) $
       lendsS ! tt itemD (length is) is refl (λ ν₂ δ₂ rm₂.
-      move ! (9 ∷ 10 ∷ []) $
+      move ! (11 ∷ 12 ∷ []) $
+      lendsS ! tt byteD (length ps′) ps′ refl (λ ν₇ δ₇ rm₇.
+      move ! (12 ∷ 13 ∷ []) $
       lendsS ! tt byteD m out₁ long₁ (λ ν₄ δ₄ rm₄.
       use0 W (‵ (sizeD .row .own 6 (sizeD .val 6 ∷ []))) (sizeD .made 𝓤 H A W 6 (sizeD .val 6 ∷ []) six-ok) $
-      move ! (7 ∷ 4 ∷ 14 ∷ 10 ∷ 1 ∷ 8 ∷ 5 ∷ 13 ∷ 11 ∷ 2 ∷ 0 ∷ []) $
-      calls-any ! (fmOf 𝓤 H (W .laws) 𝓣) carry-out.ended (carry-out.clauses 𝓤 H A mem run) known-carry-out (((ν₁ ∷ [], (ν₂ ∷ [], (κ2, (ν₃ ∷ [], (ν₄ ∷ [], tt))))), (fullShare, (fullShare, (q2, (fullShare, (fullShare, tt))))), tt, (record { ptr = datapoints .ptr; name = δ₁; now = ds }, (record { ptr = items .ptr; name = δ₂; now = is }, (parameters, (record { ptr = p₃; name = δ₃; now = ms }, (record { ptr = out .ptr; name = δ₄; now = out₁ }, (6, tt)))))), (sliceVal (datapoints .ptr) (length ds) ∷ [], (sliceVal (items .ptr) (length is) ∷ [], (sliceVal (parameters .ptr) (length ps′) ∷ [], (sliceVal p₃ (length ms) ∷ [], (sliceVal (out .ptr) m ∷ [], (sizeD .val 6 ∷ [], tt))))))), tt) (factI 𝓤 _ (emp 𝓤) (carry-needs b h (out .now) ds is ps′ (lt .2) (lt .1) (asked some) (lt .0))) sizeD answered (λ ws. (ws .0 ≡ ds′) × (ws .1 .0 ≡ is′) × (ws .1 .1 .1 .1 .0 ≡ out₂))
-      (λ v r ws is. fact-use 𝓤 _ (id⊢ 𝓤 _) (λ z. factI 𝓤 _ _ ((z .datapoints, z .items, z .buffer), pinned sizeD r answered v is (z .ends))))
-      (and-then ! (load ! (from ! (stop !)) (look ! 25 refl)) (and-then ! (load ! (from ! (stop !)) (look ! 21 refl)) (and-then ! (load ! (from ! (stop !)) (look ! 55 refl)) (and-then ! (load ! (from ! (stop !)) (look ! 43 refl)) (and-then ! (load ! (from ! (stop !)) (look ! 17 refl)) (and-then ! (lit ! tt) (no-more !))))))) (λ ws z iscarryout.
-      move ! (0 ∷ 5 ∷ 13 ∷ []) $
+      move ! (10 ∷ 7 ∷ 4 ∷ 13 ∷ 1 ∷ 11 ∷ 8 ∷ 5 ∷ 14 ∷ 2 ∷ 0 ∷ []) $
+      calls-any ! (fmOf 𝓤 H (W .laws) 𝓣) carry-out.ended (carry-out.clauses 𝓤 H A mem run) known-carry-out (((ν₁ ∷ [], (ν₂ ∷ [], (ν₇ ∷ [], (ν₃ ∷ [], (ν₄ ∷ [], tt))))), (fullShare, (fullShare, (fullShare, (fullShare, (fullShare, tt))))), tt, (record { ptr = datapoints .ptr; name = δ₁; now = ds }, (record { ptr = items .ptr; name = δ₂; now = is }, (record { ptr = parameters .ptr; name = δ₇; now = ps′ }, (record { ptr = p₃; name = δ₃; now = ms }, (record { ptr = out .ptr; name = δ₄; now = out₁ }, (6, tt)))))), (sliceVal (datapoints .ptr) (length ds) ∷ [], (sliceVal (items .ptr) (length is) ∷ [], (sliceVal (parameters .ptr) (length ps′) ∷ [], (sliceVal p₃ (length ms) ∷ [], (sliceVal (out .ptr) m ∷ [], (sizeD .val 6 ∷ [], tt))))))), tt) (factI 𝓤 _ (emp 𝓤) (carry-needs b h (out .now) ds is ps′ (lt .2) (lt .1) (asked some) (lt .0))) sizeD answered (λ ws. (ws .0 ≡ ds′) × (ws .1 .0 ≡ is′) × (ws .1 .1 .0 ≡ ps″) × (ws .1 .1 .1 .1 .0 ≡ out₂))
+      (λ v r ws is. fact-use 𝓤 _ (id⊢ 𝓤 _) (λ z. factI 𝓤 _ _ ((z .datapoints, z .items, z .parameters, z .buffer), pinned sizeD r answered v is (z .ends))))
+      (and-then ! (load ! (from ! (stop !)) (look ! 30 refl)) (and-then ! (load ! (from ! (stop !)) (look ! 26 refl)) (and-then ! (load ! (from ! (stop !)) (look ! 22 refl)) (and-then ! (load ! (from ! (stop !)) (look ! 48 refl)) (and-then ! (load ! (from ! (stop !)) (look ! 18 refl)) (and-then ! (lit ! tt) (no-more !))))))) (λ ws z iscarryout.
+      move ! (0 ∷ 5 ∷ 14 ∷ []) $
       backsS ! tt datapointD (length ds) ds refl rm₁ (ws .0) ds′ (z .0) (λ longD.
-      move ! (2 ∷ 6 ∷ 12 ∷ []) $
+      move ! (2 ∷ 6 ∷ 13 ∷ []) $
       backsS ! tt itemD (length is) is refl rm₂ (ws .1 .0) is′ (z .1) (λ longI.
-      move ! (6 ∷ 9 ∷ 11 ∷ []) $
-      backsS ! tt byteD m out₁ long₁ rm₄ (ws .1 .1 .1 .1 .0) out₂ (z .2) (λ long₂.
-      move ! (8 ∷ []) $
+      move ! (4 ∷ 7 ∷ 12 ∷ []) $
+      backsS ! tt byteD (length ps′) ps′ refl rm₇ (ws .1 .1 .0) ps″ (z .2) (λ longP.
+      move ! (7 ∷ 9 ∷ 11 ∷ []) $
+      backsS ! tt byteD m out₁ long₁ rm₄ (ws .1 .1 .1 .1 .0) out₂ (z .3) (λ long₂.
+      move ! (9 ∷ []) $
       toss ! $
-      move ! (8 ∷ []) $
+      move ! (9 ∷ []) $
       toss ! $
-      move ! (8 ∷ []) $
-      toss ! $
-      move ! (7 ∷ 8 ∷ []) $
+      move ! (8 ∷ 9 ∷ []) $
       message-back ! tt h₁ lb lo $
-      land ! (from ! (stop !)) (init ! 45 refl (typed 𝓤 H A sizeD W answered iscarryout .0)) $
+      land ! (from ! (stop !)) (init ! 50 refl (typed 𝓤 H A sizeD W answered iscarryout .0)) $
       -- the request is cleared
-      assigns ! (addr ! (from ! (hop ! (look ! 57 refl) (stop !)))) (from ! (stop !)) (init ! 17 refl (tt, tt)) $
+      assigns ! (addr ! (from ! (hop ! (look ! 62 refl) (stop !)))) (from ! (stop !)) (init ! 18 refl (tt, tt)) $
       calls-mut ! (fmOf 𝓤 H (W .laws) 𝓣) linkD [] unitD (clear-request.clauses 𝓤 H A mem run) known-clear-request (λ _. tt) (λ _ _. tt) (λ _. tt) (λ _ _. factI 𝓤 _ (emp 𝓤) (host-byte-range h (lt .1) b)) h₂ tt (λ _ _ _ _. fact-use 𝓤 _ (id⊢ 𝓤 _) (λ z. factI 𝓤 _ _ (z, refl)))
-      (λ _ _ _. (and-then ! (load ! (from ! (stop !)) (look ! 17 refl)) (no-more !))) (λ _.
-      land ! (from ! (stop !)) (init ! 19 refl (tt, tt)) $
+      (λ _ _ _. (and-then ! (load ! (from ! (stop !)) (look ! 18 refl)) (no-more !))) (λ _.
+      land ! (from ! (stop !)) (init ! 20 refl (tt, tt)) $
       -- the answer is taken back
-      assigns ! (addr ! (from ! (hop ! (look ! 57 refl) (stop !)))) (from ! (stop !)) (init ! 15 refl (tt, tt)) $
-      assigns ! (addr ! (from ! (fld ! refl (hop ! (look-in ! 55 (sub ! 0 refl (whole !))) (stop !))))) (from ! (stop !)) (init ! 13 refl (tt, tt)) $
-      assigns ! (agg ! (and-then ! (load ! (from ! (stop !)) (look ! 13 refl)) (and-then ! (load ! (from ! (fld ! refl (stop !))) (look-in ! 55 (sub ! 1 refl (whole !)))) (no-more !)))) (from ! (stop !)) (init ! 11 refl (tt, (tt, (record { fits = out-room .0 }, tt)))) $
-      assigns ! (bin ! (load ! (from ! (stop !)) (look ! 45 refl)) (lit ! tt) (le-add 6 (length (s .says)))) (from ! (stop !)) (init ! 9 refl (tt, record { fits = less answered 6 (iscarryout .1) })) $
+      assigns ! (addr ! (from ! (hop ! (look ! 62 refl) (stop !)))) (from ! (stop !)) (init ! 16 refl (tt, tt)) $
+      assigns ! (addr ! (from ! (fld ! refl (hop ! (look-in ! 60 (sub ! 0 refl (whole !))) (stop !))))) (from ! (stop !)) (init ! 14 refl (tt, tt)) $
+      assigns ! (agg ! (and-then ! (load ! (from ! (stop !)) (look ! 14 refl)) (and-then ! (load ! (from ! (fld ! refl (stop !))) (look-in ! 60 (sub ! 1 refl (whole !)))) (no-more !)))) (from ! (stop !)) (init ! 12 refl (tt, (tt, (record { fits = out-room .0 }, tt)))) $
+      assigns ! (bin ! (load ! (from ! (stop !)) (look ! 50 refl)) (lit ! tt) (le-add 6 (length (s .says)))) (from ! (stop !)) (init ! 10 refl (tt, record { fits = less answered 6 (iscarryout .1) })) $
       lends ! tt linkD h₂ (λ ν₅ δ₅.
       move ! (3 ∷ 4 ∷ []) $
       lendsS ! tt byteD m out₂ long₂ (λ ν₆ δ₆ rm₆.
@@ -315,7 +322,7 @@ module _ {M : Type 1} (𝓤 : URA M) (H : Heap 𝓤) (A : Atoms 𝓤) (W : Given
       move ! (5 ∷ 2 ∷ 6 ∷ 3 ∷ 0 ∷ 1 ∷ []) $
       calls-any ! (fmOf 𝓤 H (W .laws) 𝓣) take-message.ended (take-message.clauses 𝓤 H A mem run) known-take-message (((ν₅ ∷ [], (ν₆ ∷ [], tt)), (fullShare, (fullShare, tt)), tt, (record { ptr = link .ptr; name = δ₅; now = h₂ }, (record { ptr = out .ptr; name = δ₆; now = out₂ }, (1, (answered - 6, tt)))), (vptr lb lo ∷ [], (sliceVal (out .ptr) m ∷ [], (sizeD .val 1 ∷ [], (sizeD .val (answered - 6) ∷ [], tt))))), tt) (factI 𝓤 _ (emp 𝓤) (cleared-range h₁ (host-byte-range h (lt .1) b), one-le, answered-room b h (out .now) ds is ps′ (lt .2))) sizeD framed (λ ws. (ws .0 ≡ h₃) × (ws .1 .0 ≡ out₃))
       (λ v r ws is. fact-use 𝓤 _ (id⊢ 𝓤 _) (λ z. factI 𝓤 _ _ ((z .link, z .buffer), pinned sizeD r framed v is (z .answer))))
-      (and-then ! (load ! (from ! (stop !)) (look ! 14 refl)) (and-then ! (load ! (from ! (stop !)) (look ! 10 refl)) (and-then ! (lit ! tt) (and-then ! (load ! (from ! (stop !)) (look ! 8 refl)) (no-more !))))) (λ ws z istakemessage.
+      (and-then ! (load ! (from ! (stop !)) (look ! 15 refl)) (and-then ! (load ! (from ! (stop !)) (look ! 11 refl)) (and-then ! (lit ! tt) (and-then ! (load ! (from ! (stop !)) (look ! 9 refl)) (no-more !))))) (λ ws z istakemessage.
       move ! (0 ∷ 2 ∷ 7 ∷ []) $
       rewrite ! 1 (λ (y : Link). ‵ (fres δ₅ (linkD .row .coded .code y))) (z .0) refl $ backs ! tt linkD h₂ h₃ $
       move ! (2 ∷ 3 ∷ 6 ∷ []) $
@@ -324,12 +331,12 @@ module _ {M : Type 1} (𝓤 : URA M) (H : Heap 𝓤) (A : Atoms 𝓤) (W : Given
       toss ! $
       move ! (4 ∷ []) $
       toss ! $
-      land ! (from ! (stop !)) (init ! 43 refl (typed 𝓤 H A sizeD W framed istakemessage .0)) $
-      assigns ! (bin ! (load ! (from ! (stop !)) (look ! 43 refl)) (lit ! tt) (record { fits = one-more })) (from ! (stop !)) (store ! 9 refl (tt, record { fits = one-more })) $
-      assigns ! (agg ! (and-then ! (lit ! tt) (and-then ! (load ! (from ! (stop !)) (look ! 9 refl)) (no-more !)))) (from ! (stop !)) (init ! 67 refl (typed 𝓤 H A replyD W (Accepted (framed + 1)) (reply-good (framed + 1) one-more) .0)) $
-      returns ! (look ! 67 refl) $ behind ! 9 $ frees-all ! (cell ∷ cell ∷ cell ∷ cell ∷ cell ∷ cell ∷ cell ∷ cell ∷ cell ∷ cell ∷ cell ∷ cell ∷ cell ∷ cell ∷ cell ∷ cell ∷ cell ∷ cell ∷ cell ∷ cell ∷ cell ∷ cell ∷ cell ∷ cell ∷ cell ∷ cell ∷ cell ∷ cell ∷ cell ∷ cell ∷ []) _ $
-      suffices ! _ (ends-in 5 𝓤 H A W ps replyD (f.clauses 𝓤 H A mem run) (κ0, (κ1, (κ2, (κ3, (κ4, tt))))) (q0, (q1, (q2, (q3, (q4, tt))))) x tt (Accepted (framed + 1)) (tt, (ds′, (is′, (tt, (h₃, (out₃, tt)))))) (tt, (sym longD, (sym longI, (tt, (tt, (sym long₃, tt)))))) (reply-good (framed + 1) one-more) (factI 𝓤 _ (emp 𝓤) (request-answered b h (out .now) ds is ps′ (lt .2) (lt .1) (asked some)))) $
-      nothing ! $ nothing ! $ nothing ! $ nothing ! $ keep ! (12 ∷ 10 ∷ 13 ∷ 8 ∷ 6 ∷ 0 ∷ 1 ∷ 11 ∷ 9 ∷ 2 ∷ 7 ∷ 5 ∷ 3 ∷ []) $ group ! 6 $ frame ! $ done !))))))))))))))))))))
+      land ! (from ! (stop !)) (init ! 48 refl (typed 𝓤 H A sizeD W framed istakemessage .0)) $
+      assigns ! (bin ! (load ! (from ! (stop !)) (look ! 48 refl)) (lit ! tt) (record { fits = one-more })) (from ! (stop !)) (store ! 10 refl (tt, record { fits = one-more })) $
+      assigns ! (agg ! (and-then ! (lit ! tt) (and-then ! (load ! (from ! (stop !)) (look ! 10 refl)) (no-more !)))) (from ! (stop !)) (init ! 72 refl (typed 𝓤 H A replyD W (Accepted (framed + 1)) (reply-good (framed + 1) one-more) .0)) $
+      returns ! (look ! 72 refl) $ behind ! 10 $ frees-all ! (cell ∷ cell ∷ cell ∷ cell ∷ cell ∷ cell ∷ cell ∷ cell ∷ cell ∷ cell ∷ cell ∷ cell ∷ cell ∷ cell ∷ cell ∷ cell ∷ cell ∷ cell ∷ cell ∷ cell ∷ cell ∷ cell ∷ cell ∷ cell ∷ cell ∷ cell ∷ cell ∷ cell ∷ cell ∷ cell ∷ cell ∷ cell ∷ []) _ $
+      suffices ! _ (ends-in 5 𝓤 H A W ps replyD (f.clauses 𝓤 H A mem run) (κ0, (κ1, (κ2, (κ3, (κ4, tt))))) (q0, (q1, (q2, (q3, (q4, tt))))) x tt (Accepted (framed + 1)) (tt, (ds′, (is′, (ps″, (h₃, (out₃, tt)))))) (tt, (sym longD, (sym longI, (sym longP, (tt, (sym long₃, tt)))))) (reply-good (framed + 1) one-more) (factI 𝓤 _ (emp 𝓤) (request-answered b h (out .now) ds is ps′ (lt .2) (lt .1) (asked some)))) $
+      nothing ! $ nothing ! $ nothing ! $ keep ! (13 ∷ 11 ∷ 9 ∷ 7 ∷ 5 ∷ 0 ∷ 1 ∷ 12 ∷ 10 ∷ 8 ∷ 6 ∷ 4 ∷ 2 ∷ []) $ group ! 6 $ frame ! $ done !))))))))))))))))))))))
 
 pub on-host-byte-spec : {M : Type 1} → stated.statement M
 unfolding code.routine tablesOf

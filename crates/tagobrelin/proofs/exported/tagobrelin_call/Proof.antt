@@ -79,7 +79,7 @@ use Rattle.tagobrelin.proofs.exported.tagobrelin_call.Statement as stat
 use Rattle.tagobrelin.proofs.exported.tagobrelin_call.Code as code
 
 abbrev ps : List (Param 6)
-ps = dataP 6 byteD ∷ dataP 6 byteD ∷ dataP 6 idD ∷ dataP 6 byteD ∷ shrSliceP 6 0 tt byteD ∷ mutSliceP 6 1 tt datapointD ∷ mutSliceP 6 2 tt itemD ∷ shrSliceP 6 3 tt byteD ∷ mutP 6 4 tt linkD ∷ mutSliceP 6 5 tt byteD ∷ []
+ps = dataP 6 byteD ∷ dataP 6 byteD ∷ dataP 6 idD ∷ dataP 6 byteD ∷ shrSliceP 6 0 tt byteD ∷ mutSliceP 6 1 tt datapointD ∷ mutSliceP 6 2 tt itemD ∷ mutSliceP 6 3 tt byteD ∷ mutP 6 4 tt linkD ∷ mutSliceP 6 5 tt byteD ∷ []
 
 abbrev C-is-event : {M : Type 1} (𝓤 : URA M) (H : Heap 𝓤) (A : Atoms 𝓤) (mem : Memory → SProp 𝓤) (run : Routine → Fun 𝓤) → Contract 𝓤
 C-is-event 𝓤 H A mem run = tripleOf 𝓤 H A is-event.signature (is-event.spec 𝓤 H A mem run)
@@ -120,66 +120,72 @@ module _ {M : Type 1} (𝓤 : URA M) (H : Heap 𝓤) (A : Atoms 𝓤) (W : Given
   walk : Walk 6 𝓤 H A W ps numberD (f.clauses 𝓤 H A mem run) 𝓣 code.function (κ0, (κ1, (κ2, (κ3, (κ4, (κ5, tt)))))) (q0, (q1, (q2, (q3, (q4, (q5, tt)))))) x tt
   walk =
       starts 𝓤 H A W 6 ps (κ0, (κ1, (κ2, (κ3, (κ4, (κ5, tt)))))) (q0, (q1, (q2, (q3, (q4, (q5, tt)))))) x ∵ enter ! (𝓣 .C) (𝓣 .Λ) code.function _ _ $ allocs-all ! (code.function .locals) (λ l. params1 ! $
-      pass1 ! (init ! 40 refl (typed 𝓤 H A byteD W event event-ok .0)) $
-      pass1 ! (init ! 38 refl (typed 𝓤 H A byteD W byte byte-ok .0)) $
-      pass1 ! (init ! 36 refl (typed 𝓤 H A idD W id id-ok .0)) $
-      pass1 ! (init ! 34 refl (typed 𝓤 H A byteD W outcome outcome-ok .0)) $
-      pass1 ! (init ! 32 refl (tt, (tt, (record { fits = value-room .0 }, tt)))) $
-      pass1 ! (init ! 30 refl (tt, (tt, (record { fits = datapoints-room .0 }, tt)))) $
-      pass1 ! (init ! 28 refl (tt, (tt, (record { fits = items-room .0 }, tt)))) $
-      pass1 ! (init ! 26 refl (tt, (tt, (record { fits = parameters-room .0 }, tt)))) $
-      pass1 ! (init ! 24 refl (tt, tt)) $
-      pass1 ! (init ! 22 refl (tt, (tt, (record { fits = out-room .0 }, tt)))) $
+      pass1 ! (init ! 44 refl (typed 𝓤 H A byteD W event event-ok .0)) $
+      pass1 ! (init ! 42 refl (typed 𝓤 H A byteD W byte byte-ok .0)) $
+      pass1 ! (init ! 40 refl (typed 𝓤 H A idD W id id-ok .0)) $
+      pass1 ! (init ! 38 refl (typed 𝓤 H A byteD W outcome outcome-ok .0)) $
+      pass1 ! (init ! 36 refl (tt, (tt, (record { fits = value-room .0 }, tt)))) $
+      pass1 ! (init ! 34 refl (tt, (tt, (record { fits = datapoints-room .0 }, tt)))) $
+      pass1 ! (init ! 32 refl (tt, (tt, (record { fits = items-room .0 }, tt)))) $
+      pass1 ! (init ! 30 refl (tt, (tt, (record { fits = parameters-room .0 }, tt)))) $
+      pass1 ! (init ! 28 refl (tt, tt)) $
+      pass1 ! (init ! 26 refl (tt, (tt, (record { fits = out-room .0 }, tt)))) $
       pass0 ! $
-      move ! (54 ∷ 44 ∷ 55 ∷ 45 ∷ 56 ∷ 46 ∷ 57 ∷ 47 ∷ 58 ∷ 48 ∷ 59 ∷ 49 ∷ []) $
+      move ! (58 ∷ 48 ∷ 59 ∷ 49 ∷ 60 ∷ 50 ∷ 61 ∷ 51 ∷ 62 ∷ 52 ∷ 63 ∷ 53 ∷ []) $
       calls-plain ! (fmOf 𝓤 H (W .laws) 𝓣) (byteD ∷ byteD ∷ []) boolD (is-event.clauses 𝓤 H A mem run) known-is-event (event, (outcome, tt)) tt (event-ok, (outcome-ok, tt)) (id⊢ 𝓤 _) (isEvent event outcome) (λ _ _. id⊢ 𝓤 _)
-      (λ _. (and-then ! (load ! (from ! (stop !)) (look ! 53 refl)) (and-then ! (load ! (from ! (stop !)) (look ! 47 refl)) (no-more !)))) (λ is-ok.
-      land ! (from ! (stop !)) (init ! 28 refl (typed 𝓤 H A boolD W (isEvent event outcome) is-ok .0)) $
-      assigns ! (un ! (load ! (from ! (stop !)) (look ! 28 refl)) tt) (from ! (stop !)) (init ! 26 refl (tt, tt)) $
-      leaves-early ! (load ! (from ! (stop !)) (look ! 26 refl)) (λ none.
-      assigns ! (of-opd ! (neg-lit ! tt)) (from ! (stop !)) (init ! 54 refl (typed 𝓤 H A numberD W noEvent none-ok .0)) $
-      returns-within ! Done refl (look ! 54 refl) $ behind ! 12 $ frees-all ! (room ∷ room ∷ room ∷ room ∷ room ∷ room ∷ room ∷ cell ∷ cell ∷ room ∷ room ∷ cell ∷ cell ∷ cell ∷ cell ∷ cell ∷ cell ∷ cell ∷ cell ∷ cell ∷ cell ∷ cell ∷ []) _ $
-      suffices ! _ (ends-in 6 𝓤 H A W ps numberD (f.clauses 𝓤 H A mem run) (κ0, (κ1, (κ2, (κ3, (κ4, (κ5, tt)))))) (q0, (q1, (q2, (q3, (q4, (q5, tt)))))) x tt noEvent (tt, (tt, (tt, (tt, (tt, (datapoints .now, (items .now, (tt, (h, (out .now, tt)))))))))) (tt, (tt, (tt, (tt, (tt, (refl, (refl, (tt, (tt, (refl, tt)))))))))) none-ok (factI 𝓤 _ (emp 𝓤) (no-event event byte id outcome (value .now) lent h (out .now) (no-T (isEvent event outcome) none)))) $
-      nothing ! $ nothing ! $ nothing ! $ nothing ! $ nothing ! $ nothing ! $ nothing ! $ nothing ! $ keep ! (13 ∷ 15 ∷ 17 ∷ 19 ∷ 21 ∷ 23 ∷ 0 ∷ 1 ∷ 2 ∷ 3 ∷ 4 ∷ 5 ∷ 14 ∷ 16 ∷ 6 ∷ 20 ∷ 22 ∷ 7 ∷ []) $ group ! 7 $ frame ! $ done !
+      (λ _. (and-then ! (load ! (from ! (stop !)) (look ! 57 refl)) (and-then ! (load ! (from ! (stop !)) (look ! 51 refl)) (no-more !)))) (λ is-ok.
+      land ! (from ! (stop !)) (init ! 32 refl (typed 𝓤 H A boolD W (isEvent event outcome) is-ok .0)) $
+      assigns ! (un ! (load ! (from ! (stop !)) (look ! 32 refl)) tt) (from ! (stop !)) (init ! 30 refl (tt, tt)) $
+      leaves-early ! (load ! (from ! (stop !)) (look ! 30 refl)) (λ none.
+      assigns ! (of-opd ! (neg-lit ! tt)) (from ! (stop !)) (init ! 58 refl (typed 𝓤 H A numberD W noEvent none-ok .0)) $
+      returns-within ! Done refl (look ! 58 refl) $ behind ! 12 $ frees-all ! (room ∷ room ∷ room ∷ room ∷ room ∷ room ∷ room ∷ room ∷ room ∷ cell ∷ cell ∷ room ∷ room ∷ cell ∷ cell ∷ cell ∷ cell ∷ cell ∷ cell ∷ cell ∷ cell ∷ cell ∷ cell ∷ cell ∷ []) _ $
+      suffices ! _ (ends-in 6 𝓤 H A W ps numberD (f.clauses 𝓤 H A mem run) (κ0, (κ1, (κ2, (κ3, (κ4, (κ5, tt)))))) (q0, (q1, (q2, (q3, (q4, (q5, tt)))))) x tt noEvent (tt, (tt, (tt, (tt, (tt, (datapoints .now, (items .now, (parameters .now, (h, (out .now, tt)))))))))) (tt, (tt, (tt, (tt, (tt, (refl, (refl, (refl, (tt, (refl, tt)))))))))) none-ok (factI 𝓤 _ (emp 𝓤) (no-event event byte id outcome (value .now) lent h (out .now) (no-T (isEvent event outcome) none)))) $
+      nothing ! $ nothing ! $ nothing ! $ nothing ! $ nothing ! $ nothing ! $ nothing ! $ keep ! (12 ∷ 14 ∷ 16 ∷ 18 ∷ 20 ∷ 22 ∷ 0 ∷ 1 ∷ 2 ∷ 3 ∷ 4 ∷ 5 ∷ 13 ∷ 15 ∷ 17 ∷ 19 ∷ 21 ∷ 6 ∷ []) $ group ! 7 $ frame ! $ done !
       ) (λ some.
       calls-plain ! (fmOf 𝓤 H (W .laws) 𝓣) (byteD ∷ byteD ∷ idD ∷ byteD ∷ []) eventD (event-numbered.clauses 𝓤 H A mem run) known-event-numbered (event, (byte, (id, (outcome, tt)))) tt (event-ok, (byte-ok, (id-ok, (outcome-ok, tt)))) (id⊢ 𝓤 _) happened (λ _ _. id⊢ 𝓤 _)
-      (λ _. (and-then ! (load ! (from ! (stop !)) (look ! 53 refl)) (and-then ! (load ! (from ! (stop !)) (look ! 51 refl)) (and-then ! (load ! (from ! (stop !)) (look ! 49 refl)) (and-then ! (load ! (from ! (stop !)) (look ! 47 refl)) (no-more !)))))) (λ happened-ok.
-      land ! (from ! (stop !)) (init ! 32 refl (typed 𝓤 H A eventD W happened happened-ok .0)) $
-      assigns ! (addr ! (from ! (fld ! refl (hop ! (look-in ! 42 (sub ! 0 refl (whole !))) (stop !))))) (from ! (stop !)) (init ! 24 refl (tt, tt)) $
-      assigns ! (agg ! (and-then ! (load ! (from ! (stop !)) (look ! 24 refl)) (and-then ! (load ! (from ! (fld ! refl (stop !))) (look-in ! 42 (sub ! 1 refl (whole !)))) (no-more !)))) (from ! (stop !)) (init ! 22 refl (tt, (tt, (record { fits = datapoints-room .0 }, tt)))) $
-      assigns ! (addr ! (from ! (fld ! refl (hop ! (look-in ! 40 (sub ! 0 refl (whole !))) (stop !))))) (from ! (stop !)) (init ! 20 refl (tt, tt)) $
-      assigns ! (agg ! (and-then ! (load ! (from ! (stop !)) (look ! 20 refl)) (and-then ! (load ! (from ! (fld ! refl (stop !))) (look-in ! 40 (sub ! 1 refl (whole !)))) (no-more !)))) (from ! (stop !)) (init ! 18 refl (tt, (tt, (record { fits = items-room .0 }, tt)))) $
-      assigns ! (addr ! (from ! (hop ! (look ! 36 refl) (stop !)))) (from ! (stop !)) (init ! 16 refl (tt, tt)) $
-      assigns ! (addr ! (from ! (fld ! refl (hop ! (look-in ! 34 (sub ! 0 refl (whole !))) (stop !))))) (from ! (stop !)) (init ! 14 refl (tt, tt)) $
-      assigns ! (agg ! (and-then ! (load ! (from ! (stop !)) (look ! 14 refl)) (and-then ! (load ! (from ! (fld ! refl (stop !))) (look-in ! 34 (sub ! 1 refl (whole !)))) (no-more !)))) (from ! (stop !)) (init ! 12 refl (tt, (tt, (record { fits = out-room .0 }, tt)))) $
+      (λ _. (and-then ! (load ! (from ! (stop !)) (look ! 57 refl)) (and-then ! (load ! (from ! (stop !)) (look ! 55 refl)) (and-then ! (load ! (from ! (stop !)) (look ! 53 refl)) (and-then ! (load ! (from ! (stop !)) (look ! 51 refl)) (no-more !)))))) (λ happened-ok.
+      land ! (from ! (stop !)) (init ! 36 refl (typed 𝓤 H A eventD W happened happened-ok .0)) $
+      assigns ! (addr ! (from ! (fld ! refl (hop ! (look-in ! 46 (sub ! 0 refl (whole !))) (stop !))))) (from ! (stop !)) (init ! 28 refl (tt, tt)) $
+      assigns ! (agg ! (and-then ! (load ! (from ! (stop !)) (look ! 28 refl)) (and-then ! (load ! (from ! (fld ! refl (stop !))) (look-in ! 46 (sub ! 1 refl (whole !)))) (no-more !)))) (from ! (stop !)) (init ! 26 refl (tt, (tt, (record { fits = datapoints-room .0 }, tt)))) $
+      assigns ! (addr ! (from ! (fld ! refl (hop ! (look-in ! 44 (sub ! 0 refl (whole !))) (stop !))))) (from ! (stop !)) (init ! 24 refl (tt, tt)) $
+      assigns ! (agg ! (and-then ! (load ! (from ! (stop !)) (look ! 24 refl)) (and-then ! (load ! (from ! (fld ! refl (stop !))) (look-in ! 44 (sub ! 1 refl (whole !)))) (no-more !)))) (from ! (stop !)) (init ! 22 refl (tt, (tt, (record { fits = items-room .0 }, tt)))) $
+      assigns ! (addr ! (from ! (fld ! refl (hop ! (look-in ! 42 (sub ! 0 refl (whole !))) (stop !))))) (from ! (stop !)) (init ! 20 refl (tt, tt)) $
+      assigns ! (agg ! (and-then ! (load ! (from ! (stop !)) (look ! 20 refl)) (and-then ! (load ! (from ! (fld ! refl (stop !))) (look-in ! 42 (sub ! 1 refl (whole !)))) (no-more !)))) (from ! (stop !)) (init ! 18 refl (tt, (tt, (record { fits = parameters-room .0 }, tt)))) $
+      assigns ! (addr ! (from ! (hop ! (look ! 40 refl) (stop !)))) (from ! (stop !)) (init ! 16 refl (tt, tt)) $
+      assigns ! (addr ! (from ! (fld ! refl (hop ! (look-in ! 38 (sub ! 0 refl (whole !))) (stop !))))) (from ! (stop !)) (init ! 14 refl (tt, tt)) $
+      assigns ! (agg ! (and-then ! (load ! (from ! (stop !)) (look ! 14 refl)) (and-then ! (load ! (from ! (fld ! refl (stop !))) (look-in ! 38 (sub ! 1 refl (whole !)))) (no-more !)))) (from ! (stop !)) (init ! 12 refl (tt, (tt, (record { fits = out-room .0 }, tt)))) $
       move ! (2 ∷ 3 ∷ []) $
       lendsS ! tt datapointD (length (datapoints .now)) (datapoints .now) refl (λ ν1 δ1 rm1.
       move ! (5 ∷ 6 ∷ []) $
       lendsS ! tt itemD (length (items .now)) (items .now) refl (λ ν2 δ2 rm2.
-      move ! (10 ∷ 11 ∷ []) $
+      move ! (8 ∷ 9 ∷ []) $
+      lendsS ! tt byteD (length (parameters .now)) (parameters .now) refl (λ ν3 δ3 rm3.
+      move ! (11 ∷ 12 ∷ []) $
       lends ! tt linkD h (λ ν4 δ4.
-      move ! (13 ∷ 14 ∷ []) $
+      move ! (14 ∷ 15 ∷ []) $
       lendsS ! tt byteD (length (out .now)) (out .now) refl (λ ν5 δ5 rm5.
       use0 W (‵ (eventD .row .own happened (eventD .val happened ∷ []))) (eventD .made 𝓤 H A W happened (eventD .val happened ∷ []) happened-ok) $
-      move ! (14 ∷ 10 ∷ 7 ∷ 16 ∷ 4 ∷ 1 ∷ 0 ∷ 13 ∷ 11 ∷ 8 ∷ 15 ∷ 5 ∷ 2 ∷ []) $
-      calls-any ! (fmOf 𝓤 H (W .laws) 𝓣) call.ended (call.clauses 𝓤 H A mem run) known-call (((κ0, (ν1 ∷ [], (ν2 ∷ [], (κ3, (ν4 ∷ [], (ν5 ∷ [], tt)))))), (q0, (fullShare, (fullShare, (q3, (fullShare, (fullShare, tt)))))), tt, (happened, (value, (record { ptr = datapoints .ptr; name = δ1; now = datapoints .now }, (record { ptr = items .ptr; name = δ2; now = items .now }, (parameters, (record { ptr = link .ptr; name = δ4; now = h }, (record { ptr = out .ptr; name = δ5; now = out .now }, tt))))))), (eventD .val happened ∷ [], (sliceVal (value .ptr) (length (value .now)) ∷ [], (sliceVal (datapoints .ptr) (length (datapoints .now)) ∷ [], (sliceVal (items .ptr) (length (items .now)) ∷ [], (sliceVal (parameters .ptr) (length (parameters .now)) ∷ [], (vptr (link .ptr .0) (link .ptr .1) ∷ [], (sliceVal (out .ptr) (length (out .now)) ∷ [], tt)))))))), tt) (id⊢ 𝓤 _) replyD (after .reply) (λ ws. ((ws .1 .1 .0) ≡ after .tables .datapoints) × ((ws .1 .1 .1 .0) ≡ after .tables .items) × ((ws .1 .1 .1 .1 .1 .0) ≡ after .link) × ((ws .1 .1 .1 .1 .1 .1 .0) ≡ after .output) × (parameters .now ≡ after .tables .parameters))
-      (λ v r ws is. fact-use 𝓤 _ (id⊢ 𝓤 _) (λ z. factI 𝓤 _ _ ((ap (λ (u : ServerTables). u .datapoints) (z .tables), ap (λ (u : ServerTables). u .items) (z .tables), z .link, z .output, ap (λ (u : ServerTables). u .parameters) (z .tables)), pinned replyD r (after .reply) v is (reply-told r (after .reply) (z .reply)))))
-      (and-then ! (load ! (from ! (stop !)) (look ! 25 refl)) (and-then ! (load ! (from ! (stop !)) (look ! 37 refl)) (and-then ! (load ! (from ! (stop !)) (look ! 15 refl)) (and-then ! (load ! (from ! (stop !)) (look ! 11 refl)) (and-then ! (load ! (from ! (stop !)) (look ! 31 refl)) (and-then ! (load ! (from ! (stop !)) (look ! 9 refl)) (and-then ! (load ! (from ! (stop !)) (look ! 5 refl)) (no-more !)))))))) (λ ws z iscall.
-      move ! (1 ∷ 8 ∷ 16 ∷ []) $
+      move ! (17 ∷ 13 ∷ 10 ∷ 7 ∷ 4 ∷ 1 ∷ 0 ∷ 16 ∷ 14 ∷ 11 ∷ 8 ∷ 5 ∷ 2 ∷ []) $
+      calls-any ! (fmOf 𝓤 H (W .laws) 𝓣) call.ended (call.clauses 𝓤 H A mem run) known-call (((κ0, (ν1 ∷ [], (ν2 ∷ [], (ν3 ∷ [], (ν4 ∷ [], (ν5 ∷ [], tt)))))), (q0, (fullShare, (fullShare, (fullShare, (fullShare, (fullShare, tt)))))), tt, (happened, (value, (record { ptr = datapoints .ptr; name = δ1; now = datapoints .now }, (record { ptr = items .ptr; name = δ2; now = items .now }, (record { ptr = parameters .ptr; name = δ3; now = parameters .now }, (record { ptr = link .ptr; name = δ4; now = h }, (record { ptr = out .ptr; name = δ5; now = out .now }, tt))))))), (eventD .val happened ∷ [], (sliceVal (value .ptr) (length (value .now)) ∷ [], (sliceVal (datapoints .ptr) (length (datapoints .now)) ∷ [], (sliceVal (items .ptr) (length (items .now)) ∷ [], (sliceVal (parameters .ptr) (length (parameters .now)) ∷ [], (vptr (link .ptr .0) (link .ptr .1) ∷ [], (sliceVal (out .ptr) (length (out .now)) ∷ [], tt)))))))), tt) (id⊢ 𝓤 _) replyD (after .reply) (λ ws. ((ws .1 .1 .0) ≡ after .tables .datapoints) × ((ws .1 .1 .1 .0) ≡ after .tables .items) × ((ws .1 .1 .1 .1 .0) ≡ after .tables .parameters) × ((ws .1 .1 .1 .1 .1 .0) ≡ after .link) × ((ws .1 .1 .1 .1 .1 .1 .0) ≡ after .output))
+      (λ v r ws is. fact-use 𝓤 _ (id⊢ 𝓤 _) (λ z. factI 𝓤 _ _ ((ap (λ (u : ServerTables). u .datapoints) (z .tables), ap (λ (u : ServerTables). u .items) (z .tables), ap (λ (u : ServerTables). u .parameters) (z .tables), z .link, z .output), pinned replyD r (after .reply) v is (reply-told r (after .reply) (z .reply)))))
+      (and-then ! (load ! (from ! (stop !)) (look ! 30 refl)) (and-then ! (load ! (from ! (stop !)) (look ! 42 refl)) (and-then ! (load ! (from ! (stop !)) (look ! 20 refl)) (and-then ! (load ! (from ! (stop !)) (look ! 16 refl)) (and-then ! (load ! (from ! (stop !)) (look ! 12 refl)) (and-then ! (load ! (from ! (stop !)) (look ! 10 refl)) (and-then ! (load ! (from ! (stop !)) (look ! 6 refl)) (no-more !)))))))) (λ ws z iscall.
+      move ! (1 ∷ 8 ∷ 17 ∷ []) $
       backsS ! tt datapointD (length (datapoints .now)) (datapoints .now) refl rm1 (ws .1 .1 .0) (after .tables .datapoints) (z .0) (λ long1.
-      move ! (3 ∷ 9 ∷ 15 ∷ []) $
+      move ! (3 ∷ 9 ∷ 16 ∷ []) $
       backsS ! tt itemD (length (items .now)) (items .now) refl rm2 (ws .1 .1 .1 .0) (after .tables .items) (z .1) (λ long2.
-      move ! (6 ∷ 11 ∷ 14 ∷ []) $
-      rewrite ! 1 (λ (y : Link). ‵ (fres δ4 (linkD .row .coded .code y))) (z .2) refl $ backs ! tt linkD h (after .link) $
-      move ! (8 ∷ 12 ∷ 13 ∷ []) $
-      backsS ! tt byteD (length (out .now)) (out .now) refl rm5 (ws .1 .1 .1 .1 .1 .1 .0) (after .output) (z .3) (λ long5.
-      land ! (from ! (stop !)) (init ! 31 refl (typed 𝓤 H A replyD W (after .reply) iscall .0)) $
+      move ! (5 ∷ 10 ∷ 15 ∷ []) $
+      backsS ! tt byteD (length (parameters .now)) (parameters .now) refl rm3 (ws .1 .1 .1 .1 .0) (after .tables .parameters) (z .2) (λ long3.
+      move ! (7 ∷ 11 ∷ 14 ∷ []) $
+      rewrite ! 1 (λ (y : Link). ‵ (fres δ4 (linkD .row .coded .code y))) (z .3) refl $ backs ! tt linkD h (after .link) $
+      move ! (9 ∷ 12 ∷ 13 ∷ []) $
+      backsS ! tt byteD (length (out .now)) (out .now) refl rm5 (ws .1 .1 .1 .1 .1 .1 .0) (after .output) (z .4) (λ long5.
+      land ! (from ! (stop !)) (init ! 35 refl (typed 𝓤 H A replyD W (after .reply) iscall .0)) $
       calls-plain ! (fmOf 𝓤 H (W .laws) 𝓣) (replyD ∷ []) numberD (reply-number.clauses 𝓤 H A mem run) known-reply-number (after .reply, tt) tt (iscall, tt) (factI 𝓤 _ (emp 𝓤) (count-fits event byte id outcome (value .now) lent h (out .now))) (replyNumber (after .reply)) (λ _ _. id⊢ 𝓤 _)
-      (λ _. (and-then ! (load ! (from ! (stop !)) (look ! 32 refl)) (no-more !))) (λ number-ok.
-      land ! (from ! (stop !)) (init ! 55 refl (typed 𝓤 H A numberD W (replyNumber (after .reply)) number-ok .0)) $
-      returns ! (look ! 55 refl) $ behind ! 13 $ frees-all ! (cell ∷ cell ∷ cell ∷ cell ∷ cell ∷ cell ∷ cell ∷ cell ∷ cell ∷ cell ∷ cell ∷ cell ∷ cell ∷ cell ∷ cell ∷ cell ∷ cell ∷ cell ∷ cell ∷ cell ∷ cell ∷ cell ∷ []) _ $
-      suffices ! _ (ends-in 6 𝓤 H A W ps numberD (f.clauses 𝓤 H A mem run) (κ0, (κ1, (κ2, (κ3, (κ4, (κ5, tt)))))) (q0, (q1, (q2, (q3, (q4, (q5, tt)))))) x tt (replyNumber (after .reply)) (tt, (tt, (tt, (tt, (tt, (after .tables .datapoints, (after .tables .items, (tt, (after .link, (after .output, tt)))))))))) (tt, (tt, (tt, (tt, (tt, (sym long1, (sym long2, (tt, (tt, (sym long5, tt)))))))))) number-ok (factI 𝓤 _ (emp 𝓤) (an-event event byte id outcome (value .now) lent h (out .now) (yes-T (isEvent event outcome) some) (z .4)))) $
-      nothing ! $ nothing ! $ nothing ! $ nothing ! $ nothing ! $ nothing ! $ nothing ! $ nothing ! $ keep ! (20 ∷ 19 ∷ 17 ∷ 21 ∷ 15 ∷ 13 ∷ 0 ∷ 1 ∷ 2 ∷ 3 ∷ 4 ∷ 5 ∷ 18 ∷ 16 ∷ 6 ∷ 14 ∷ 12 ∷ 7 ∷ []) $ group ! 7 $ frame ! $ done !)))))))))))))
+      (λ _. (and-then ! (load ! (from ! (stop !)) (look ! 36 refl)) (no-more !))) (λ number-ok.
+      land ! (from ! (stop !)) (init ! 59 refl (typed 𝓤 H A numberD W (replyNumber (after .reply)) number-ok .0)) $
+      returns ! (look ! 59 refl) $ behind ! 13 $ frees-all ! (cell ∷ cell ∷ cell ∷ cell ∷ cell ∷ cell ∷ cell ∷ cell ∷ cell ∷ cell ∷ cell ∷ cell ∷ cell ∷ cell ∷ cell ∷ cell ∷ cell ∷ cell ∷ cell ∷ cell ∷ cell ∷ cell ∷ cell ∷ cell ∷ []) _ $
+      suffices ! _ (ends-in 6 𝓤 H A W ps numberD (f.clauses 𝓤 H A mem run) (κ0, (κ1, (κ2, (κ3, (κ4, (κ5, tt)))))) (q0, (q1, (q2, (q3, (q4, (q5, tt)))))) x tt (replyNumber (after .reply)) (tt, (tt, (tt, (tt, (tt, (after .tables .datapoints, (after .tables .items, (after .tables .parameters, (after .link, (after .output, tt)))))))))) (tt, (tt, (tt, (tt, (tt, (sym long1, (sym long2, (sym long3, (tt, (sym long5, tt)))))))))) number-ok (factI 𝓤 _ (emp 𝓤) (an-event event byte id outcome (value .now) lent h (out .now) (yes-T (isEvent event outcome) some)))) $
+      nothing ! $ nothing ! $ nothing ! $ nothing ! $ nothing ! $ nothing ! $ nothing ! $ keep ! (21 ∷ 20 ∷ 18 ∷ 16 ∷ 14 ∷ 12 ∷ 0 ∷ 1 ∷ 2 ∷ 3 ∷ 4 ∷ 5 ∷ 19 ∷ 17 ∷ 15 ∷ 13 ∷ 11 ∷ 6 ∷ []) $ group ! 7 $ frame ! $ done !)))))))))))))))
 
 pub tagobrelin-call-spec : {M : Type 1} → stated.statement M
 unfolding code.routine tablesOf

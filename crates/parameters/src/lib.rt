@@ -1,0 +1,2 @@
+// SetParameterByte.
+pub mod parameter;
