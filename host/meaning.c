@@ -130,14 +130,14 @@ static void show_result(FILE *to, const uint8_t *message, size_t count)
         fprintf(to, "error %u%s, ID %u", message[6], choice(errors, COUNT(errors), message[6]), number_of(message + 2));
 }
 
-/* the parameter bytes of a set or an answer: up to four, or the first three and the last */
+/* the parameter bytes of a set or an answer: up to eight, or the first three and the last */
 static void show_parameters(FILE *to, const uint8_t *message, size_t count)
 {
     if (count == 6)
         return;
     below(to);
-    show_bytes(to, message + 6, count > 10 ? 3 : count - 6);
-    if (count > 10)
+    show_bytes(to, message + 6, count > 14 ? 3 : count - 6);
+    if (count > 14)
         fprintf(to, " .. %02X", message[count - 1]);
 }
 

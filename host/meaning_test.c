@@ -114,16 +114,16 @@ int main(int count, char **words)
          SHOWN("\x68\x08\x08\x68\xF3\xF0\x88\x00\x05\x00\x00\x00\x70\x16",
                "68 08 08 68 F3 F0 88 00 05 00 00 00 70 16\n"
                "            data frame, count bit odd, 7 bytes: SetParameterByte.Res, done, start 5\n"));
-    test("of a set of five parameter bytes",
-         SHOWN("\x68\x0C\x0C\x68\x53\xF0\x08\x00\x05\x00\x05\xA1\xA2\xA3\xA4\xA5\x84\x16",
-               "68 0C 0C 68 53 F0 08 00 05 00 05 A1 A2 A3 A4 A5 84 16\n"
-               "            data frame, count bit even, 11 bytes: SetParameterByte.Req, start 5, number 5\n"
-               "            A1 A2 A3 .. A5\n"));
-    test("of an answer of four parameter bytes",
-         SHOWN("\x68\x0B\x0B\x68\xD3\xF0\x87\x00\x05\x00\x04\xA1\xA2\xA3\xA4\xDD\x16",
-               "68 0B 0B 68 D3 F0 87 00 05 00 04 A1 A2 A3 A4 DD 16\n"
-               "            data frame, count bit even, 10 bytes: GetParameterByte.Res, start 5, number 4\n"
-               "            A1 A2 A3 A4\n"));
+    test("of a set of nine parameter bytes",
+         SHOWN("\x68\x10\x10\x68\x53\xF0\x08\x00\x05\x00\x09\xA1\xA2\xA3\xA4\xA5\xA6\xA7\xA8\xA9\x26\x16",
+               "68 10 10 68 53 F0 08 00 05 00 09 A1 A2 A3 A4 A5 A6 A7 A8 A9 26 16\n"
+               "            data frame, count bit even, 15 bytes: SetParameterByte.Req, start 5, number 9\n"
+               "            A1 A2 A3 .. A9\n"));
+    test("of an answer of eight parameter bytes",
+         SHOWN("\x68\x0F\x0F\x68\xD3\xF0\x87\x00\x05\x00\x08\xA1\xA2\xA3\xA4\xA5\xA6\xA7\xA8\x7B\x16",
+               "68 0F 0F 68 D3 F0 87 00 05 00 08 A1 A2 A3 A4 A5 A6 A7 A8 7B 16\n"
+               "            data frame, count bit even, 14 bytes: GetParameterByte.Res, start 5, number 8\n"
+               "            A1 A2 A3 A4 A5 A6 A7 A8\n"));
     test("of a set of no parameter bytes",
          SHOWN("\x68\x07\x07\x68\x73\xF0\x08\x00\x00\x00\x00\x6B\x16",
                "68 07 07 68 73 F0 08 00 00 00 00 6B 16\n"

@@ -158,8 +158,8 @@ static void show_changed_parameters(void)
     show_bytes(tables.parameters + first, last - first);
 }
 
-/* Shows the datapoints, items and parameter bytes that are not as they were last shown: the bus side has to send those whose
- * status is requested. */
+/* Shows the datapoints and items that are not as they were last shown, and the stretch of such parameter bytes. The bus side has to
+ * send the datapoints whose status is requested. */
 static void show_changes(void)
 {
     for (size_t i = 0; i < tables.datapoint_count; i++) {

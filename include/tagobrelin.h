@@ -10,7 +10,7 @@
  *   - No pointer is null, not even one whose count is 0: pass the address of any byte then. (The face does.)
  *   - Behind each pointer lies as much memory as its count says, and the counts are elements, not bytes.
  *   - Datapoints, items and the link record lie at even addresses. (As C objects of these types they do.)
- *   - No two of these runs of memory overlap, and all but value, which is only read, can be written to.
+ *   - No two of these runs of memory overlap, and all but value, which is only read, lie in memory that can be written.
  *   - Nobody else writes to any of them while the call runs. So two calls for one server are never made at the same
  *     time, also not one of them in an interrupt or another thread; for two servers that share no memory they may be.
  * The contents may be anything: what is not in order is refused by number, and then no byte of anything is changed.
@@ -119,7 +119,7 @@ struct tagobrelin_server {
     size_t datapoint_count;
     struct tagobrelin_item *items;
     size_t item_count;
-    uint8_t *parameters; /* a host may set them; to keep what it set over a restart is the program's part */
+    uint8_t *parameters; /* a host may set them, while an event runs; to keep them over a restart is the program's part */
     size_t parameter_count;
     struct tagobrelin_link link;  /* made by tagobrelin_start; nobody else writes to it, or has to read it */
     uint8_t out[TAGOBRELIN_ROOM]; /* what the last event left to be sent */

@@ -108,7 +108,7 @@ fn rooms(bench: &mut Bench) {
     for room in 0..=263 {
         let answer = once(bench, &asked, Call { room, ..byte(0x16) });
         if answer.as_ref().err().copied() != (room < 262).then_some(-3) {
-            bench.missed("3 for a room below 262, and nothing set", &answer);
+            bench.missed("3 for a room below 262", &answer);
         }
         for event in 1..=6 {
             let value = tables::value(&mut bench.random, 14);

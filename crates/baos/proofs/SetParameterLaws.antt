@@ -1,6 +1,6 @@
--- The parameter bytes that a request sets: which indices are not in the table, and what the checks let through.
+-- The parameter bytes that a request sets: which indices are not in the table, what the checks let through, what is answered and left; and that no other service writes one.
 use Prim.Native.Nat.{ℕ, zero, suc, _+_, _-_, _≤_, _<_}
-use mathlib.Core.Bool.{Bool, true, false, not, _||_}
+use mathlib.Core.Bool.{Bool, true, false, _||_}
 use mathlib.Core.List.{List, []}
 use mathlib.Core.Path.{_≡_, refl, sym, _∙_, ap}
 use native.Mathlib.Nat.{pos-of-ne-zero}
@@ -29,9 +29,6 @@ module _ (count : ℕ) where
   present-index : (i : ℕ) → 1 ≤ i → i ≤ count → isAbsent i ≡ false
   present-index i l h = simp (ne-eqb i 0 (λ e. omega (arith, e, l)), le-ltb count i h)
 
-  absent-zero : isAbsent 0 ≡ true
-  absent-zero = refl
-
   absent-beyond : (i : ℕ) → count < i → isAbsent i ≡ true
   absent-beyond i h = simp (ne-eqb i 0 (λ e. omega (arith, e, h)), lt-ltb count i h)
 
@@ -42,7 +39,7 @@ module _ (count : ℕ) where
   at-start start (suc n) l e = simp e
 
   pub absent-at-zero : (number : ℕ) → 1 ≤ number → absentFinding (absentIndices count 0 number) ≡ bad 0 7
-  absent-at-zero number l = at-start 0 number l absent-zero
+  absent-at-zero number l = at-start 0 number l refl
 
   pub absent-at-start : (start number : ℕ) → 1 ≤ number → count < start → absentFinding (absentIndices count start number) ≡ bad start 7
   absent-at-start start number l h = at-start start number l (absent-beyond start h)
@@ -91,9 +88,9 @@ module _ (count : ℕ) (m : List ℕ) where
   abbrev finding : Finding
   finding = setParameterFinding count m
 
-  pub not-filled : (length m ≡ 6 + numberOf m → ⊥) → finding ≡ bad (startOf m) 10
+  pub other-size : (length m ≡ 6 + numberOf m → ⊥) → finding ≡ bad (startOf m) 10
   unfolding setParameterFinding
-  not-filled n = simp (ne-eqb (length m) (6 + numberOf m) n)
+  other-size n = simp (ne-eqb (length m) (6 + numberOf m) n)
 
   pub no-bytes : length m ≡ 6 + numberOf m → numberOf m ≡ 0 → finding ≡ bad (startOf m) 6
   unfolding setParameterFinding
@@ -141,7 +138,7 @@ module _ (count : ℕ) (m : List ℕ) where
       ranged l n (within s h) = none (passes-within l (pos-of-ne-zero n) s h)
 
       go : Dec (length m ≡ 6 + numberOf m) → Dec (numberOf m ≡ 0) → Checked
-      go (no n) x = ten (not-filled n)
+      go (no n) x = ten (other-size n)
       go (yes l) (yes z) = six (no-bytes l z)
       go (yes l) (no n) = ranged l n (range count (startOf m) (numberOf m) (pos-of-ne-zero n))
 
@@ -176,8 +173,8 @@ module _ (ps m : List ℕ) where
     pub says : served .says ≡ coded m (verdict .id) (verdict .code)
     pub after : served .after .parameters ≡ ps
 
-  pub set-refused : (verdict .code ≡ 0 → ⊥) → Refused
-  set-refused n =
+  pub set-parameters-refused : (verdict .code ≡ 0 → ⊥) → Refused
+  set-parameters-refused n =
       let s = bad-set-parameter (parametersOnly ps) m (verdict-bad (setParameterFinding (length ps) m) n) in
       record { says = ap (λ (x : Served). x .says) s; after = ap (λ (x : Served). x .after .parameters) s }
 
@@ -185,8 +182,8 @@ module _ (ps m : List ℕ) where
     pub says : served .says ≡ coded m (startOf m) 0
     pub after : served .after .parameters ≡ put ps (startOf m - 1) (drop 6 m)
 
-  pub set-accepted : verdict .code ≡ 0 → Accepted
-  set-accepted z =
+  pub set-parameters-accepted : verdict .code ≡ 0 → Accepted
+  set-parameters-accepted z =
       let s = fine-set-parameter (parametersOnly ps) m (passed (length ps) m z .fine-so) in
       record { says = ap (λ (x : Served). x .says) s; after = ap (λ (x : Served). x .after .parameters) s }
 

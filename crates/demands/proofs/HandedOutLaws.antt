@@ -221,8 +221,7 @@ module _ (id : ℕ) (t : Tables) (m : List ℕ) where
       by-finding (getFinding size bad-filter m es) (listing (subService m + 0x80) (startOf m) es) t
       (λ e. silent id t t _ (listing-silent id (subService m + 0x80) (startOf m) es (ap (λ (n : ℕ). eqb (n + 0x80) 0x85) s ∙ p) (ap (λ (n : ℕ). eqb (n + 0x80) 0xC1) s ∙ q)) (λ f. f))
 
-  -- a set, by what it does to the datapoints
-  -- a set by its finding, and by its entries
+  -- a set, by what it does to the datapoints; and one of entries
   a-finding : (f : Finding) (t′ : Tables) → (fresh id (t .datapoints) ≡ false → fresh id (t′ .datapoints) ≡ false)
       → Spends id t (afterOf f t t′) (answerOf f m (coded m (startOf m) 0))
   a-finding f t′ k = by-finding f (coded m (startOf m) 0) t′ (λ e. silent id t t′ (coded m (startOf m) 0) (coded-shows id (startOf m) 0 m) k)

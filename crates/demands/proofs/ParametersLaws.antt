@@ -1,7 +1,7 @@
 -- Requests to set parameter bytes: what they are answered and leave, and that nothing else changes a parameter byte.
 use Prim.Native.Nat.{ℕ, _+_, _-_, _≤_, _<_}
 use mathlib.Core.Path.{_≡_, refl, sym, _∙_, ap, subst}
-use mathlib.Core.Logic.{_≢_}
+use mathlib.Core.Logic.{_≢_, _⊎_, inl, inr}
 use mathlib.Core.Bool.{Bool, true, false, not, _||_}
 use mathlib.Core.List.{List, [], _∷_, _++_}
 use native.Mathlib.Omega.{arith}
@@ -27,12 +27,13 @@ use Rattle.baos.proofs.ParameterLaws.{parameters-all}
 use Rattle.baos.proofs.ServiceLaws.{parameters-say, not-answered, is-get-parameter, is-set-parameter, bad-set-parameter, fine-set-parameter}
 use Rattle.baos.specs.Inner.Gather.{sizeAsked, filterAsked, requestFinding, parametersPresent}
 use Rattle.baos.proofs.GetLaws.{verdict-bad}
-use Rattle.baos.proofs.SetParameterLaws.{Range, from-zero, beyond, over, within, range, absent-at-zero, absent-at-start, absent-behind, absent-none, not-filled, no-bytes, by-absent, Passed, passed, Checked, ten, six, seven, none, checked, parameters-kept}
+use Rattle.baos.proofs.SetParameterLaws.{Range, from-zero, beyond, over, within, range, absent-at-zero, absent-at-start, absent-behind, absent-none, other-size, no-bytes, by-absent, Passed, passed, Checked, ten, six, seven, none, checked, parameters-kept}
 use Rattle.calls.specs.declared.event.Event.{Event}
 use Rattle.calls.specs.declared.event.Event.the-variants.{HostByte, IdleMark, AckWaitOver, Poll, BusValue, TransmissionOutcome}
 use Rattle.calls.specs.Event.{atDatapoint}
 use Rattle.calls.specs.Call.{Done, saying, handedUp, onMoved, onPoll, happens, refusal, call}
 use Rattle.calls.proofs.CallJoins.{waited}
+use Rattle.walks.proofs.Branches.{no-T}
 use Rattle.demands.proofs.Demand2.{demand-2}
 use Rattle.demands.proofs.Demand3.{demand-3}
 use Rattle.demands.proofs.HandedOutLaws.{call-tables, by-call}
@@ -40,45 +41,41 @@ use Rattle.demands.specs.Answers.{Demand2}
 use Rattle.demands.specs.Entries.{messageUp}
 use Rattle.demands.specs.Status.{tablesAfterAll}
 use Rattle.demands.specs.Exchange.{Demand3}
-use Rattle.demands.specs.Parameters.{asksToSet, statesItsBytes, isParameterIndex, parameterAt, setAnswer, FirstAbsent, SetAnswered, BytesSet, EachAnswered, EachAllOrNothing, ReadBack, OnlyThatService, maySetParameters, OnlyThatServiceByCall, ByteCarriesOut, noneSets, ParametersStand, OfParameters2, OfParameters3, SettingParameters}
+use Rattle.demands.specs.Parameters.{asksToSetParameters, bytesAsStated, isParameterIndex, parameterAt, setParameterAnswer, FirstAbsent, SetParameterAnswered, BytesSet, EachAnswered, EachAllOrNothing, ReadBack, OnlyThatService, maySetParameters, OnlyThatServiceByCall, ByteCarriesOut, noneSets, ParametersStand, OfParameters2, OfParameters3, SettingParameters}
 
 -- ---- tests and what they say
-not-true : (b : Bool) → T (not b) → b ≡ false
-not-true true h = absurd h
-not-true false h = refl
-
 -- an index of the table
 module _ (t : Tables) (i : ℕ) where
-  index-is : T (isParameterIndex t i) → (1 ≤ i) × (i ≤ length (t .parameters))
+  index-bounds : T (isParameterIndex t i) → (1 ≤ i) × (i ≤ length (t .parameters))
   unfolding isParameterIndex
-  index-is h =
+  index-bounds h =
       (leb→le 1 i (left (leb 1 i) (leb i (length (t .parameters))) h), leb→le i (length (t .parameters)) (right (leb 1 i) (leb i (length (t .parameters))) h))
 
-  is-index : 1 ≤ i → i ≤ length (t .parameters) → T (isParameterIndex t i)
+  bounds-index : 1 ≤ i → i ≤ length (t .parameters) → T (isParameterIndex t i)
   unfolding isParameterIndex
-  is-index l h = both (leb 1 i) (leb i (length (t .parameters))) (le→leb 1 i l) (le→leb i (length (t .parameters)) h)
+  bounds-index l h = both (leb 1 i) (leb i (length (t .parameters))) (le→leb 1 i l) (le→leb i (length (t .parameters)) h)
 
   no-index : T (not (isParameterIndex t i)) → 1 ≤ i → i ≤ length (t .parameters) → ⊥
-  no-index n l h = true-T {b = false} (sym (not-true (isParameterIndex t i) n) ∙ T-true (isParameterIndex t i) (is-index l h))
+  no-index n l h = true-T {b = false} (sym (no-T (isParameterIndex t i) n) ∙ T-true (isParameterIndex t i) (bounds-index l h))
 
 -- an index of the range
 module _ (m : List ℕ) (i : ℕ) where
-  range-is : T (inRequest m i) → (startOf m ≤ i) × (i < startOf m + numberOf m)
+  range-bounds : T (inRequest m i) → (startOf m ≤ i) × (i < startOf m + numberOf m)
   unfolding inRequest
-  range-is h =
+  range-bounds h =
       (leb→le (startOf m) i (left (leb (startOf m) i) (ltb i (startOf m + numberOf m)) h), ltb-true i (startOf m + numberOf m) (T-true (ltb i (startOf m + numberOf m)) (right (leb (startOf m) i) (ltb i (startOf m + numberOf m)) h)))
 
-  in-range : startOf m ≤ i → i < startOf m + numberOf m → T (inRequest m i)
+  bounds-range : startOf m ≤ i → i < startOf m + numberOf m → T (inRequest m i)
   unfolding inRequest
-  in-range l h = both (leb (startOf m) i) (ltb i (startOf m + numberOf m)) (le→leb (startOf m) i l) (true-T (lt-ltb i (startOf m + numberOf m) h))
+  bounds-range l h = both (leb (startOf m) i) (ltb i (startOf m + numberOf m)) (le→leb (startOf m) i l) (true-T (lt-ltb i (startOf m + numberOf m) h))
 
-states : (m : List ℕ) → T (statesItsBytes m) → (length m ≡ 6 + numberOf m) × (1 ≤ numberOf m)
-unfolding statesItsBytes
+states : (m : List ℕ) → T (bytesAsStated m) → (length m ≡ 6 + numberOf m) × (1 ≤ numberOf m)
+unfolding bytesAsStated
 states m h =
     (eqb→eq (length m) (6 + numberOf m) (left (eqb (length m) (6 + numberOf m)) (leb 1 (numberOf m)) h), leb→le 1 (numberOf m) (right (eqb (length m) (6 + numberOf m)) (leb 1 (numberOf m)) h))
 
 -- ---- an answered message whose sub is 08
-module _ (t : Tables) (m : List ℕ) (a : T (asksToSet m)) where
+module _ (t : Tables) (m : List ℕ) (a : T (asksToSetParameters m)) where
   abbrev count : ℕ
   count = length (t .parameters)
 
@@ -89,106 +86,106 @@ module _ (t : Tables) (m : List ℕ) (a : T (asksToSet m)) where
   number = numberOf m
 
   sub-is : subService m ≡ 0x08
-  unfolding asksToSet
+  unfolding asksToSetParameters
   sub-is = eqb→eq (subService m) 8 (right (not (unanswered m)) (eqb (subService m) 8) a)
 
   carried : carriedOut t m ≡ setParameterByte t m
-  unfolding asksToSet
-  carried = is-set-parameter t m (not-true (unanswered m) (left (not (unanswered m)) (eqb (subService m) 8) a)) sub-is
+  unfolding asksToSetParameters
+  carried = is-set-parameter t m (no-T (unanswered m) (left (not (unanswered m)) (eqb (subService m) 8) a)) sub-is
 
-  as-answer : (i c : ℕ) → coded m i c ≡ setAnswer i c
-  unfolding coded setAnswer
+  as-answer : (i c : ℕ) → coded m i c ≡ setParameterAnswer i c
+  unfolding coded setParameterAnswer
   as-answer i c = ap (λ (n : ℕ). 0xF0 ∷ (n + 0x80) ∷ twoBytes i ++ 0 ∷ 0 ∷ c ∷ []) sub-is
 
-  bad-says : {i c : ℕ} → setParameterFinding count m ≡ bad i c → carriedOut t m .says ≡ setAnswer i c
+  bad-says : {i c : ℕ} → setParameterFinding count m ≡ bad i c → carriedOut t m .says ≡ setParameterAnswer i c
   bad-says {i} {c} e = ap (λ (s : Served). s .says) (carried ∙ bad-set-parameter t m e) ∙ as-answer i c
 
-  fine-says : setParameterFinding count m ≡ fine → carriedOut t m .says ≡ setAnswer start 0
+  fine-says : setParameterFinding count m ≡ fine → carriedOut t m .says ≡ setParameterAnswer start 0
   fine-says e = ap (λ (s : Served). s .says) (carried ∙ fine-set-parameter t m e) ∙ as-answer start 0
 
   -- by the first index that is not in the table, or none
-  module _ (s : T (statesItsBytes m)) where
+  module _ (s : T (bytesAsStated m)) where
     absent-so : setParameterFinding count m ≡ absentFinding (absentIndices count start number)
     absent-so = by-absent count m (states m s .0) (λ z. omega (arith, z, states m s .1))
 
-    seven-at-start : Range count start number → (1 ≤ start → start ≤ count → ⊥) → carriedOut t m .says ≡ setAnswer start 7
+    seven-at-start : Range count start number → (1 ≤ start → start ≤ count → ⊥) → carriedOut t m .says ≡ setParameterAnswer start 7
     seven-at-start (from-zero z) n =
         bad-says (absent-so ∙ ap (λ (i : ℕ). absentFinding (absentIndices count i number)) z ∙ absent-at-zero count number (states m s .1) ∙ ap (λ (i : ℕ). bad i 7) (sym z))
     seven-at-start (beyond h) n = bad-says (absent-so ∙ absent-at-start count start number (states m s .1) h)
     seven-at-start (over l h o) n = absurd (n l h)
     seven-at-start (within l h) n = absurd (n l (omega (arith, h, states m s .1)))
 
-    seven-behind : 1 ≤ start → start ≤ count → count + 1 < start + number → carriedOut t m .says ≡ setAnswer (count + 1) 7
+    seven-behind : 1 ≤ start → start ≤ count → count + 1 < start + number → carriedOut t m .says ≡ setParameterAnswer (count + 1) 7
     seven-behind l h o = bad-says (absent-so ∙ absent-behind count start number l (omega (arith, h)) o)
 
-    zero-within : 1 ≤ start → start + number ≤ count + 1 → carriedOut t m .says ≡ setAnswer start 0
+    zero-within : 1 ≤ start → start + number ≤ count + 1 → carriedOut t m .says ≡ setParameterAnswer start 0
     zero-within l h = fine-says (absent-so ∙ absent-none count start number l h)
 
     -- an index that is the first absent one is the start, or the one behind the last
-    seven-first : (i : ℕ) → FirstAbsent t m i → carriedOut t m .says ≡ setAnswer i 7
+    seven-first : (i : ℕ) → FirstAbsent t m i → carriedOut t m .says ≡ setParameterAnswer i 7
     seven-first i f = go (range count start number (states m s .1))
       where
         lies : (start ≤ i) × (i < start + number)
-        lies = range-is m i (f .in-range)
+        lies = range-bounds m i (f .in-range)
 
         -- where the start is not in the table, the index is the start
         is-start : (1 ≤ start → start ≤ count → ⊥) → start ≡ i
         is-start n = below (ltb start i) refl
           where
             below : (u : Bool) → ltb start i ≡ u → start ≡ i
-            below true e = let x = index-is t start (f .first start (omega arith) (ltb-true start i e)) in absurd (n (x .0) (x .1))
+            below true e = let x = index-bounds t start (f .first start (omega arith) (ltb-true start i e)) in absurd (n (x .0) (x .1))
             below false e = omega (arith, ltb-false start i e, lies .0)
 
-        go : Range count start number → carriedOut t m .says ≡ setAnswer i 7
-        go (from-zero z) = let n : 1 ≤ start → start ≤ count → ⊥ = λ l h. omega (arith, z, l) in seven-at-start (from-zero z) n ∙ ap (λ (j : ℕ). setAnswer j 7) (is-start n)
-        go (beyond b) = let n : 1 ≤ start → start ≤ count → ⊥ = λ l h. omega (arith, b, h) in seven-at-start (beyond b) n ∙ ap (λ (j : ℕ). setAnswer j 7) (is-start n)
-        go (over l h o) = seven-behind l h o ∙ ap (λ (j : ℕ). setAnswer j 7) (last (ltb count i) (ltb (count + 1) i) refl refl)
+        go : Range count start number → carriedOut t m .says ≡ setParameterAnswer i 7
+        go (from-zero z) = let n : 1 ≤ start → start ≤ count → ⊥ = λ l h. omega (arith, z, l) in seven-at-start (from-zero z) n ∙ ap (λ (j : ℕ). setParameterAnswer j 7) (is-start n)
+        go (beyond b) = let n : 1 ≤ start → start ≤ count → ⊥ = λ l h. omega (arith, b, h) in seven-at-start (beyond b) n ∙ ap (λ (j : ℕ). setParameterAnswer j 7) (is-start n)
+        go (over l h o) = seven-behind l h o ∙ ap (λ (j : ℕ). setParameterAnswer j 7) (last (ltb count i) (ltb (count + 1) i) refl refl)
           where
             last : (u v : Bool) → ltb count i ≡ u → ltb (count + 1) i ≡ v → count + 1 ≡ i
             last false v e g = absurd (no-index t i (f .absent) (omega (arith, l, lies .0)) (omega (arith, ltb-false count i e)))
-            last true true e g = let x = index-is t (count + 1) (f .first (count + 1) (omega (arith, h)) (ltb-true (count + 1) i g)) in absurd (omega (arith, x .1))
+            last true true e g = let x = index-bounds t (count + 1) (f .first (count + 1) (omega (arith, h)) (ltb-true (count + 1) i g)) in absurd (omega (arith, x .1))
             last true false e g = omega (arith, ltb-true count i e, ltb-false (count + 1) i g)
         go (within l h) = absurd (no-index t i (f .absent) (omega (arith, l, lies .0)) (omega (arith, h, lies .1)))
 
-    zero-all : ((i : ℕ) → T (inRequest m i) → T (isParameterIndex t i)) → carriedOut t m .says ≡ setAnswer start 0
+    zero-all : ((i : ℕ) → T (inRequest m i) → T (isParameterIndex t i)) → carriedOut t m .says ≡ setParameterAnswer start 0
     zero-all all =
         let n : 1 ≤ number = states m s .1 in
-        let x = index-is t start (all start (in-range m start (omega arith) (omega (arith, n)))) in
-        let y = index-is t (start + number - 1) (all (start + number - 1) (in-range m (start + number - 1) (omega (arith, n)) (omega (arith, n)))) in
+        let x = index-bounds t start (all start (bounds-range m start (omega arith) (omega (arith, n)))) in
+        let y = index-bounds t (start + number - 1) (all (start + number - 1) (bounds-range m (start + number - 1) (omega (arith, n)) (omega (arith, n)))) in
         zero-within (x .0) (omega (arith, y .1, n))
 
-  -- none of the codes is 5
-  never-5 : getD (carriedOut t m .says) 6 5 ≢ 5
-  unfolding setAnswer
-  never-5 five = go (checked count m)
+  -- one of four codes
+  one-of-four : let code = getD (carriedOut t m .says) 6 5 in (code ≡ 10) ⊎ (code ≡ 6) ⊎ (code ≡ 7) ⊎ (code ≡ 0)
+  unfolding setParameterAnswer
+  one-of-four = go (checked count m)
     where
-      code : (i c : ℕ) → carriedOut t m .says ≡ setAnswer i c → c ≡ 5
-      code i c e = sym (ap (λ (s : List ℕ). getD s 6 5) e) ∙ five
+      code : (i c : ℕ) → carriedOut t m .says ≡ setParameterAnswer i c → getD (carriedOut t m .says) 6 5 ≡ c
+      code i c e = ap (λ (s : List ℕ). getD s 6 5) e
 
-      go : Checked count m → ⊥
-      go (ten e) = omega (arith, code start 10 (bad-says e))
-      go (six e) = omega (arith, code start 6 (bad-says e))
-      go (seven i e) = omega (arith, code i 7 (bad-says e))
-      go (none p) = omega (arith, code start 0 (fine-says (p .fine-so)))
+      go : Checked count m → let c = getD (carriedOut t m .says) 6 5 in (c ≡ 10) ⊎ (c ≡ 6) ⊎ (c ≡ 7) ⊎ (c ≡ 0)
+      go (ten e) = inl (code start 10 (bad-says e))
+      go (six e) = inr (inl (code start 6 (bad-says e)))
+      go (seven i e) = inr (inr (inl (code i 7 (bad-says e))))
+      go (none p) = inr (inr (inr (code start 0 (fine-says (p .fine-so)))))
 
-  pub set-answered : SetAnswered t m
+  pub set-answered : SetParameterAnswered t m
   set-answered =
       record {
-        code-10 = λ n. bad-says (not-filled count m n);
+        code-10 = λ n. bad-says (other-size count m n);
         code-6 = λ l z. bad-says (no-bytes count m (omega (arith, l, z)) z);
         code-7 = λ s i f. seven-first s i f;
         code-0 = λ s all. zero-all s all;
         at-start = λ s n. seven-at-start s (range count start number (states m s .1)) (no-index t start n);
-        behind-last = λ s x o. seven-behind s (index-is t start x .0) (index-is t start x .1) o;
-        within = λ s x h. zero-within s (index-is t start x .0) h;
-        not-5 = never-5;
+        behind-last = λ s x o. seven-behind s (index-bounds t start x .0) (index-bounds t start x .1) o;
+        within = λ s x h. zero-within s (index-bounds t start x .0) h;
+        no-other = one-of-four;
       }
 
 pub each-answered : EachAnswered
 each-answered t m a = set-answered t m a
 
 -- ---- what it leaves
-module _ (t : Tables) (m : List ℕ) (a : T (asksToSet m)) where
+module _ (t : Tables) (m : List ℕ) (a : T (asksToSetParameters m)) where
   abbrev finding : Finding
   finding = setParameterFinding (length (t .parameters)) m
 
@@ -221,7 +218,7 @@ module _ (t : Tables) (m : List ℕ) (a : T (asksToSet m)) where
         let set : carriedOut t m .after .parameters ≡ put ps at (drop 6 m) = ap (λ (x : Tables). x .parameters) set-so in
         record {
           as-many = ap length set ∙ length-put ps at (drop 6 m) (p .fits);
-          in-range = λ i r. let q = range-is m i r in
+          in-range = λ i r. let q = range-bounds m i r in
               ap (λ (l : List ℕ). getD l (i - 1) 0) set
               ∙ getD-put-within ps at (drop 6 m) (p .fits) (i - 1) (omega (arith, q .0)) (omega (arith, q .1, p .from-one, bytes-long))
               ∙ getD-drop 6 m (i - 1 - at) 0 ∙ ap (λ (k : ℕ). getD m (6 + k) 0) {x = i - 1 - at} {y = i - startOf m} (omega (arith, q .0, p .from-one));
@@ -235,7 +232,7 @@ module _ (t : Tables) (m : List ℕ) (a : T (asksToSet m)) where
         other i l n false e = getD-put-behind (t .parameters) (startOf m - 1) (drop 6 m) (let-through .fits) (i - 1) (omega (arith, bytes-long, let-through .from-one, behind (ltb i (startOf m + numberOf m)) refl))
           where
             behind : (u : Bool) → ltb i (startOf m + numberOf m) ≡ u → startOf m + numberOf m ≤ i
-            behind true g = absurd (true-T {b = false} (sym (not-true (inRequest m i) n) ∙ T-true (inRequest m i) (in-range m i (ltb-false i (startOf m) e) (ltb-true i (startOf m + numberOf m) g))))
+            behind true g = absurd (true-T {b = false} (sym (no-T (inRequest m i) n) ∙ T-true (inRequest m i) (bounds-range m i (ltb-false i (startOf m) e) (ltb-true i (startOf m + numberOf m) g))))
             behind false g = ltb-false i (startOf m + numberOf m) g
 
   -- any other: nothing
@@ -256,7 +253,7 @@ present-all count start number l h = go (ltb number (count - (start - 1))) refl
     go true e = simp (ne-eqb start 0 (λ z. omega (arith, z, l)), e)
     go false e = simp (ne-eqb start 0 (λ z. omega (arith, z, l)), e) (omega (arith, ltb-false number (count - (start - 1)) e, l, h))
 
-module _ (t : Tables) (m g : List ℕ) (a : T (asksToSet m)) (short : length m ≤ longestMessage) (z : getD (carriedOut t m .says) 6 1 ≡ 0)
+module _ (t : Tables) (m g : List ℕ) (a : T (asksToSetParameters m)) (short : length m ≤ longestMessage) (z : getD (carriedOut t m .says) 6 1 ≡ 0)
     (six-bytes : length g ≡ 6) (main : mainService g ≡ 0xF0) (sub : subService g ≡ 0x07) (from-same : startOf g ≡ startOf m) (as-many : numberOf g ≡ numberOf m) where
   -- the table that was left
   abbrev left-table : List ℕ
@@ -297,12 +294,12 @@ read-back t m g a short z l main sub s n = given t m g a short z l main sub s n
 
 -- ---- only that service writes
 pub only-that-service : OnlyThatService
-unfolding asksToSet
+unfolding asksToSetParameters
 only-that-service t m n = go (unanswered m) refl
   where
     go : (u : Bool) → unanswered m ≡ u → carriedOut t m .after .parameters ≡ t .parameters
     go true e = ap (λ (s : Served). s .after .parameters) (not-answered t m e)
-    go false e = parameters-kept t m (λ s. true-T {b = false} (sym (not-true (asksToSet m) n) ∙ simp (e, eq-eqb (subService m) 8 s)))
+    go false e = parameters-kept t m (λ s. true-T {b = false} (sym (no-T (asksToSetParameters m) n) ∙ simp (e, eq-eqb (subService m) 8 s)))
 
 -- what the link hands up is carried out; where it is no message, nothing is
 up-carries : (u : Up) (s : List ℕ) (t : Tables) (l : Line) → handedUp u s t l .tables ≡ carriedOut t (messageUp u) .after
@@ -369,6 +366,13 @@ demand-2-reads-so d =
 demand-3-reads-so : Demand3 → OfParameters3
 demand-3-reads-so d lent m ds t k s r p q = let o = d lent m ds t k s r p q in ap (λ (x : Tables). x .parameters) (o .tables ∙ o .carried)
 
+-- both demands hold, and so these
+of-parameters-2 : OfParameters2
+of-parameters-2 = demand-2-reads-so demand-2
+
+of-parameters-3 : OfParameters3
+of-parameters-3 = demand-3-reads-so demand-3
+
 pub setting-parameters : SettingParameters
 setting-parameters =
     record {
@@ -381,11 +385,6 @@ setting-parameters =
       parameters-stand = parameters-stand;
       demand-2-reads-so = demand-2-reads-so;
       demand-3-reads-so = demand-3-reads-so;
+      of-parameters-2 = of-parameters-2;
+      of-parameters-3 = of-parameters-3;
     }
-
--- which both hold
-pub of-parameters-2 : OfParameters2
-of-parameters-2 = demand-2-reads-so demand-2
-
-pub of-parameters-3 : OfParameters3
-of-parameters-3 = demand-3-reads-so demand-3

@@ -3,7 +3,7 @@
 -- parameters among them. Refusals: code 5 no longer for sub 08; then 10, 6, and 7 with the first index not in the table."
 use Prim.Native.Nat.{ℕ, _+_, _-_, _≤_, _<_}
 use mathlib.Core.Path.{_≡_}
-use mathlib.Core.Logic.{_≢_}
+use mathlib.Core.Logic.{_≢_, _⊎_}
 use mathlib.Core.Bool.{Bool, true, false, not, _&&_, _||_}
 use mathlib.Core.List.{List, [], _∷_, _++_}
 use lib.ListN.{length, getD, drop}
@@ -33,12 +33,12 @@ use Rattle.demands.specs.Exchange.{Lent, exchange, requestFrame, Start, 
 
 -- ---- a request to set parameter bytes
 -- an answered message whose sub is that of SetParameterByte
-unfoldable pub asksToSet : List ℕ → Bool
-asksToSet m = not (unanswered m) && eqb (subService m) 0x08
+unfoldable pub asksToSetParameters : List ℕ → Bool
+asksToSetParameters m = not (unanswered m) && eqb (subService m) 0x08
 
 -- it has exactly as many bytes as it states, and at least one
-unfoldable pub statesItsBytes : List ℕ → Bool
-statesItsBytes m = eqb (length m) (6 + numberOf m) && leb 1 (numberOf m)
+unfoldable pub bytesAsStated : List ℕ → Bool
+bytesAsStated m = eqb (length m) (6 + numberOf m) && leb 1 (numberOf m)
 
 -- "parameter bytes [..]; the first has index 1"
 unfoldable pub isParameterIndex : Tables → ℕ → Bool
@@ -50,8 +50,8 @@ parameterAt t i = getD (t .parameters) (i - 1) 0
 
 -- ---- what it is answered
 -- 000, 3.18: main service F0, sub-service 88, an index, number of bytes 0, a code
-unfoldable pub setAnswer : ℕ → ℕ → List ℕ
-setAnswer i code = 0xF0 ∷ 0x88 ∷ twoBytes i ++ 0 ∷ 0 ∷ code ∷ []
+unfoldable pub setParameterAnswer : ℕ → ℕ → List ℕ
+setParameterAnswer i code = 0xF0 ∷ 0x88 ∷ twoBytes i ++ 0 ∷ 0 ∷ code ∷ []
 
 -- "the first index not in the table": an index of the range, not in the table, and each one in front of it is
 pub record FirstAbsent (t : Tables) (m : List ℕ) (i : ℕ) : Type 0 where
@@ -59,26 +59,26 @@ pub record FirstAbsent (t : Tables) (m : List ℕ) (i : ℕ) : Type 0 where
   pub absent : T (not (isParameterIndex t i))
   pub first : (j : ℕ) → startOf m ≤ j → j < i → T (isParameterIndex t j)
 
--- The codes in their order, "10, 6, and 7", and 0 where none of them is met. One of the four conditions is always met,
--- so that no other code is given: not 5 any more.
-pub record SetAnswered (t : Tables) (m : List ℕ) : Type 0 where
-  pub code-10 : length m ≢ 6 + numberOf m → carriedOut t m .says ≡ setAnswer (startOf m) 10
+-- The codes in their order, "10, 6, and 7", and 0 where none of them is met. There is no other, and so not 5 any more.
+pub record SetParameterAnswered (t : Tables) (m : List ℕ) : Type 0 where
+  pub code-10 : length m ≢ 6 + numberOf m → carriedOut t m .says ≡ setParameterAnswer (startOf m) 10
   -- also 000's request to flush what was written, which has start 0, number 0 and no byte
-  pub code-6 : length m ≡ 6 → numberOf m ≡ 0 → carriedOut t m .says ≡ setAnswer (startOf m) 6
-  pub code-7 : T (statesItsBytes m) → (i : ℕ) → FirstAbsent t m i → carriedOut t m .says ≡ setAnswer i 7
-  pub code-0 : T (statesItsBytes m) → ((i : ℕ) → T (inRequest m i) → T (isParameterIndex t i))
-      → carriedOut t m .says ≡ setAnswer (startOf m) 0
+  pub code-6 : length m ≡ 6 → numberOf m ≡ 0 → carriedOut t m .says ≡ setParameterAnswer (startOf m) 6
+  pub code-7 : T (bytesAsStated m) → (i : ℕ) → FirstAbsent t m i → carriedOut t m .says ≡ setParameterAnswer i 7
+  pub code-0 : T (bytesAsStated m) → ((i : ℕ) → T (inRequest m i) → T (isParameterIndex t i))
+      → carriedOut t m .says ≡ setParameterAnswer (startOf m) 0
   -- the same, reckoned: the first index not in the table is the start where that is 0 or behind the last, else the one
   -- behind the last
-  pub at-start : T (statesItsBytes m) → T (not (isParameterIndex t (startOf m)))
-      → carriedOut t m .says ≡ setAnswer (startOf m) 7
-  pub behind-last : T (statesItsBytes m) → T (isParameterIndex t (startOf m))
+  pub at-start : T (bytesAsStated m) → T (not (isParameterIndex t (startOf m)))
+      → carriedOut t m .says ≡ setParameterAnswer (startOf m) 7
+  pub behind-last : T (bytesAsStated m) → T (isParameterIndex t (startOf m))
       → length (t .parameters) + 1 < startOf m + numberOf m
-      → carriedOut t m .says ≡ setAnswer (length (t .parameters) + 1) 7
-  pub within : T (statesItsBytes m) → T (isParameterIndex t (startOf m))
+      → carriedOut t m .says ≡ setParameterAnswer (length (t .parameters) + 1) 7
+  pub within : T (bytesAsStated m) → T (isParameterIndex t (startOf m))
       → startOf m + numberOf m ≤ length (t .parameters) + 1
-      → carriedOut t m .says ≡ setAnswer (startOf m) 0
-  pub not-5 : getD (carriedOut t m .says) 6 5 ≢ 5
+      → carriedOut t m .says ≡ setParameterAnswer (startOf m) 0
+  -- the 5 would stand for no answer
+  pub no-other : let code = getD (carriedOut t m .says) 6 5 in (code ≡ 10) ⊎ (code ≡ 6) ⊎ (code ≡ 7) ⊎ (code ≡ 0)
 
 -- ---- what it leaves
 -- index by index: the request's byte where the index is in its range, and as it was where it is not
@@ -96,15 +96,16 @@ pub record AllOrNothing (t : Tables) (m : List ℕ) : Type 0 where
   pub nothing : getD (carriedOut t m .says) 6 1 ≢ 0 → carriedOut t m .after ≡ t
 
 abbrev pub EachAnswered : Type 0
-EachAnswered = (t : Tables) (m : List ℕ) → T (asksToSet m) → SetAnswered t m
+EachAnswered = (t : Tables) (m : List ℕ) → T (asksToSetParameters m) → SetParameterAnswered t m
 
 abbrev pub EachAllOrNothing : Type 0
-EachAllOrNothing = (t : Tables) (m : List ℕ) → T (asksToSet m) → AllOrNothing t m
+EachAllOrNothing = (t : Tables) (m : List ℕ) → T (asksToSetParameters m) → AllOrNothing t m
 
--- what was set is what the next GetParameterByte of the same start and number gives
+-- what was set is what the next GetParameterByte of the same start and number gives; the request is one that a frame can
+-- carry, so that the answer has room for its bytes
 abbrev pub ReadBack : Type 0
 ReadBack =
-    (t : Tables) (m g : List ℕ) → T (asksToSet m) → length m ≤ longestMessage → getD (carriedOut t m .says) 6 1 ≡ 0
+    (t : Tables) (m g : List ℕ) → T (asksToSetParameters m) → length m ≤ longestMessage → getD (carriedOut t m .says) 6 1 ≡ 0
     → length g ≡ 6 → mainService g ≡ 0xF0 → subService g ≡ 0x07 → startOf g ≡ startOf m → numberOf g ≡ numberOf m
     → carriedOut (carriedOut t m .after) g .says
     ≡ 0xF0 ∷ 0x87 ∷ twoBytes (startOf m) ++ twoBytes (numberOf m) ++ drop 6 m
@@ -112,11 +113,11 @@ ReadBack =
 -- ---- "only that service writes it"
 -- over messages
 abbrev pub OnlyThatService : Type 0
-OnlyThatService = (t : Tables) (m : List ℕ) → T (not (asksToSet m)) → carriedOut t m .after .parameters ≡ t .parameters
+OnlyThatService = (t : Tables) (m : List ℕ) → T (not (asksToSetParameters m)) → carriedOut t m .after .parameters ≡ t .parameters
 
 -- over events: of the six, only a host byte that ends such a request may write
 unfoldable pub maySetParameters : Event → Line → Bool
-maySetParameters (HostByte b) l = asksToSet (messageUp (onHostByte b l .up))
+maySetParameters (HostByte b) l = asksToSetParameters (messageUp (onHostByte b l .up))
 maySetParameters IdleMark l = false
 maySetParameters AckWaitOver l = false
 maySetParameters Poll l = false
@@ -128,7 +129,8 @@ OnlyThatServiceByCall =
     (e : Event) (v : List ℕ) (t : Tables) (k : Link) (out : List ℕ) → T (not (maySetParameters e (lineOf k)))
     → call e v t k out .tables .parameters ≡ t .parameters
 
--- a host byte leaves what the message that it ends does to the tables; a call that is refused leaves all (demand 1)
+-- a host byte leaves the tables as the message that it ends leaves them; a refused call leaves them as they were (demand
+-- 1)
 abbrev pub ByteCarriesOut : Type 0
 ByteCarriesOut =
     (b : ℕ) (v : List ℕ) (t : Tables) (k : Link) (out : List ℕ) → refusal (HostByte b) v t k (length out) ≡ 0
@@ -178,8 +180,12 @@ pub record SettingParameters : Type 0 where
   pub only-that-service-by-call : OnlyThatServiceByCall
   pub byte-carries-out : ByteCarriesOut
   pub parameters-stand : ParametersStand
+  -- by the demands' own texts: a field of each, read of the parameters
   pub demand-2-reads-so : Demand2 → OfParameters2
   pub demand-3-reads-so : Demand3 → OfParameters3
+  -- and both demands hold
+  pub of-parameters-2 : OfParameters2
+  pub of-parameters-3 : OfParameters3
 
 -- To read it: an answered message with sub 08 is answered by exactly one of the codes 10, 6, 7 and 0, by what it states
 -- and by which of its indices are in the table. With code 0 each index of its range has the request's byte and every

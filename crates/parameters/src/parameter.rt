@@ -22,6 +22,7 @@ fn absent_verdict(count: usize, start: u16, number: usize) -> Verdict
     requires { ⌜ (count ≤ 255) × (1 ≤ number) ⌝ }
     ensures { λ r. ⌜ r ≡ verdictOf (absentFinding (absentIndices count start number)) ⌝ }
 {
+    // The start itself, where it is 0 or behind the last.
     if start == 0 {
         return Verdict {
             id: start,
@@ -35,6 +36,7 @@ fn absent_verdict(count: usize, start: u16, number: usize) -> Verdict
             code: BAD_ID,
         };
     }
+    // Else the one behind the last.
     if count - first + 1 < number {
         return Verdict {
             id: count as u16 + 1,
@@ -48,7 +50,7 @@ fn absent_verdict(count: usize, start: u16, number: usize) -> Verdict
 }
 
 // Rows 10, 6 and 7, for a table of so many bytes.
-fn parameter_verdict(count: usize, m: &[u8]) -> Verdict
+fn set_parameter_verdict(count: usize, m: &[u8]) -> Verdict
     requires { ⌜ (count ≤ 255) × (6 ≤ length (now m)) ⌝ }
     ensures { λ r. ⌜ r ≡ verdictOf (setParameterFinding count (now (m .entry))) ⌝ }
 {
@@ -79,7 +81,7 @@ pub fn set_parameters(parameters: &mut [u8], m: &[u8], out: &mut [u8], at: usize
         (now (out .entry)) at (setParameterByte (parametersOnly (now (parameters .entry))) (now (m .entry)) .says) r
         (now (out .exit)) (now (parameters .exit)) ⌝ }
 {
-    let v = parameter_verdict(parameters.len(), m);
+    let v = set_parameter_verdict(parameters.len(), m);
     if v.code != NO_ERROR {
         return put_coded(&mut *out, at, m, v.id, v.code);
     }

@@ -9,15 +9,15 @@ use Rattle.words.specs.Words.{put}
 use Rattle.baos.specs.Message.{coded}
 use Rattle.baos.specs.declared.inner.Verdict.{Verdict}
 use Rattle.baos.proofs.WrittenLaws.{written-as}
-use Rattle.baos.proofs.SetParameterLaws.{passed, set-refused, set-accepted}
+use Rattle.baos.proofs.SetParameterLaws.{passed, set-parameters-refused, set-parameters-accepted}
 use Rattle.messages.proofs.message.put_coded.Reads as put-coded-reads
 use Rattle.messages.proofs.message.start_of.Reads as start-of-reads
-use Rattle.parameters.proofs.parameter.parameter_verdict.Reads as parameter-verdict-reads
+use Rattle.parameters.proofs.parameter.set_parameter_verdict.Reads as set-parameter-verdict-reads
 use Rattle.parameters.proofs.parameter.set_parameters.Statement.{statement}
 use Rattle.parameters.proofs.parameter.set_parameters.Tie as tie
 
-parameter-verdict-requires : tie.Need-parameter-verdict-requires
-parameter-verdict-requires c κs = search needs
+set-parameter-verdict-requires : tie.Need-set-parameter-verdict-requires
+set-parameter-verdict-requires c κs = search needs
 
 put-coded-requires : tie.Need-put-coded-requires
 put-coded-requires c κs = search needs
@@ -30,8 +30,8 @@ returns c =
     let a = c .before .before .before .before .before .before .before .before .before .before .args in
     let m = a .m .now in
     let ps = a .parameters .now in
-    let v = c .before .before .before .before .before .before .parameter-verdict .ensures in
-    let r = set-refused ps m (λ z. omega (arith, ap (λ (x : Verdict). x .code) v, z)) in
+    let v = c .before .before .before .before .before .before .set-parameter-verdict .ensures in
+    let r = set-parameters-refused ps m (λ z. omega (arith, ap (λ (x : Verdict). x .code) v, z)) in
     let w = written-as (a .out .now) (a .at) (c .before .before .put-coded .ensures) (r .says ∙ ap (λ (x : Verdict). coded m (x .id) (x .code)) (sym v)) in
     record { table = sym (r .after); buffer = w .buffer; ends = w .ends }
 
@@ -44,7 +44,7 @@ cast-put-bytes c = search needs
 sub-put-bytes : tie.Need-sub-put-bytes
 sub-put-bytes c =
     let a = c .before .before .before .before .before .before .before .before .args in
-    let v = c .before .before .before .before .parameter-verdict .ensures in
+    let v = c .before .before .before .before .set-parameter-verdict .ensures in
     let p = passed (length (a .parameters .now)) (a .m .now) (omega (arith, ap (λ (x : Verdict). x .code) v)) in
     omega (arith, c .before .start-of .ensures, p .from-one)
 
@@ -61,7 +61,7 @@ put-bytes-requires : tie.Need-put-bytes-requires
 put-bytes-requires c κs =
     let a = c .before .before .before .before .before .before .before .before .before .args in
     let m = a .m .now in
-    let v = c .before .before .before .before .before .parameter-verdict .ensures in
+    let v = c .before .before .before .before .before .set-parameter-verdict .ensures in
     let p = passed (length (a .parameters .now)) m (omega (arith, ap (λ (x : Verdict). x .code) v)) in
     omega (arith, c .before .before .start-of .ensures, p .fits, length-take-le (length m - 6) (drop 6 m) (omega (arith, length-drop 6 m)), length-drop 6 m)
 
@@ -79,9 +79,9 @@ returns-2 c =
     let a = c .before .before .before .before .before .before .before .before .before .before .before .before .before .before .before .before .args in
     let m = a .m .now in
     let ps = a .parameters .now in
-    let v = c .before .before .before .before .before .before .before .before .before .before .before .before .parameter-verdict .ensures in
+    let v = c .before .before .before .before .before .before .before .before .before .before .before .before .set-parameter-verdict .ensures in
     let s = c .before .before .before .before .before .before .before .before .before .start-of .ensures in
-    let g = set-accepted ps m (omega (arith, ap (λ (x : Verdict). x .code) v)) in
+    let g = set-parameters-accepted ps m (omega (arith, ap (λ (x : Verdict). x .code) v)) in
     let w = written-as (a .out .now) (a .at) (c .before .before .put-coded2 .ensures) (g .says ∙ ap (λ (i : ℕ). coded m i 0) (sym s)) in
     let e = c .before .before .before .before .before .before .put-bytes .ensures in
     record {
@@ -94,7 +94,7 @@ pub set-parameters-spec : {M : Type 1} → statement M
 set-parameters-spec =
     tie.close
     (tie.spec
-    parameter-verdict-requires
+    set-parameter-verdict-requires
     put-coded-requires
     same-length
     returns

@@ -5,12 +5,12 @@ use borrow.Author.Needs.{needs}
 use Rattle.baos.specs.Message.{verdictOf}
 use Rattle.baos.specs.Set.{absentIndices, absentFinding}
 use Rattle.baos.specs.declared.inner.Verdict.{Verdict}
-use Rattle.baos.proofs.SetParameterLaws.{not-filled, no-bytes, by-absent}
+use Rattle.baos.proofs.SetParameterLaws.{other-size, no-bytes, by-absent}
 use Rattle.messages.proofs.message.number_of.Reads as number-of-reads
 use Rattle.messages.proofs.message.start_of.Reads as start-of-reads
 use Rattle.parameters.proofs.parameter.absent_verdict.Reads as absent-verdict-reads
-use Rattle.parameters.proofs.parameter.parameter_verdict.Statement.{statement}
-use Rattle.parameters.proofs.parameter.parameter_verdict.Tie as tie
+use Rattle.parameters.proofs.parameter.set_parameter_verdict.Statement.{statement}
+use Rattle.parameters.proofs.parameter.set_parameter_verdict.Tie as tie
 
 start-of-requires : tie.Need-start-of-requires
 start-of-requires c κs = search needs
@@ -29,7 +29,7 @@ unfolding verdictOf
 returns c =
     let a = c .before .before .before .before .args in
     ap {B = Verdict} (λ (i : ℕ). record { id = i; code = 10 }) (c .before .before .start-of .ensures)
-    ∙ sym (ap verdictOf (not-filled (a .count) (a .m .now) (λ e. omega (arith, e, c .before .number-of .ensures))))
+    ∙ sym (ap verdictOf (other-size (a .count) (a .m .now) (λ e. omega (arith, e, c .before .number-of .ensures))))
 
 returns-2 : tie.Need-returns-2
 unfolding verdictOf
@@ -50,8 +50,8 @@ returns-3 c =
     ∙ (λ i. verdictOf (absentFinding (absentIndices (a .count) (s i) (n i))))
     ∙ sym (ap verdictOf (by-absent (a .count) (a .m .now) (omega (arith, n)) (λ e. omega (arith, e, n))))
 
-pub parameter-verdict-spec : {M : Type 1} → statement M
-parameter-verdict-spec =
+pub set-parameter-verdict-spec : {M : Type 1} → statement M
+set-parameter-verdict-spec =
     tie.close
     (tie.spec
     start-of-requires
