@@ -10,7 +10,7 @@ use Rattle.baos.specs.Message.{mainService, subService, startOf, coded, 
 use Rattle.baos.specs.Get.{getServerItem, getDatapointDescription, getDatapointValue, getParameterByte}
 use Rattle.baos.specs.Set.{setServerItem, setDatapointValue, setParameterByte}
 
--- Row 5: "sub not one of the six"; not one of the seven below, since document 02, item 5: "code 5 no longer for sub 08".
+-- Row 5: "sub not one of the six"; of the seven below, since "code 5 no longer for sub 08" (document 02, item 5)
 unfoldable pub service : Tables → List ℕ → Served
 service t m =
     if eqb (subService m) 0x01 then getServerItem t m

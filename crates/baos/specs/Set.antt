@@ -141,8 +141,8 @@ unfoldable pub absentFinding : List ℕ → Finding
 absentFinding [] = fine
 absentFinding (i ∷ is) = bad i 7
 
--- Rows 10, 6 and 7, for a table of so many bytes. An entry is one byte here, and has no head. Row 6 is also met by 000's
--- request to flush what was written (3.17: start 0, number 0, no byte).
+-- Rows 10, 6 and 7, for a table of so many bytes. An entry is one byte here, and has no head. Row 6 is also met by
+-- 000's request to flush what was written (3.17: start 0, number 0, no byte).
 unfoldable pub setParameterFinding : ℕ → List ℕ → Finding
 setParameterFinding count m =
     if not (eqb (length m) (6 + numberOf m)) then bad (startOf m) 10

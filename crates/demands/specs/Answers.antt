@@ -45,8 +45,8 @@ OutcomeIsCall =
     → Leaves (call e v t k out) r t′ k′ out′
     → call e v t k out ≡ record { reply = r; output = out′; tables = t′; link = k′ }
 
--- ---- "A request that is answered with an error code changes no datapoint and no item." Nor a parameter byte: "Demands 2
--- and 3 read "tables" with the parameters among them" (document 02, item 5)
+-- ---- "A request that is answered with an error code changes no datapoint and no item." Nor a parameter byte: "Demands
+-- 2 and 3 read "tables" with the parameters among them" (document 02, item 5)
 -- "an error answer is F0, sub + 80, an ID, 00 00, code (7 bytes)", as it is read from an answer's bytes: seven, no
 -- number of entries, a code. The positive answer of a set has code 0; that of a get has a number of entries.
 pub record ErrorAnswer (answer : List ℕ) : Type 0 where

@@ -1,6 +1,7 @@
--- Document 02, item 5. "Add SetParameterByte (document 000, 3.17 and 3.18). The parameter table is lent for writing from
--- now on, and only that service writes it. All or nothing as with items. Demands 2 and 3 read "tables" with the
--- parameters among them. Refusals: code 5 no longer for sub 08; then 10, 6, and 7 with the first index not in the table."
+-- Document 02, item 5. "Add SetParameterByte (document 000, 3.17 and 3.18). The parameter table is lent for writing
+-- from now on, and only that service writes it. All or nothing as with items. Demands 2 and 3 read "tables" with the
+-- parameters among them. Refusals: code 5 no longer for sub 08; then 10, 6, and 7 with the first index not in the
+-- table."
 use Prim.Native.Nat.{ℕ, _+_, _-_, _≤_, _<_}
 use mathlib.Core.Path.{_≡_}
 use mathlib.Core.Logic.{_≢_, _⊎_}
@@ -101,11 +102,12 @@ EachAnswered = (t : Tables) (m : List ℕ) → T (asksToSetParameters m) → Set
 abbrev pub EachAllOrNothing : Type 0
 EachAllOrNothing = (t : Tables) (m : List ℕ) → T (asksToSetParameters m) → AllOrNothing t m
 
--- what was set is what the next GetParameterByte of the same start and number gives; the request is one that a frame can
--- carry, so that the answer has room for its bytes
+-- what was set is what the next GetParameterByte of the same start and number gives; the request is one that a frame
+-- can carry, so that the answer has room for its bytes
 abbrev pub ReadBack : Type 0
 ReadBack =
-    (t : Tables) (m g : List ℕ) → T (asksToSetParameters m) → length m ≤ longestMessage → getD (carriedOut t m .says) 6 1 ≡ 0
+    (t : Tables) (m g : List ℕ) → T (asksToSetParameters m) → length m ≤ longestMessage
+    → getD (carriedOut t m .says) 6 1 ≡ 0
     → length g ≡ 6 → mainService g ≡ 0xF0 → subService g ≡ 0x07 → startOf g ≡ startOf m → numberOf g ≡ numberOf m
     → carriedOut (carriedOut t m .after) g .says
     ≡ 0xF0 ∷ 0x87 ∷ twoBytes (startOf m) ++ twoBytes (numberOf m) ++ drop 6 m
@@ -113,7 +115,8 @@ ReadBack =
 -- ---- "only that service writes it"
 -- over messages
 abbrev pub OnlyThatService : Type 0
-OnlyThatService = (t : Tables) (m : List ℕ) → T (not (asksToSetParameters m)) → carriedOut t m .after .parameters ≡ t .parameters
+OnlyThatService = (t : Tables) (m : List ℕ) → T (not (asksToSetParameters m))
+    → carriedOut t m .after .parameters ≡ t .parameters
 
 -- over events: of the six, only a host byte that ends such a request may write
 unfoldable pub maySetParameters : Event → Line → Bool
@@ -129,14 +132,13 @@ OnlyThatServiceByCall =
     (e : Event) (v : List ℕ) (t : Tables) (k : Link) (out : List ℕ) → T (not (maySetParameters e (lineOf k)))
     → call e v t k out .tables .parameters ≡ t .parameters
 
--- a host byte leaves the tables as the message that it ends leaves them; a refused call leaves them as they were (demand
--- 1)
+-- an accepted host byte leaves the tables as the message that it ends leaves them
 abbrev pub ByteCarriesOut : Type 0
 ByteCarriesOut =
     (b : ℕ) (v : List ℕ) (t : Tables) (k : Link) (out : List ℕ) → refusal (HostByte b) v t k (length out) ≡ 0
     → call (HostByte b) v t k out .tables ≡ carriedOut t (messageUp (onHostByte b (lineOf k) .up)) .after
 
--- so in any run of calls of which none is accepted and ends such a request, the parameter bytes stand
+-- so in any run of calls, while none that is accepted ends such a request, the parameter bytes stand
 unfoldable pub noneSets : List Happening → Tables → Link → Bool
 noneSets [] t k = true
 noneSets (h ∷ hs) t k =
