@@ -7,7 +7,7 @@ use native.Mathlib.Omega.{arith}
 use lib.ListN.{length, drop}
 use lib.Dec.{T, eqb, leb, ltb}
 use borrow.Author.Tests.{lt-leb, ne-eqb, eqb-true}
-use Rattle.words.specs.Words.{if_then_else_, isEmpty, keep, every, put}
+use Rattle.words.specs.Words.{if_then_else_, isEmpty, keep, every}
 use Rattle.words.proofs.WordLaws.{left, right}
 use Rattle.baos.specs.declared.datapoint.Datapoint.{Datapoint}
 use Rattle.baos.specs.declared.item.Item.{Item}
@@ -18,7 +18,7 @@ use Rattle.baos.specs.Datapoint.{datapointId, datapointOk, valueOf, with
 use Rattle.baos.specs.Flags.{neededBitsOn, withFlags, reflagged, reflaggedServed}
 use Rattle.baos.specs.Item.{itemId}
 use Rattle.baos.specs.Lookup.{communicates, transmits, lookupOf, isPresent}
-use Rattle.baos.specs.Table.{Tables, withDatapoints, withItems, withParameters, rising, tableOk, wellFormed, found, changedAt}
+use Rattle.baos.specs.Table.{Tables, withDatapoints, withItems, rising, tableOk, wellFormed, found, changedAt}
 use Rattle.baos.specs.Message.{subService, startOf, numberOf, filterOf, coded, Finding, fine, bad, Served, answerOf, afterOf, served}
 use Rattle.baos.specs.Get.{AnswerEntry, inRequest, overflow, roomForEntries, listing, getFinding, getting, itemEntry, getServerItem, descriptionEntry, getDatapointDescription, valueEntry, passes, asked, handingOut, getDatapointValue, parameterEntries, getParameterByte}
 use Rattle.baos.specs.Set.{SetEntry, firstItemEntry, firstDatapointEntry, fills, setEntries, takesCommand, datapointCode, judgedItem, judgedDatapoint, firstBad, setFinding, applied, setting, setItem, setServerItem, setDatapoint, setDatapointValue, setParameterFinding, setParameterByte}
@@ -323,7 +323,7 @@ module _ (flags : ℕ → ℕ) where
   unfolding setParameterByte served reflagged
   set-parameters-flagged t m =
       let f : Finding = setParameterFinding (length (t .parameters)) m in
-      ap (λ (x : Tables). record { says = answerOf f m (coded m (startOf m) 0); after = x }) (after-flagged f t (withParameters (put (t .parameters) (startOf m - 1) (drop 6 m)) t))
+      ap (λ (x : Tables). record { says = answerOf f m (coded m (startOf m) 0); after = x }) (after-flagged f _ _)
 
   -- ---- every message, but for descriptions and sets
   both-ways : (u : Bool) (x y x′ y′ : Served) → (u ≡ true → x′ ≡ reflaggedServed flags x) → y′ ≡ reflaggedServed flags y → (if u then x′ else y′) ≡ reflaggedServed flags (if u then x else y)

@@ -66,6 +66,16 @@ one-over (suc room) k (b ∷ ps) h =
     (one-over (suc room - 1) (suc k) ps (omega arith) ∙ ap {B = List ℕ} (λ (i : ℕ). i ∷ []) {x = suc k + (suc room - 1)} {y = k + suc room} (omega arith))
 one-over room k [] h = absurd (omega arith)
 
+-- ---- how many there are to return
+-- all that were asked for, where the range is in the table
+pub present-all : (count start number : ℕ) → 1 ≤ start → start + number ≤ count + 1 → parametersPresent count start number ≡ number
+unfolding parametersPresent
+present-all count start number l h = go (ltb number (count - (start - 1))) refl
+  where
+    go : (u : Bool) → ltb number (count - (start - 1)) ≡ u → parametersPresent count start number ≡ number
+    go true e = simp (ne-eqb start 0 (λ z. omega (arith, z, l)), e)
+    go false e = simp (ne-eqb start 0 (λ z. omega (arith, z, l)), e) (omega (arith, ltb-false number (count - (start - 1)) e, l, h))
+
 -- ---- the answer
 module _ (ps m : List ℕ) where
   abbrev start : ℕ

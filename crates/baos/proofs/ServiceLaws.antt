@@ -15,9 +15,9 @@ use Rattle.baos.specs.Datapoint.{datapointId, zeroDatapoint, withState, 
 use Rattle.baos.specs.Item.{itemId}
 use Rattle.baos.specs.Table.{Tables, found, datapointsOnly, itemsOnly, parametersOnly, withDatapoints, withItems, withParameters}
 use Rattle.baos.proofs.TableLaws.{same-tables}
-use Rattle.baos.specs.Message.{mainService, subService, startOf, numberOf, filterOf, coded, Finding, fine, bad, Served, answerOf, afterOf, served}
+use Rattle.baos.specs.Message.{mainService, subService, startOf, filterOf, coded, Finding, fine, bad, Served, answerOf, afterOf, served}
 use Rattle.baos.specs.Get.{AnswerEntry, inRequest, listing, getFinding, getting, itemEntry, descriptionEntry, valueEntry, asked, parameterEntries, getServerItem, getDatapointDescription, handingOut, getDatapointValue, getParameterByte}
-use Rattle.baos.specs.Set.{SetEntry, firstItemEntry, firstDatapointEntry, setEntries, setFinding, judgedItem, judgedDatapoint, setting, setServerItem, setDatapointValue, setParameterFinding, setParameterByte}
+use Rattle.baos.specs.Set.{SetEntry, firstItemEntry, firstDatapointEntry, setFinding, judgedItem, judgedDatapoint, setting, setServerItem, setDatapointValue, setParameterFinding, setParameterByte}
 use Rattle.baos.specs.Inner.Gather.{getDatapoints}
 use Rattle.baos.specs.Service.{service, unanswered, carriedOut}
 
@@ -125,15 +125,15 @@ module _ (t : Tables) (m : List ℕ) where
 
   pub set-parameters-after : setParameterByte t m .after .parameters ≡ setParameterByte (parametersOnly (t .parameters)) m .after .parameters
   unfolding setParameterByte served
-  set-parameters-after = after-same parametersOf _ t _ (parametersOnly (t .parameters)) _ refl refl
+  set-parameters-after = after-same parametersOf (setParameterFinding (length (t .parameters)) m) _ _ _ _ refl refl
 
   pub set-parameters-keep-datapoints : setParameterByte t m .after .datapoints ≡ t .datapoints
   unfolding setParameterByte served
-  set-parameters-keep-datapoints = after-part datapointsOf _ t _ refl
+  set-parameters-keep-datapoints = after-part datapointsOf (setParameterFinding (length (t .parameters)) m) _ _ refl
 
   pub set-parameters-keep-items : setParameterByte t m .after .items ≡ t .items
   unfolding setParameterByte served
-  set-parameters-keep-items = after-part itemsOf _ t _ refl
+  set-parameters-keep-items = after-part itemsOf (setParameterFinding (length (t .parameters)) m) _ _ refl
 
   -- each service as a whole, by what it does with its own table
   pub get-datapoints-whole : (values : Bool)
@@ -264,26 +264,23 @@ module _ (t : Tables) (m : List ℕ) (u : unanswered m ≡ false) where
       ∙ simp (ne-eqb (subService m) 1 n1, ne-eqb (subService m) 2 n2, ne-eqb (subService m) 3 n3, ne-eqb (subService m) 5 n5, ne-eqb (subService m) 6 n6, ne-eqb (subService m) 7 n7, ne-eqb (subService m) 8 n8)
 
 -- ---- an error answer leaves everything as it was
-pub bad-served : (i c : ℕ) (m answer : List ℕ) (t t′ : Tables) → served (bad i c) m answer t t′ ≡ record { says = coded m i c; after = t }
+bad-found : (f : Finding) (m answer : List ℕ) (t t′ : Tables) {i c : ℕ} → f ≡ bad i c → served f m answer t t′ ≡ record { says = coded m i c; after = t }
 unfolding served answerOf afterOf
-bad-served i c m answer t t′ = refl
+bad-found f m answer t t′ e = ap (λ (g : Finding). served g m answer t t′) e
 
-pub fine-served : (m answer : List ℕ) (t t′ : Tables) → served fine m answer t t′ ≡ record { says = answer; after = t′ }
+fine-found : (f : Finding) (m answer : List ℕ) (t t′ : Tables) → f ≡ fine → served f m answer t t′ ≡ record { says = answer; after = t′ }
 unfolding served answerOf afterOf
-fine-served m answer t t′ = refl
+fine-found f m answer t t′ e = ap (λ (g : Finding). served g m answer t t′) e
 
 pub bad-get : (size : ℕ) (badFilter : Bool) (es : List AnswerEntry) (t t′ : Tables) (m : List ℕ) {i c : ℕ} → getFinding size badFilter m es ≡ bad i c
     → getting size badFilter es t t′ m ≡ record { says = coded m i c; after = t }
 unfolding getting
-bad-get size badFilter es t t′ m {i} {c} e =
-    ap (λ (f : Finding). served f m (listing (subService m + 0x80) (startOf m) es) t t′) e ∙ bad-served i c m (listing (subService m + 0x80) (startOf m) es) t t′
+bad-get size badFilter es t t′ m e = bad-found (getFinding size badFilter m es) m _ t t′ e
 
 pub bad-set : (h : ℕ) (first : List ℕ → SetEntry) (judge : SetEntry → ℕ) (done : List SetEntry → Tables) (t : Tables) (m : List ℕ) {i c : ℕ}
     → setFinding h first judge m ≡ bad i c → setting h first judge done t m ≡ record { says = coded m i c; after = t }
 unfolding setting
-bad-set h first judge done t m {i} {c} e =
-    let t′ = done (setEntries first h (numberOf m) (drop 6 m)) in
-    ap (λ (f : Finding). served f m (coded m (startOf m) 0) t t′) e ∙ bad-served i c m (coded m (startOf m) 0) t t′
+bad-set h first judge done t m e = bad-found (setFinding h first judge m) m _ t _ e
 
 module _ (t : Tables) (m : List ℕ) where
   -- what each service finds
@@ -332,16 +329,12 @@ module _ (t : Tables) (m : List ℕ) where
 
   pub bad-set-parameter : {i c : ℕ} → setParameterFinding (length (t .parameters)) m ≡ bad i c → setParameterByte t m ≡ record { says = coded m i c; after = t }
   unfolding setParameterByte
-  bad-set-parameter {i} {c} e =
-      let t′ = withParameters (put (t .parameters) (startOf m - 1) (drop 6 m)) t in
-      ap (λ (f : Finding). served f m (coded m (startOf m) 0) t t′) e ∙ bad-served i c m (coded m (startOf m) 0) t t′
+  bad-set-parameter e = bad-found (setParameterFinding (length (t .parameters)) m) m _ _ _ e
 
   pub fine-set-parameter : setParameterFinding (length (t .parameters)) m ≡ fine
       → setParameterByte t m ≡ record { says = coded m (startOf m) 0; after = withParameters (put (t .parameters) (startOf m - 1) (drop 6 m)) t }
   unfolding setParameterByte
-  fine-set-parameter e =
-      let t′ = withParameters (put (t .parameters) (startOf m - 1) (drop 6 m)) t in
-      ap (λ (f : Finding). served f m (coded m (startOf m) 0) t t′) e ∙ fine-served m (coded m (startOf m) 0) t t′
+  fine-set-parameter e = fine-found (setParameterFinding (length (t .parameters)) m) m _ _ _ e
 
 -- ---- what a positive get of values shows and leaves
 -- bit 3 cleared, and nothing else changed
@@ -388,8 +381,7 @@ module _ (t : Tables) (m : List ℕ) (e : valueFinding t m ≡ fine) where
       ≡ record { says = listing (subService m + 0x80) (startOf m) (map valueEntry (keep (asked m) (t .datapoints))); after = handingOut m t }
   unfolding getDatapointValue getting
   value-answered =
-      let answer = listing (subService m + 0x80) (startOf m) (map valueEntry (keep (asked m) (t .datapoints))) in
-      ap (λ (f : Finding). served f m answer t (handingOut m t)) e ∙ fine-served m answer t (handingOut m t)
+      fine-found (valueFinding t m) m _ t (handingOut m t) e
 
   abbrev left : List Datapoint
   left = getDatapointValue t m .after .datapoints

@@ -8,7 +8,7 @@ use native.Mathlib.Omega.{arith}
 use native.Mathlib.Decide.{ℕ-discrete}
 use lib.Dec.{ltb, eqb}
 use lib.ListN.{length, drop, length-drop}
-use borrow.Author.Tests.{lt-ltb, le-ltb, eq-eqb, ne-eqb, ltb-true, ltb-false, eqb-true, eqb-false}
+use borrow.Author.Tests.{le-ltb, eq-eqb, ne-eqb, ltb-true, ltb-false, eqb-true, eqb-false}
 use Rattle.words.specs.Words.{put}
 use Rattle.words.proofs.ByteLaws.{length-put}
 use Rattle.baos.specs.declared.inner.Verdict.{Verdict}
@@ -29,20 +29,19 @@ module _ (count : ℕ) where
   present-index : (i : ℕ) → 1 ≤ i → i ≤ count → isAbsent i ≡ false
   present-index i l h = simp (ne-eqb i 0 (λ e. omega (arith, e, l)), le-ltb count i h)
 
-  absent-beyond : (i : ℕ) → count < i → isAbsent i ≡ true
-  absent-beyond i h = simp (ne-eqb i 0 (λ e. omega (arith, e, h)), lt-ltb count i h)
-
   -- the first of the range, where it is not in the table
   at-start : (start number : ℕ) → 1 ≤ number → isAbsent start ≡ true → absentFinding (absentIndices count start number) ≡ bad start 7
   unfolding absentIndices indices absentFinding
   at-start start zero l e = absurd (omega (arith, l))
   at-start start (suc n) l e = simp e
 
-  pub absent-at-zero : (number : ℕ) → 1 ≤ number → absentFinding (absentIndices count 0 number) ≡ bad 0 7
-  absent-at-zero number l = at-start 0 number l refl
-
-  pub absent-at-start : (start number : ℕ) → 1 ≤ number → count < start → absentFinding (absentIndices count start number) ≡ bad start 7
-  absent-at-start start number l h = at-start start number l (absent-beyond start h)
+  pub absent-at-start : (start number : ℕ) → 1 ≤ number → (1 ≤ start → start ≤ count → ⊥) → absentFinding (absentIndices count start number) ≡ bad start 7
+  absent-at-start start number l n = at-start start number l (go (eqb start 0) (ltb count start) refl refl)
+    where
+      go : (u v : Bool) → eqb start 0 ≡ u → ltb count start ≡ v → isAbsent start ≡ true
+      go true v a b = simp a
+      go false true a b = simp (a, b)
+      go false false a b = absurd (n (pos-of-ne-zero (eqb-false start 0 a)) (omega (arith, ltb-false count start b)))
 
   -- else the one behind the table's last
   pub absent-behind : (start number : ℕ) → 1 ≤ start → start ≤ count + 1 → count + 1 < start + number → absentFinding (absentIndices count start number) ≡ bad (count + 1) 7
@@ -69,17 +68,16 @@ module _ (count : ℕ) where
 
 -- where a range stands towards the table
 pub data Range (count start number : ℕ) : Type 0 where
-  from-zero : start ≡ 0 → Range count start number
-  beyond : count < start → Range count start number
+  outside : (1 ≤ start → start ≤ count → ⊥) → Range count start number
   over : 1 ≤ start → start ≤ count → count + 1 < start + number → Range count start number
   within : 1 ≤ start → start + number ≤ count + 1 → Range count start number
 
-pub range : (count start number : ℕ) → 1 ≤ number → Range count start number
-range count start number some = go (eqb start 0) (ltb count start) (ltb (count + 1) (start + number)) refl refl refl
+pub range : (count start number : ℕ) → Range count start number
+range count start number = go (eqb start 0) (ltb count start) (ltb (count + 1) (start + number)) refl refl refl
   where
     go : (u v w : Bool) → eqb start 0 ≡ u → ltb count start ≡ v → ltb (count + 1) (start + number) ≡ w → Range count start number
-    go true v w a b c = from-zero (eqb-true start 0 a)
-    go false true w a b c = beyond (ltb-true count start b)
+    go true v w a b c = outside (λ l h. omega (arith, eqb-true start 0 a, l))
+    go false true w a b c = outside (λ l h. omega (arith, ltb-true count start b, h))
     go false false true a b c = over (pos-of-ne-zero (eqb-false start 0 a)) (omega (arith, ltb-false count start b)) (ltb-true (count + 1) (start + number) c)
     go false false false a b c = within (pos-of-ne-zero (eqb-false start 0 a)) (omega (arith, ltb-false (count + 1) (start + number) c))
 
@@ -131,16 +129,14 @@ module _ (count : ℕ) (m : List ℕ) where
   checked = go (ℕ-discrete (length m) (6 + numberOf m)) (ℕ-discrete (numberOf m) 0)
     where
       ranged : length m ≡ 6 + numberOf m → (numberOf m ≡ 0 → ⊥) → Range count (startOf m) (numberOf m) → Checked
-      ranged l n (from-zero s) =
-          seven 0 (by-absent l n ∙ ap (λ (i : ℕ). absentFinding (absentIndices count i (numberOf m))) s ∙ absent-at-zero count (numberOf m) (pos-of-ne-zero n))
-      ranged l n (beyond h) = seven (startOf m) (by-absent l n ∙ absent-at-start count (startOf m) (numberOf m) (pos-of-ne-zero n) h)
+      ranged l n (outside o) = seven (startOf m) (by-absent l n ∙ absent-at-start count (startOf m) (numberOf m) (pos-of-ne-zero n) o)
       ranged l n (over s h o) = seven (count + 1) (by-absent l n ∙ absent-behind count (startOf m) (numberOf m) s (omega (arith, h)) o)
       ranged l n (within s h) = none (passes-within l (pos-of-ne-zero n) s h)
 
       go : Dec (length m ≡ 6 + numberOf m) → Dec (numberOf m ≡ 0) → Checked
       go (no n) x = ten (other-size n)
       go (yes l) (yes z) = six (no-bytes l z)
-      go (yes l) (no n) = ranged l n (range count (startOf m) (numberOf m) (pos-of-ne-zero n))
+      go (yes l) (no n) = ranged l n (range count (startOf m) (numberOf m))
 
   pub passed : verdictOf finding .code ≡ 0 → Passed
   unfolding verdictOf

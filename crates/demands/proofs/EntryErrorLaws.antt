@@ -10,8 +10,8 @@ use lib.Dec.{T, eqb, eqb→eq}
 use borrow.Author.Tests.{ne-eqb}
 use Rattle.words.specs.Words.{if_then_else_, isEmpty, keep, every}
 use Rattle.words.proofs.WordLaws.{left, right, true-T, T-true}
-use Rattle.ft12.specs.Record.{Line, lineOf}
-use Rattle.ft12.specs.Rules.{Up, nothing, acknowledged, dropped, reset, message, onHostByte}
+use Rattle.ft12.specs.Record.{lineOf}
+use Rattle.ft12.specs.Rules.{onHostByte}
 use Rattle.baos.specs.Datapoint.{datapointId}
 use Rattle.baos.specs.Lookup.{lookupOf, isPresent}
 use Rattle.baos.specs.Table.{Tables, found}
@@ -23,11 +23,10 @@ use Rattle.baos.proofs.SettingLaws.{by-setting}
 use Rattle.baos.proofs.ServiceLaws.{not-answered, is-set-value, setValueFinding, bad-set-value}
 use Rattle.baos.proofs.EntryLaws.{code-of-absent}
 use Rattle.calls.specs.declared.event.Event.the-variants.{HostByte}
-use Rattle.calls.specs.Call.{saying, handedUp, onMoved, happens}
 use Rattle.demands.specs.Answers.{ErrorAnswer}
 use Rattle.demands.specs.Entries.{entriesOf, holdsEntry, messageUp, RefusedWhole, CallRefusedWhole, CommandCode}
 use Rattle.demands.proofs.ErrorLaws.{errors-change-nothing}
-use Rattle.demands.proofs.HandedOutLaws.{by-call}
+use Rattle.demands.proofs.HandedOutLaws.{by-call, byte-tables}
 
 -- where each fails a test, none passes it
 none-kept : {A : Type 0} (p : A → Bool) (xs : List A) → T (every (λ x. not (p x)) xs) → T (not (isEmpty (keep p xs))) → ⊥
@@ -74,17 +73,9 @@ module _ (p : Tables → SetEntry → Bool) (not-fine : (t : Tables) (e : SetEnt
           let error : ErrorAnswer (carriedOut t m .says) = subst (λ (s : Served). ErrorAnswer (s .says)) (sym (is-set-value t m e six)) (set-error t m held) in
           ((λ f. error), errors-change-nothing t m error)
 
-  up-refused : (u : Up) (s : List ℕ) (t : Tables) (l : Line) → T (holdsEntry (p t) (messageUp u)) → handedUp u s t l .tables ≡ t
-  unfolding handedUp saying messageUp holdsEntry subService
-  up-refused nothing s t l h = absurd h
-  up-refused acknowledged s t l h = absurd h
-  up-refused dropped s t l h = absurd h
-  up-refused reset s t l h = absurd h
-  up-refused (message m) s t l h = refused-whole t m h .1
-
   pub call-refused-whole : CallRefusedWhole p
   call-refused-whole b v t k out h =
-      by-call (λ (t′ : Tables). t′ ≡ t) (HostByte b) v t k out (λ z. unfold happens onMoved in up-refused (onHostByte b (lineOf k) .up) _ t _ h) (λ z. refl)
+      by-call (λ (t′ : Tables). t′ ≡ t) (HostByte b) v t k out (λ z. byte-tables b v t (lineOf k) ∙ refused-whole t (messageUp (onHostByte b (lineOf k) .up)) h .1) (λ z. refl)
 
 -- ---- the first bad entry, behind good ones
 first-bad-at : (judge : SetEntry → ℕ) (before : List SetEntry) (e : SetEntry) (behind : List SetEntry) → T (every (λ o. eqb (judge o) 0) before) → judge e ≡ 8

@@ -17,14 +17,14 @@ use Rattle.ft12.specs.declared.rules.Heard.{Heard}
 use Rattle.ft12.specs.declared.rules.Heard.the-variants.{Gathered, Dropped, Ignored, Acknowledged, Reset, Repeat, Request}
 use Rattle.ft12.specs.Frame.{messageOf}
 use Rattle.ft12.specs.Record.{Line, lineOf}
-use Rattle.ft12.specs.Rules.{heardAt, onHeard, onHostByte, onIdleMark}
+use Rattle.ft12.specs.Rules.{Up, nothing, acknowledged, dropped, reset, message, heardAt, onHeard, onHostByte, onIdleMark}
 use Rattle.baos.specs.declared.datapoint.Datapoint.{Datapoint}
 use Rattle.baos.specs.Datapoint.{datapointId, datapointOk, sizeOf, valueOf, isUpdated, withValid, withoutUpdated, withRequest, withStatus, withState, withValue, withMark, handedOut, busValue, outcome, commanded}
 use Rattle.baos.specs.Table.{Tables, rising, changedAt, wellFormed}
 use Rattle.baos.specs.Message.{subService, startOf, numberOf, filterOf, coded, Finding, fine, bad, Served, answerOf, afterOf, served}
 use Rattle.baos.specs.Get.{AnswerEntry, listing, getFinding, getting, getServerItem, getDatapointDescription, valueEntry, asked, handingOut, getDatapointValue, getParameterByte}
 use Rattle.baos.specs.Set.{SetEntry, setFinding, applied, setting, setServerItem, setDatapoint, setDatapointValue, setParameterFinding, setParameterByte}
-use Rattle.baos.specs.Service.{carriedOut}
+use Rattle.baos.specs.Service.{unanswered, carriedOut}
 use Rattle.baos.specs.Get.{roomForEntries}
 use Rattle.baos.specs.Indication.{Choice, roomAfter, choices, reported, afterReport, indicationOf, indication}
 use Rattle.baos.proofs.DatapointLaws.{parts, bit, bits-of-valid, bits-without-updated, bits-with-request, bits-with-status}
@@ -41,6 +41,7 @@ use Rattle.calls.proofs.CallJoins.{waited}
 use Rattle.baos.proofs.BusLaws.{status-fits}
 use Rattle.walks.proofs.Branches.{no-T}
 use Rattle.demands.specs.HostHears.{Happening, allAccepted}
+use Rattle.demands.specs.Entries.{messageUp}
 use Rattle.demands.specs.HandedOut.{shownIn, valuesIn, showsUpdated, buildsAt, builds, handsOut, timesHandedOut, isValueFor, noValueFor, HandedOutOnce}
 
 -- ---- records: some have this ID and bit 3 set
@@ -448,6 +449,28 @@ by-call P e v t k out p q = go (ℕ-discrete (refusal e v t k (length out)) 0)
     go : Dec (refusal e v t k (length out) ≡ 0) → P (call e v t k out .tables)
     go (yes z) = subst P (sym (call-tables e v t k out z)) (p z)
     go (no n) = subst P (sym (ap (λ (c : Called). c .tables) (refused-leaves e v t k out (refusal e v t k (length out)) refl n))) (q n)
+
+-- a host byte leaves what the message that it ends leaves; where the link hands up none, the tables as they were
+up-tables : (u : Up) (s : List ℕ) (t : Tables) (l : Line) → handedUp u s t l .tables ≡ carriedOut t (messageUp u) .after
+unfolding handedUp saying messageUp carriedOut unanswered
+up-tables nothing s t l = refl
+up-tables acknowledged s t l = refl
+up-tables dropped s t l = refl
+up-tables reset s t l = refl
+up-tables (message m) s t l = refl
+
+pub byte-tables : (b : ℕ) (v : List ℕ) (t : Tables) (l : Line) → happens (HostByte b) v t l .tables ≡ carriedOut t (messageUp (onHostByte b l .up)) .after
+unfolding happens onMoved
+byte-tables b v t l = up-tables (onHostByte b l .up) (onHostByte b l .sent) t (onHostByte b l .line)
+
+-- a poll leaves what the indication leaves, or the tables as they were
+pub by-poll : (P : Tables → Type 0) (t : Tables) (l : Line) → P (indication t .after) → P t → P (onPoll t l .tables)
+unfolding onPoll saying
+by-poll P t l p q = go (isEmpty (l .outstanding)) refl
+  where
+    go : (u : Bool) → isEmpty (l .outstanding) ≡ u → P (onPoll t l .tables)
+    go true e = simp (e, onPoll) p
+    go false e = simp (e, onPoll) q
 
 at-most-once : (id : ℕ) (hs : List Happening) (t : Tables) (k : Link) → T (allAccepted hs t k) → T (noValueFor id hs) → AtMostOnce id hs t k
 unfolding allAccepted noValueFor timesHandedOut

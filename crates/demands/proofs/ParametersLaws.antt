@@ -8,14 +8,14 @@ use native.Mathlib.Omega.{arith}
 use lib.ListN.{length, getD, take, drop, length-drop}
 use lib.Seq.{getD-drop}
 use lib.Dec.{T, leb, ltb, eqb, leb→le, le→leb, eqb→eq}
-use borrow.Author.Tests.{eq-eqb, ne-eqb, lt-ltb, le-ltb, lt-leb, ltb-true, ltb-false}
-use Rattle.words.specs.Words.{isEmpty, put, twoBytes}
+use borrow.Author.Tests.{eq-eqb, lt-ltb, le-ltb, lt-leb, ltb-true, ltb-false}
+use Rattle.words.specs.Words.{put, twoBytes}
 use Rattle.words.proofs.WordLaws.{left, right, both, true-T, T-true}
 use Rattle.words.proofs.ByteLaws.{length-put, put-read, getD-put-within, getD-put-front, getD-put-behind}
 use Rattle.ft12.specs.declared.record.Link.{Link}
 use Rattle.ft12.specs.Frame.{longestMessage}
 use Rattle.ft12.specs.Record.{Line, lineOf}
-use Rattle.ft12.specs.Rules.{Up, nothing, acknowledged, dropped, reset, message, onHostByte, onIdleMark}
+use Rattle.ft12.specs.Rules.{onHostByte, onIdleMark}
 use Rattle.baos.specs.Table.{Tables, withParameters}
 use Rattle.baos.specs.Message.{mainService, subService, startOf, numberOf, coded, Finding, fine, bad, verdictOf, Served, answerOf, served}
 use Rattle.baos.specs.Get.{inRequest}
@@ -23,20 +23,20 @@ use Rattle.baos.specs.Set.{absentIndices, absentFinding, setParameterFinding, s
 use Rattle.baos.specs.Service.{unanswered, carriedOut}
 use Rattle.baos.specs.Indication.{indication}
 use Rattle.baos.proofs.MeasureLaws.{finding-none}
-use Rattle.baos.proofs.ParameterLaws.{parameters-all}
+use Rattle.baos.proofs.ParameterLaws.{present-all, parameters-all}
 use Rattle.baos.proofs.ServiceLaws.{parameters-say, not-answered, is-get-parameter, is-set-parameter, bad-set-parameter, fine-set-parameter}
 use Rattle.baos.specs.Inner.Gather.{sizeAsked, filterAsked, requestFinding, parametersPresent}
 use Rattle.baos.proofs.GetLaws.{verdict-bad}
-use Rattle.baos.proofs.SetParameterLaws.{Range, from-zero, beyond, over, within, range, absent-at-zero, absent-at-start, absent-behind, absent-none, other-size, no-bytes, by-absent, Passed, passed, Checked, ten, six, seven, none, checked, parameters-kept}
+use Rattle.baos.proofs.SetParameterLaws.{Range, outside, over, within, range, absent-at-start, absent-behind, absent-none, other-size, no-bytes, by-absent, Passed, passed, Checked, ten, six, seven, none, checked, parameters-kept}
 use Rattle.calls.specs.declared.event.Event.{Event}
 use Rattle.calls.specs.declared.event.Event.the-variants.{HostByte, IdleMark, AckWaitOver, Poll, BusValue, TransmissionOutcome}
 use Rattle.calls.specs.Event.{atDatapoint}
-use Rattle.calls.specs.Call.{Done, saying, handedUp, onMoved, onPoll, happens, refusal, call}
+use Rattle.calls.specs.Call.{Done, handedUp, onMoved, happens, refusal, call}
 use Rattle.calls.proofs.CallJoins.{waited}
 use Rattle.walks.proofs.Branches.{no-T}
 use Rattle.demands.proofs.Demand2.{demand-2}
 use Rattle.demands.proofs.Demand3.{demand-3}
-use Rattle.demands.proofs.HandedOutLaws.{call-tables, by-call}
+use Rattle.demands.proofs.HandedOutLaws.{call-tables, by-call, byte-tables, by-poll}
 use Rattle.demands.specs.Answers.{Demand2}
 use Rattle.demands.specs.Entries.{messageUp}
 use Rattle.demands.specs.Status.{tablesAfterAll}
@@ -108,12 +108,8 @@ module _ (t : Tables) (m : List ℕ) (a : T (asksToSetParameters m)) where
     absent-so : setParameterFinding count m ≡ absentFinding (absentIndices count start number)
     absent-so = by-absent count m (states m s .0) (λ z. omega (arith, z, states m s .1))
 
-    seven-at-start : Range count start number → (1 ≤ start → start ≤ count → ⊥) → carriedOut t m .says ≡ setParameterAnswer start 7
-    seven-at-start (from-zero z) n =
-        bad-says (absent-so ∙ ap (λ (i : ℕ). absentFinding (absentIndices count i number)) z ∙ absent-at-zero count number (states m s .1) ∙ ap (λ (i : ℕ). bad i 7) (sym z))
-    seven-at-start (beyond h) n = bad-says (absent-so ∙ absent-at-start count start number (states m s .1) h)
-    seven-at-start (over l h o) n = absurd (n l h)
-    seven-at-start (within l h) n = absurd (n l (omega (arith, h, states m s .1)))
+    seven-at-start : (1 ≤ start → start ≤ count → ⊥) → carriedOut t m .says ≡ setParameterAnswer start 7
+    seven-at-start o = bad-says (absent-so ∙ absent-at-start count start number (states m s .1) o)
 
     seven-behind : 1 ≤ start → start ≤ count → count + 1 < start + number → carriedOut t m .says ≡ setParameterAnswer (count + 1) 7
     seven-behind l h o = bad-says (absent-so ∙ absent-behind count start number l (omega (arith, h)) o)
@@ -123,7 +119,7 @@ module _ (t : Tables) (m : List ℕ) (a : T (asksToSetParameters m)) where
 
     -- an index that is the first absent one is the start, or the one behind the last
     seven-first : (i : ℕ) → FirstAbsent t m i → carriedOut t m .says ≡ setParameterAnswer i 7
-    seven-first i f = go (range count start number (states m s .1))
+    seven-first i f = go (range count start number)
       where
         lies : (start ≤ i) × (i < start + number)
         lies = range-bounds m i (f .in-range)
@@ -137,8 +133,7 @@ module _ (t : Tables) (m : List ℕ) (a : T (asksToSetParameters m)) where
             below false e = omega (arith, ltb-false start i e, lies .0)
 
         go : Range count start number → carriedOut t m .says ≡ setParameterAnswer i 7
-        go (from-zero z) = let n : 1 ≤ start → start ≤ count → ⊥ = λ l h. omega (arith, z, l) in seven-at-start (from-zero z) n ∙ ap (λ (j : ℕ). setParameterAnswer j 7) (is-start n)
-        go (beyond b) = let n : 1 ≤ start → start ≤ count → ⊥ = λ l h. omega (arith, b, h) in seven-at-start (beyond b) n ∙ ap (λ (j : ℕ). setParameterAnswer j 7) (is-start n)
+        go (outside o) = seven-at-start o ∙ ap (λ (j : ℕ). setParameterAnswer j 7) (is-start o)
         go (over l h o) = seven-behind l h o ∙ ap (λ (j : ℕ). setParameterAnswer j 7) (last (ltb count i) (ltb (count + 1) i) refl refl)
           where
             last : (u v : Bool) → ltb count i ≡ u → ltb (count + 1) i ≡ v → count + 1 ≡ i
@@ -175,7 +170,7 @@ module _ (t : Tables) (m : List ℕ) (a : T (asksToSetParameters m)) where
         code-6 = λ l z. bad-says (no-bytes count m (omega (arith, l, z)) z);
         code-7 = λ s i f. seven-first s i f;
         code-0 = λ s all. zero-all s all;
-        at-start = λ s n. seven-at-start s (range count start number (states m s .1)) (no-index t start n);
+        at-start = λ s n. seven-at-start s (no-index t start n);
         behind-last = λ s x o. seven-behind s (index-bounds t start x .0) (index-bounds t start x .1) o;
         within = λ s x h. zero-within s (index-bounds t start x .0) h;
         no-other = one-of-four;
@@ -244,15 +239,6 @@ pub each-all-or-nothing : EachAllOrNothing
 each-all-or-nothing t m a = record { all = λ z. bytes-set t m a z; nothing = λ n. set-nothing t m a n }
 
 -- ---- read back
--- as many bytes as were set are there to be given
-present-all : (count start number : ℕ) → 1 ≤ start → start + number ≤ count + 1 → parametersPresent count start number ≡ number
-unfolding parametersPresent
-present-all count start number l h = go (ltb number (count - (start - 1))) refl
-  where
-    go : (u : Bool) → ltb number (count - (start - 1)) ≡ u → parametersPresent count start number ≡ number
-    go true e = simp (ne-eqb start 0 (λ z. omega (arith, z, l)), e)
-    go false e = simp (ne-eqb start 0 (λ z. omega (arith, z, l)), e) (omega (arith, ltb-false number (count - (start - 1)) e, l, h))
-
 module _ (t : Tables) (m g : List ℕ) (a : T (asksToSetParameters m)) (short : length m ≤ longestMessage) (z : getD (carriedOut t m .says) 6 1 ≡ 0)
     (six-bytes : length g ≡ 6) (main : mainService g ≡ 0xF0) (sub : subService g ≡ 0x07) (from-same : startOf g ≡ startOf m) (as-many : numberOf g ≡ numberOf m) where
   -- the table that was left
@@ -301,35 +287,15 @@ only-that-service t m n = go (unanswered m) refl
     go true e = ap (λ (s : Served). s .after .parameters) (not-answered t m e)
     go false e = parameters-kept t m (λ s. true-T {b = false} (sym (no-T (asksToSetParameters m) n) ∙ simp (e, eq-eqb (subService m) 8 s)))
 
--- what the link hands up is carried out; where it is no message, nothing is
-up-carries : (u : Up) (s : List ℕ) (t : Tables) (l : Line) → handedUp u s t l .tables ≡ carriedOut t (messageUp u) .after
-unfolding handedUp saying messageUp carriedOut unanswered
-up-carries nothing s t l = refl
-up-carries acknowledged s t l = refl
-up-carries dropped s t l = refl
-up-carries reset s t l = refl
-up-carries (message m) s t l = refl
-
 pub byte-carries-out : ByteCarriesOut
-unfolding happens onMoved
-byte-carries-out b v t k out r =
-    call-tables (HostByte b) v t k out r ∙ up-carries (onHostByte b (lineOf k) .up) (onHostByte b (lineOf k) .sent) t (onHostByte b (lineOf k) .line)
-
-poll-keeps : (t : Tables) (l : Line) → onPoll t l .tables .parameters ≡ t .parameters
-unfolding onPoll saying
-poll-keeps t l = go (isEmpty (l .outstanding)) refl
-  where
-    go : (u : Bool) → isEmpty (l .outstanding) ≡ u → onPoll t l .tables .parameters ≡ t .parameters
-    go true e = simp (e, onPoll) (unfold indication in refl)
-    go false e = simp (e, onPoll)
+byte-carries-out b v t k out r = call-tables (HostByte b) v t k out r ∙ byte-tables b v t (lineOf k)
 
 happens-keeps : (e : Event) (v : List ℕ) (t : Tables) (l : Line) → T (not (maySetParameters e l)) → happens e v t l .tables .parameters ≡ t .parameters
 unfolding happens maySetParameters atDatapoint onMoved
-happens-keeps (HostByte b) v t l n =
-    ap (λ (x : Tables). x .parameters) (up-carries (onHostByte b l .up) (onHostByte b l .sent) t (onHostByte b l .line)) ∙ only-that-service t (messageUp (onHostByte b l .up)) n
+happens-keeps (HostByte b) v t l n = ap (λ (x : Tables). x .parameters) (byte-tables b v t l) ∙ only-that-service t (messageUp (onHostByte b l .up)) n
 happens-keeps IdleMark v t l n = unfold handedUp onIdleMark in refl
 happens-keeps AckWaitOver v t l n = ap (λ (d : Done). d .tables .parameters) (waited l t)
-happens-keeps Poll v t l n = poll-keeps t l
+happens-keeps Poll v t l n = by-poll (λ (x : Tables). x .parameters ≡ t .parameters) t l (unfold indication in refl) refl
 happens-keeps (BusValue id) v t l n = refl
 happens-keeps (TransmissionOutcome id o) v t l n = refl
 

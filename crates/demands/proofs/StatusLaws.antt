@@ -12,7 +12,7 @@ use Rattle.words.specs.Words.{if_then_else_, isEmpty, keep, every}
 use Rattle.words.proofs.WordLaws.{left, right, true-T, T-true}
 use Rattle.ft12.specs.declared.record.Link.{Link}
 use Rattle.ft12.specs.Record.{Line, lineOf}
-use Rattle.ft12.specs.Rules.{Up, nothing, acknowledged, dropped, reset, message, onHostByte, onIdleMark}
+use Rattle.ft12.specs.Rules.{onHostByte, onIdleMark}
 use Rattle.baos.specs.declared.datapoint.Datapoint.{Datapoint}
 use Rattle.baos.specs.declared.bus.Outcome.{Outcome}
 use Rattle.baos.specs.declared.bus.Outcome.the-variants.{Sent, Failed, InProgress}
@@ -33,10 +33,10 @@ use Rattle.baos.proofs.DispatchLaws.{by-service, by-message}
 use Rattle.calls.specs.declared.event.Event.{Event}
 use Rattle.calls.specs.declared.event.Event.the-variants.{HostByte, IdleMark, AckWaitOver, Poll, BusValue, TransmissionOutcome}
 use Rattle.calls.specs.Event.{atDatapoint}
-use Rattle.calls.specs.Call.{Done, saying, handedUp, onMoved, onPoll, happens, refusal, refused, call}
+use Rattle.calls.specs.Call.{Done, handedUp, onMoved, onPoll, happens, refusal, refused, call}
 use Rattle.calls.proofs.CallJoins.{waited}
 use Rattle.walks.proofs.Branches.{no-T}
-use Rattle.demands.proofs.HandedOutLaws.{out-id, report-id, value-id, call-tables, by-call}
+use Rattle.demands.proofs.HandedOutLaws.{out-id, report-id, value-id, call-tables, by-call, byte-tables, by-poll}
 use Rattle.demands.proofs.EntryErrorLaws.{judge, judged-absent, refused-whole, call-refused-whole, command-code}
 use Rattle.demands.specs.Entries.{entriesOf, holdsEntry, messageUp}
 use Rattle.demands.specs.Status.{statusAt, replaced, isSendFor, statusByRequest, statusBy, AfterRequest, AfterCall, StaysOrRequested, isOutcomeFor, StaysOrRequestedByRequest, StaysOrRequestedByCall, IdleBySent, noSendOrOutcome, tablesAfterAll, StandsUntil, isRetired, RetiredRefused, RetiredCallRefused, RetiredCode, StatusStands}
@@ -222,22 +222,9 @@ unfolding statusByRequest
 after-request id t m = request-leaves id t m
 
 -- ---- every call
--- what the link hands up
-up-leaves : (id : ℕ) (u : Up) (s : List ℕ) (t : Tables) (l : Line) → statusAt id (handedUp u s t l .tables) ≡ replaced (statusByRequest id t (messageUp u)) (statusAt id t)
-unfolding handedUp saying messageUp statusByRequest holdsEntry subService replaced
-up-leaves id nothing s t l = refl
-up-leaves id acknowledged s t l = refl
-up-leaves id dropped s t l = refl
-up-leaves id reset s t l = refl
-up-leaves id (message m) s t l = after-request id t m
-
 poll-leaves : (id : ℕ) (t : Tables) (l : Line) → statusAt id (onPoll t l .tables) ≡ statusAt id t
-unfolding onPoll saying
-poll-leaves id t l = go (isEmpty (l .outstanding)) refl
-  where
-    go : (u : Bool) → isEmpty (l .outstanding) ≡ u → statusAt id (onPoll t l .tables) ≡ statusAt id t
-    go true e = simp (e, onPoll) (unfold statusAt indication in statuses-reported id roomForEntries (t .datapoints))
-    go false e = simp (e, onPoll)
+poll-leaves id t l =
+    by-poll (λ (x : Tables). statusAt id x ≡ statusAt id t) t l (unfold statusAt indication in statuses-reported id roomForEntries (t .datapoints)) refl
 
 value-new : (v : List ℕ) (d : Datapoint) → status (busValue v d) ∷ [] ≡ replaced [] (status d ∷ [])
 unfolding busValue withMark withValue replaced
@@ -253,7 +240,7 @@ outcome-new s d h = ap {B = List ℕ} (λ (n : ℕ). n ∷ []) (bits-with-status
 
 pub happens-leaves : (id : ℕ) (e : Event) (v : List ℕ) (t : Tables) (l : Line) → statusAt id (happens e v t l .tables) ≡ replaced (statusBy id e t l) (statusAt id t)
 unfolding happens statusBy atDatapoint
-happens-leaves id (HostByte b) v t l = unfold onMoved in up-leaves id (onHostByte b l .up) (onHostByte b l .sent) t (onHostByte b l .line)
+happens-leaves id (HostByte b) v t l = ap (statusAt id) (byte-tables b v t l) ∙ after-request id t (messageUp (onHostByte b l .up))
 happens-leaves id IdleMark v t l = unfold onMoved handedUp onIdleMark replaced in refl
 happens-leaves id AckWaitOver v t l = ap (λ (d : Done). statusAt id (d .tables)) (waited l t) ∙ (unfold replaced in refl)
 happens-leaves id Poll v t l = poll-leaves id t l ∙ (unfold replaced in refl)

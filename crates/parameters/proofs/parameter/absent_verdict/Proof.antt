@@ -1,12 +1,9 @@
-use Prim.Native.Nat.{ℕ}
-use mathlib.Core.Path.{_≡_, sym, _∙_, ap}
+use mathlib.Core.Path.{_≡_, sym, ap}
 use native.Mathlib.Nat.{pos-of-ne-zero}
 use native.Mathlib.Omega.{arith}
 use borrow.Author.Needs.{needs}
 use Rattle.baos.specs.Message.{verdictOf}
-use Rattle.baos.specs.Set.{absentIndices, absentFinding}
-use Rattle.baos.specs.declared.inner.Verdict.{Verdict}
-use Rattle.baos.proofs.SetParameterLaws.{absent-at-zero, absent-at-start, absent-behind, absent-none}
+use Rattle.baos.proofs.SetParameterLaws.{absent-at-start, absent-behind, absent-none}
 use Rattle.parameters.proofs.parameter.absent_verdict.Statement.{statement}
 use Rattle.parameters.proofs.parameter.absent_verdict.Tie as tie
 
@@ -14,15 +11,13 @@ returns : tie.Need-returns
 unfolding verdictOf
 returns c =
     let a = c .before .args in
-    let z : a .start ≡ 0 = omega arith in
-    ap {B = Verdict} (λ (i : ℕ). record { id = i; code = 7 }) z
-    ∙ sym (ap (λ (i : ℕ). verdictOf (absentFinding (absentIndices (a .count) i (a .number)))) z ∙ ap verdictOf (absent-at-zero (a .count) (a .number) (omega arith)))
+    sym (ap verdictOf (absent-at-start (a .count) (a .start) (a .number) (omega arith) (λ l h. omega (arith, l))))
 
 returns-2 : tie.Need-returns-2
 unfolding verdictOf
 returns-2 c =
     let a = c .before .before .args in
-    sym (ap verdictOf (absent-at-start (a .count) (a .start) (a .number) (omega arith) (omega arith)))
+    sym (ap verdictOf (absent-at-start (a .count) (a .start) (a .number) (omega arith) (λ l h. omega (arith, h))))
 
 add-if3 : tie.Need-add-if3
 add-if3 c = search needs
