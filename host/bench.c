@@ -13,32 +13,39 @@ call_function tuned_o3_call;
 
 static int32_t no_call(uint8_t event, uint8_t byte, uint16_t id, uint8_t outcome, const uint8_t *value, size_t value_count,
                        struct tagobrelin_datapoint *datapoints, size_t datapoint_count, struct tagobrelin_item *items, size_t item_count,
-                       uint8_t *parameters, size_t parameter_count, struct tagobrelin_link *link, uint8_t *out, size_t room)
+                       uint8_t *parameters, size_t parameter_count, const uint8_t *site_texts, size_t site_texts_size,
+                       const uint8_t *default_texts, size_t default_texts_size, struct tagobrelin_link *link, uint8_t *out,
+                       size_t room)
 {
     (void)byte, (void)id, (void)outcome, (void)value, (void)value_count, (void)datapoints, (void)datapoint_count, (void)items, (void)item_count;
-    (void)parameters, (void)parameter_count, (void)link, (void)out, (void)room;
+    (void)parameters, (void)parameter_count, (void)site_texts, (void)site_texts_size, (void)default_texts;
+    (void)default_texts_size, (void)link, (void)out, (void)room;
     return event;
 }
 
 static const struct row {
     const char *name;
     enum kind kind;
-    size_t size, held;
+    size_t size, held, texts; /* texts: the entries of each list */
 } rows[] = {
-    {"host byte in mid-frame", STREAM, 100, 0},
-    {"the same, 261 bytes outstanding", STREAM, 100, 261},
-    {"get of 20 values, all its bytes", GET_FRAME, 20, 0},
-    {"get of 20 values, its last byte", GET, 20, 0},
-    {"set of 40 entries, all its bytes", SET_FRAME, 40, 0},
-    {"set of 40 entries, its last byte", SET, 40, 0},
-    {"poll, 40 marks", POLL, 40, 0},
-    {"poll, no mark", POLL, 0, 0},
-    {"frame of 261 bytes, all its bytes", FRAME, 261, 0},
-    {"248 parameter bytes, its last byte", PARAMETERS, 248, 0},
-    {"248 parameter bytes set, its last byte", SET_PARAMETERS, 248, 0},
-    {"261 bytes sent again", RESEND, 261, 0},
-    {"bus value", BUS_VALUE, 0, 0},
-    {"outcome", OUTCOME, 0, 0},
+    {"host byte in mid-frame", STREAM, 100, 0, 0},
+    {"the same, 261 bytes outstanding", STREAM, 100, 261, 0},
+    {"host byte, two lists of 100 texts", STREAM, 100, 0, 100},
+    {"host byte, two lists of 1000 texts", STREAM, 100, 0, 1000},
+    {"get of 20 values, all its bytes", GET_FRAME, 20, 0, 0},
+    {"get of 20 values, its last byte", GET, 20, 0, 0},
+    {"get of 20 strings, lists of 100 texts", STRINGS, 20, 0, 100},
+    {"get of 20 strings, lists of 1000 texts", STRINGS, 20, 0, 1000},
+    {"set of 40 entries, all its bytes", SET_FRAME, 40, 0, 0},
+    {"set of 40 entries, its last byte", SET, 40, 0, 0},
+    {"poll, 40 marks", POLL, 40, 0, 0},
+    {"poll, no mark", POLL, 0, 0, 0},
+    {"frame of 261 bytes, all its bytes", FRAME, 261, 0, 0},
+    {"248 parameter bytes, its last byte", PARAMETERS, 248, 0, 0},
+    {"248 parameter bytes set, its last byte", SET_PARAMETERS, 248, 0, 0},
+    {"261 bytes sent again", RESEND, 261, 0, 0},
+    {"bus value", BUS_VALUE, 0, 0, 0},
+    {"outcome", OUTCOME, 0, 0, 0},
 };
 
 enum { OURS, TUNED, TUNED_O3, NONE, FUNCTIONS, MOST_ROUNDS = 5000 };
@@ -93,6 +100,7 @@ int main(int argc, char **argv)
         printf("%-38s %9s %9s %7s %9s %9s %7s\n", "ns a call", "ours", "C -O2", "ratio", "in pairs", "C -O3", "ratio");
         for (size_t i = 0; i < sizeof rows / sizeof *rows; i++) {
             double at[FUNCTIONS];
+            make_texts(rows[i].texts);
             unsigned calls = make_plays(rows[i].kind, rows[i].size, rows[i].held);
             unsigned count = 1 + (unsigned)(20000 / (batch(tuned_call, 0, 8 * VARIANTS) + 1));
             for (unsigned r = 0; r < rounds; r++) {

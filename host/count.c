@@ -10,15 +10,18 @@
 static const struct row {
     const char *name;
     enum kind kind;
-    size_t size, held;
+    size_t size, held, texts; /* texts: the entries of each list, which the name ends with where they are not 0 */
 } rows[] = {
-    {"mid-frame", MID_FRAME, 40, 0},    {"mid-frame", MID_FRAME, 232, 0}, {"mid-frame", MID_FRAME, 40, 40}, {"mid-frame", MID_FRAME, 40, 232},
-    {"get-frame", GET_FRAME, 20, 0},    {"get", GET, 5, 0},               {"get", GET, 20, 0},              {"set-frame", SET_FRAME, 40, 0},
-    {"set", SET, 8, 0},                 {"set", SET, 40, 0},              {"poll", POLL, 0, 0},             {"poll", POLL, 8, 0},
-    {"poll", POLL, 40, 0},              {"frame", FRAME, 261, 0},         {"checksum", CHECKSUM, 47, 0},    {"checksum", CHECKSUM, 239, 0},
-    {"parameters", PARAMETERS, 40, 0},  {"parameters", PARAMETERS, 232, 0}, {"resend", RESEND, 40, 0},      {"resend", RESEND, 232, 0},
-    {"set-parameters", SET_PARAMETERS, 40, 0},  {"set-parameters", SET_PARAMETERS, 232, 0},
-    {"bus-value", BUS_VALUE, 0, 0},     {"outcome", OUTCOME, 0, 0},       {"idle", IDLE, 40, 0},
+    {"mid-frame", MID_FRAME, 40, 0, 0}, {"mid-frame", MID_FRAME, 232, 0, 0}, {"mid-frame", MID_FRAME, 40, 40, 0},
+    {"mid-frame", MID_FRAME, 40, 232, 0}, {"get-frame", GET_FRAME, 20, 0, 0}, {"get", GET, 5, 0, 0},
+    {"get", GET, 20, 0, 0}, {"set-frame", SET_FRAME, 40, 0, 0}, {"set", SET, 8, 0, 0}, {"set", SET, 40, 0, 0},
+    {"poll", POLL, 0, 0, 0}, {"poll", POLL, 8, 0, 0}, {"poll", POLL, 40, 0, 0}, {"frame", FRAME, 261, 0, 0},
+    {"checksum", CHECKSUM, 47, 0, 0}, {"checksum", CHECKSUM, 239, 0, 0}, {"parameters", PARAMETERS, 40, 0, 0},
+    {"parameters", PARAMETERS, 232, 0, 0}, {"resend", RESEND, 40, 0, 0}, {"resend", RESEND, 232, 0, 0},
+    {"set-parameters", SET_PARAMETERS, 40, 0, 0}, {"set-parameters", SET_PARAMETERS, 232, 0, 0},
+    {"bus-value", BUS_VALUE, 0, 0, 0}, {"outcome", OUTCOME, 0, 0, 0}, {"idle", IDLE, 40, 0, 0},
+    {"mid-frame-100", MID_FRAME, 40, 0, 100}, {"mid-frame-1000", MID_FRAME, 40, 0, 1000},
+    {"strings-100", STRINGS, 20, 0, 100}, {"strings-1000", STRINGS, 5, 0, 1000}, {"strings-1000", STRINGS, 20, 0, 1000},
 };
 
 static void count(const struct row *row, size_t datapoints, size_t items, call_function *f, const char *function)
@@ -47,6 +50,7 @@ int main(int argc, char **argv)
             for (int f = 0; f <= both; f++) {
                 /* the same tables and plays for each */
                 make_tables(tables[t].datapoints, tables[t].items);
+                make_texts(rows[i].texts);
                 count(&rows[i], tables[t].datapoints, tables[t].items, f ? tuned_call : tagobrelin_call, f ? "tuned" : "ours");
             }
         }

@@ -46,7 +46,14 @@ fn empty_link() -> Link {
 }
 
 fn empty_server() -> Server {
-    Server { datapoints: Vec::new(), items: Vec::new(), parameters: Vec::new(), link: empty_link() }
+    Server {
+        datapoints: Vec::new(),
+        items: Vec::new(),
+        parameters: Vec::new(),
+        site_texts: Vec::new(),
+        default_texts: Vec::new(),
+        link: empty_link(),
+    }
 }
 
 fn datapoint(id: u16, typecode: u8, state: u8, value: &[u8]) -> Datapoint {
@@ -64,6 +71,17 @@ fn item(id: u16, writable: bool, data: &[u8]) -> Item {
     let mut all = [0; 16];
     all[..data.len()].copy_from_slice(data);
     Item { id, size: data.len() as u8, writable: u8::from(writable), bytes: all }
+}
+
+/// A list of texts, (02) item 1: "A list entry is an ID of two bytes, a length byte of 0 to 30 and the text."
+fn text_list(entries: &[(u16, &[u8])]) -> Vec<u8> {
+    let mut list = Vec::new();
+    for (id, text) in entries {
+        list.extend_from_slice(&id.to_be_bytes());
+        list.push(text.len() as u8);
+        list.extend_from_slice(text);
+    }
+    list
 }
 
 /// What holds after every call: a refused call alters nothing; an accepted one leaves tables and link that 1 and 2 do not
@@ -90,6 +108,7 @@ fn step(server: &mut Server, event: &Event, value: &[u8], room: usize) -> Result
                     || *sent == [0x10, 0xC0, 0xC0, 0x16],
             );
             truth("the parts that no rule alters", unaltered_parts(&before, server));
+            truth("the lists of texts are only read", texts_stand(&before, server));
             truth("a status stands, or is requested, or had its outcome", status_stands(event, &before, server));
             truth("a value is asked for at an open datapoint alone", asks_stand(&before, server));
             truth("parameter bytes are altered by sub 08 alone", parameters_stand(&before, server, sent));
@@ -111,6 +130,11 @@ fn unaltered_parts(before: &Server, after: &Server) -> bool {
             let (a, b) = (&before.datapoints[at], &after.datapoints[at]);
             a.id == b.id && a.typecode == b.typecode && a.flags == b.flags && a.dpt == b.dpt
         })
+}
+
+/// (02) item 1: lists "are only read".
+fn texts_stand(before: &Server, after: &Server) -> bool {
+    before.site_texts == after.site_texts && before.default_texts == after.default_texts
 }
 
 /// (02) item 9: "a failed status 01 stands until the next send command or outcome"; so does every other.
@@ -339,12 +363,16 @@ fn examples_of_01() {
     is_error("example 7, values, absent", &mut server, &get_values(0xFFFF, 0xFFFF, 0), 0xFFFF, 2);
     is_error("example 7, items, absent", &mut server, &get(0x01, 0xFFFF, 0xFFFF), 0xFFFF, 2);
     is_error("example 7, descriptions, absent", &mut server, &get(0x03, 0xFFFF, 0xFFFF), 0xFFFF, 2);
+    server.default_texts = text_list(&[(1, b"one"), (65534, b"last but one"), (65535, b"last")]);
+    is_error("example 7, strings, absent", &mut server, &get(0x04, 0xFFFF, 0xFFFF), 0xFFFF, 2);
     server.datapoints.push(datapoint(65535, 7, 0x10, &[8]));
     server.items.push(item(65535, true, &[6]));
     same("example 7, values", ask(&mut server, &get_values(0xFFFF, 0xFFFF, 0)), Some(hex("F0 85 FF FF 00 01 FF FF 10 01 08")));
     same("example 7, items", ask(&mut server, &get(0x01, 0xFFFF, 0xFFFF)), Some(hex("F0 81 FF FF 00 01 FF FF 01 06")));
     let answer = ask(&mut server, &get(0x03, 0xFFFF, 0xFFFF));
     same("example 7, descriptions", answer, Some(hex("F0 83 FF FF 00 01 FF FF 07 57 01")));
+    let answer = ask(&mut server, &get(0x04, 0xFFFF, 0xFFFF));
+    same("example 7, strings", answer, Some(join(&[&hex("F0 84 FF FF 00 01 00 04"), b"last"])));
     server.parameters = vec![3; 255];
     is_error("example 7, parameters", &mut server, &get(0x07, 0xFFFF, 0xFFFF), 0xFFFF, 2);
     // 8
@@ -354,6 +382,8 @@ fn examples_of_01() {
         is_error("example 8, values", &mut server, &get_values(0, 0xFFFF, filter), 0, 2);
     }
     is_error("example 8, descriptions", &mut server, &get(0x03, 7, 9), 7, 2);
+    server.site_texts = text_list(&[(7, b"seven")]);
+    is_error("example 8, strings", &mut server, &get(0x04, 7, 9), 7, 2);
     is_error("example 8, set", &mut server, &set_values(9, &[(4, 0xFF, &[1, 2, 3])]), 4, 7);
     is_error("example 8, set of two", &mut server, &set_values(9, &[(6, 1, &[]), (5, 1, &[1])]), 6, 7);
     // 9
@@ -417,7 +447,8 @@ fn exchange_of_000() {
 
 // ------------------------------------------------------------------------------------------------- the rows of the table
 
-/// Items 1 (not writable), 2 and 4; datapoints 10 to 24 of types 0 to 14, all closed, and 30; six parameter bytes.
+/// Items 1 (not writable), 2 and 4; datapoints 10 to 24 of types 0 to 14, all closed, and 30; six parameter bytes; texts
+/// of the site for 17 and, empty, for 18, default ones for 10, 17 and 18, and some for IDs that no datapoint has.
 fn small_server() -> Server {
     let mut server = empty_server();
     server.items = vec![item(1, false, &[1, 2, 3]), item(2, true, &[4]), item(4, true, &[9; 16])];
@@ -430,6 +461,8 @@ fn small_server() -> Server {
     }
     server.datapoints.push(datapoint(30, 7, 0x1F, &[0xAB]));
     server.parameters = vec![11, 12, 13, 14, 15, 16];
+    server.site_texts = text_list(&[(0, b"none"), (17, b"Kitchen"), (18, b""), (25, b"none")]);
+    server.default_texts = text_list(&[(10, b"Lamp"), (11, b""), (17, b"Hall"), (18, b"Blind"), (65535, b"none")]);
     server
 }
 
@@ -469,9 +502,9 @@ fn messages_without_answer() {
 
 fn rows_5_10_6() {
     let mut server = small_server();
-    // 5: "sub not one of the six"; before 10 and 6. (02) item 5: "code 5 no longer for sub 08".
+    // 5: "sub not one of the six"; before 10 and 6. (02) item 5: "code 5 no longer for sub 08"; item 1: nor for sub 04.
     for sub in 0..0x80_u8 {
-        if [1, 2, 3, 5, 6, 7, 8].contains(&sub) {
+        if [1, 2, 3, 4, 5, 6, 7, 8].contains(&sub) {
             continue;
         }
         is_error("5", &mut server, &get(sub, 0x1234, 1), 0x1234, 5);
@@ -479,7 +512,7 @@ fn rows_5_10_6() {
         is_error("5 before 10", &mut server, &join(&[&get(sub, 0x1234, 0), &[9; 40]]), 0x1234, 5);
     }
     // 10: gets.
-    for sub in [1, 3, 7] {
+    for sub in [1, 3, 4, 7] {
         for more in 1..=248 {
             let message = join(&[&get(sub, 1, 1), &vec![0; more]]);
             is_error("10, get", &mut server, &message, 1, 10);
@@ -786,6 +819,8 @@ fn closed_and_open_alike() {
             same("a get", ask(&mut open, &message), ask(&mut other, &message));
             alike("a get", &open, &other);
         }
+        same("strings", ask(&mut open, &get(4, 10, 14)), ask(&mut other, &get(4, 10, 14)));
+        alike("strings", &open, &other);
         for command in 0..=1 {
             let message = set_values(10, &[(10, command, &[0]), (18, command, &[5, 6])]);
             same("a set", ask(&mut open, &message), ask(&mut other, &message));
@@ -974,6 +1009,142 @@ fn parameters_left_alone() {
     truth("the whole one does", feed(&mut server, &frame).len() == 15 && server.parameters[..3] == [0xD1, 0xD2, 0xD3]);
 }
 
+/// (02) item 1. "Add GetDescriptionString (sub 04, document 000, 3.8 and 3.9): start, count, then per string a length of
+/// two bytes and the text."
+fn description_strings() {
+    // The site's text, the default one, none; an empty text of the site does not hide the default one.
+    let mut server = small_server();
+    let before = server.clone();
+    same("default", ask(&mut server, &get(4, 10, 1)), Some(join(&[&hex("F0 84 00 0A 00 01 00 04"), b"Lamp"])));
+    same("an empty default", ask(&mut server, &get(4, 11, 1)), Some(hex("F0 84 00 0B 00 01 00 00")));
+    same("neither", ask(&mut server, &get(4, 12, 1)), Some(hex("F0 84 00 0C 00 01 00 00")));
+    same("site", ask(&mut server, &get(4, 17, 1)), Some(join(&[&hex("F0 84 00 11 00 01 00 07"), b"Kitchen"])));
+    same("an empty site's", ask(&mut server, &get(4, 18, 1)), Some(join(&[&hex("F0 84 00 12 00 01 00 05"), b"Blind"])));
+    let head = hex("F0 84 00 0F 00 05 00 00 00 00");
+    let several = join(&[&head, &hex("00 07"), b"Kitchen", &hex("00 05"), b"Blind", &hex("00 00")]);
+    same("several", ask(&mut server, &get(4, 15, 5)), Some(several));
+    // IDs that no datapoint has are skipped, with a text and without; the start is echoed.
+    same("one of a range", ask(&mut server, &get(4, 25, 6)), Some(hex("F0 84 00 19 00 01 00 00")));
+    is_error("2, with a text", &mut server, &get(4, 25, 5), 25, 2);
+    is_error("2, with a text", &mut server, &get(4, 0, 10), 0, 2);
+    is_error("2, with a text", &mut server, &get(4, 0xFFFF, 1), 0xFFFF, 2);
+    is_error("2, without", &mut server, &get(4, 31, 0xFFFF), 31, 2);
+    is_error("6", &mut server, &get(4, 17, 0), 17, 6);
+    is_error("10", &mut server, &hex("F0 04 00 11 00 01 00"), 17, 10);
+    is_error("10 before 6", &mut server, &hex("F0 04 00 11 00 00 00"), 17, 10);
+    // It changes no table: bit 3 of the state stays too, with and without a text.
+    truth("no table is changed", tables_stand(&before, &server));
+    // Each length, each byte, in either list.
+    for site in [false, true] {
+        for length in 0..=30 {
+            let text: Vec<u8> = (0..length).map(|at| (at * 9 + length) as u8).collect();
+            let list = text_list(&[(16, b"before"), (17, &text), (18, b"behind")]);
+            let mut server = empty_server();
+            server.datapoints.push(datapoint(17, 7, 0, &[1]));
+            *(if site { &mut server.site_texts } else { &mut server.default_texts }) = list;
+            let want = join(&[&hex("F0 84 00 11 00 01 00"), &[length as u8], &text]);
+            same("each length", ask(&mut server, &get(4, 17, 1)), Some(want));
+        }
+        for byte in 0..=0xFF_u8 {
+            let mut server = small_server();
+            let list = text_list(&[(10, &[byte, 0, byte])]);
+            *(if site { &mut server.site_texts } else { &mut server.default_texts }) = list;
+            let want = join(&[&hex("F0 84 00 0A 00 01 00 03"), &[byte, 0, byte]]);
+            same("each byte", ask(&mut server, &get(4, 10, 1)), Some(want));
+        }
+    }
+    // Texts of 30 bytes: 7 answer with 230, the 8th goes over; the code has its ID, also where later ones are shorter.
+    let mut server = empty_server();
+    let thirty = [0x41; 30];
+    let all: Vec<(u16, &[u8])> = (1..=9).map(|at| (at * 5, &thirty[..])).collect();
+    server.datapoints = (1..=9).map(|at| datapoint(at * 5, 7, 0x18, &[1])).collect();
+    for lists in [(&all[..], &[][..]), (&[], &all), (&all[3..], &all[..4])] {
+        server.site_texts = text_list(lists.0);
+        server.default_texts = text_list(lists.1);
+        let answer = ask(&mut server, &get(4, 1, 38)).expect("answer");
+        same("7 of 30 bytes", &answer[..6], &hex("F0 84 00 01 00 07"));
+        same("7 of 30 bytes", answer[6..].to_vec(), join(&[&hex("00 1E"), &thirty]).repeat(7));
+        is_error("8 of 30 bytes", &mut server, &get(4, 1, 40), 40, 3);
+        is_error("9 of 30 bytes", &mut server, &get(4, 1, 0xFFFF), 40, 3);
+        is_error("9 from the second on", &mut server, &get(4, 6, 0xFFFF), 45, 3);
+    }
+    // 254 bytes answer: 7 of 32 and one of 24; one more byte is over.
+    for length in 0..=30 {
+        let text = vec![0x42; length];
+        server.site_texts = join(&[&text_list(&all[..7]), &text_list(&[(40, &text)])]);
+        server.default_texts = Vec::new();
+        if length <= 22 {
+            same("up to 254", ask(&mut server, &get(4, 5, 36)).expect("answer").len(), 6 + 7 * 32 + 2 + length);
+        } else {
+            is_error("255 and above", &mut server, &get(4, 5, 36), 40, 3);
+        }
+    }
+    // Lists of many entries, around the IDs of the table.
+    let many: Vec<(u16, &[u8])> = (0..=65535).map(|id| (id, if id % 3 == 0 { &b"many"[..] } else { &[] })).collect();
+    server.site_texts = text_list(&many);
+    server.default_texts = text_list(&[(5, b"five"), (10, b"ten")]);
+    let want = join(&[&hex("F0 84 00 05 00 03 00 04"), b"five", &hex("00 03"), b"ten", &hex("00 04"), b"many"]);
+    // The last byte alone: a list of 65,536 entries takes its time.
+    let frame = framed(0x73, &get(4, 5, 11));
+    server.link = empty_link();
+    server.link.receiver[..frame.len() - 1].copy_from_slice(&frame[..frame.len() - 1]);
+    server.link.received = frame.len() as u16 - 1;
+    same("65,536 entries", feed(&mut server, &[0x16]), join(&[&[0xE5], &framed(0xF3, &want)]));
+}
+
+/// (02) item 1: "call refusal 1 also for a list out of order or not made of whole entries". In every call, for either
+/// list; `step` sees that nothing is altered.
+fn text_lists() {
+    let judged = |what: &str, list: &[u8], in_order: bool| {
+        for site in [false, true] {
+            for (happened, value) in six_events() {
+                let mut server = small_server();
+                *(if site { &mut server.site_texts } else { &mut server.default_texts }) = list.to_vec();
+                let result = step(&mut server, &happened, &value, 262);
+                same(what, result.err(), if in_order { None } else { Some(1) });
+            }
+        }
+    };
+    judged("no byte", &[], true);
+    // Cut at each byte: in order where an entry ends, and nowhere else.
+    let list = text_list(&[(0, b"zero"), (1, b""), (17, &[0; 30]), (256, b"\0\0\0"), (300, b""), (65535, b"end")]);
+    let ends = [0, 7, 10, 43, 49, 52, 58];
+    same("the whole list", list.len(), 58);
+    for cut in 0..=list.len() {
+        judged("cut", &list[..cut], ends.contains(&cut));
+    }
+    judged("a byte more", &join(&[&list, &[0]]), false);
+    // Each length byte, with as many bytes behind it and with more entries behind these.
+    for length in 0..=0xFF_u8 {
+        let text = vec![0x55; usize::from(length)];
+        judged("a length of 0 to 30", &text_list(&[(17, &text)]), length <= 30);
+        judged("a length of 0 to 30", &text_list(&[(3, b"three"), (17, &text), (18, b"")]), length <= 30);
+    }
+    // The order of the IDs: strictly rising, from 0 on, by both bytes.
+    let ids = [0, 1, 2, 0xFE, 0xFF, 0x100, 0x101, 0x1FF, 0x200, 0x7FFF, 0x8000, 0xFF00, 0xFFFE, 0xFFFF];
+    for first in ids {
+        judged("a first ID", &text_list(&[(first, b"any")]), true);
+        for second in ids {
+            judged("two IDs", &text_list(&[(first, b"a"), (second, b"b")]), first < second);
+            judged("two IDs, no text", &text_list(&[(first, b""), (second, b"")]), first < second);
+            let three = text_list(&[(first, b"a"), (second, b"b"), (0xFFFF, b"c")]);
+            judged("three IDs", &three, first < second && second < 0xFFFF);
+        }
+    }
+    // The lists know nothing of each other, nor of the tables: equal IDs, the same bytes, no datapoint.
+    let mut server = empty_server();
+    server.site_texts = list.clone();
+    server.default_texts = list.clone();
+    same("the same list twice", event(&mut server, Event::IdleMark), Vec::new());
+    // A get is refused too, and not answered from the part of the list that is in order.
+    let mut server = small_server();
+    server.site_texts = text_list(&[(10, b"Lamp"), (9, b"")]);
+    let frame = framed(0x73, &get(4, 10, 1));
+    server.link.receiver[..frame.len() - 1].copy_from_slice(&frame[..frame.len() - 1]);
+    server.link.received = frame.len() as u16 - 1;
+    same("a get with a list out of order", step(&mut server, &Event::HostByte(0x16), &[], 262), Err(1));
+}
+
 fn gets() {
     let mut server = small_server();
     // Items.
@@ -1096,6 +1267,11 @@ fn limits_254_and_255() {
     same("descriptions, 49", ask(&mut server, &get(3, 1, 98)).expect("answer").len(), 251);
     is_error("descriptions, 50", &mut server, &get(3, 1, 99), 99, 3);
     is_error("descriptions, 1000", &mut server, &get(3, 3, 0xFFFF), 101, 3);
+    // Strings without text, of 2 bytes: 124 answer with 254, the 125th goes over.
+    let answer = ask(&mut server, &get(4, 1, 248)).expect("answer");
+    same("strings, 124 empty", answer, join(&[&hex("F0 84 00 01 00 7C"), &[0; 248]]));
+    is_error("strings, 125 empty", &mut server, &get(4, 1, 249), 249, 3);
+    is_error("strings, 1000", &mut server, &get(4, 0, 0xFFFF), 249, 3);
     // A host message of 254 bytes (L = 255), and one of 255 cannot be framed.
     let value: &[u8] = &[0x3C; 14];
     let entries: Vec<(u16, u8, &[u8])> = (0..13).map(|at| (2 * at + 1, 3, value)).collect();
@@ -1661,6 +1837,14 @@ fn refusals() {
         ("a writable of 3", |s| s.items[1].writable = 3),
         ("a writable of 80", |s| s.items[2].writable = 0x80),
         ("a writable of FF", |s| s.items[1].writable = 0xFF),
+        ("site's texts, a cut entry", |s| s.site_texts.push(0xFF)),
+        ("site's texts, a length of 31", |s| s.site_texts = text_list(&[(17, &[1; 31])])),
+        ("site's texts, IDs equal", |s| s.site_texts = text_list(&[(17, b"a"), (17, b"b")])),
+        ("site's texts, IDs fall", |s| s.site_texts = text_list(&[(17, b"a"), (16, b"b")])),
+        ("default texts, a cut entry", |s| s.default_texts.truncate(8)),
+        ("default texts, a length of 31", |s| s.default_texts[2] = 31),
+        ("default texts, IDs equal", |s| s.default_texts = text_list(&[(0, b""), (0, b"")])),
+        ("default texts, IDs fall", |s| s.default_texts = text_list(&[(256, b"a"), (255, b"b")])),
     ];
     let links: Vec<(&str, Change)> = vec![
         ("received 261", |s| s.link.received = 261),
@@ -1956,15 +2140,29 @@ fn random_server(numbers: &mut Numbers) -> Server {
     }
     let length = numbers.below(256);
     server.parameters = (0..length).map(|_| numbers.byte()).collect();
+    server.site_texts = random_texts(numbers);
+    server.default_texts = random_texts(numbers);
     server.link.expected = numbers.below(2) as u8;
     server.link.send = numbers.below(2) as u8;
     server
 }
 
+fn random_texts(numbers: &mut Numbers) -> Vec<u8> {
+    let mut list = Vec::new();
+    let mut id = numbers.below(3) as u16;
+    for _ in 0..numbers.below(20) {
+        let length = [0, 4, 30, numbers.below(31)][numbers.below(4) as usize];
+        let text: Vec<u8> = (0..length).map(|_| numbers.byte()).collect();
+        list.extend(text_list(&[(id, &text)]));
+        id += 1 + numbers.below(3) as u16;
+    }
+    list
+}
+
 fn random_message(numbers: &mut Numbers, server: &Server) -> Vec<u8> {
     let start = numbers.below(12) as u16;
     let number = [0, 1, 2, 5, 20, 300, 0xFFFF][numbers.below(7) as usize];
-    match numbers.below(9) {
+    match numbers.below(10) {
         0 => get(1, start, number),
         1 => get(3, start, number),
         2 | 3 => get_values(start, number, numbers.below(4) as u8),
@@ -2007,6 +2205,7 @@ fn random_message(numbers: &mut Numbers, server: &Server) -> Vec<u8> {
             let bytes: Vec<u8> = (0..numbers.below(40)).map(|_| numbers.byte()).collect();
             set_parameters(start * 20 + 1, &bytes)
         }
+        8 => get(4, start, number),
         _ => (0..numbers.below(20)).map(|_| numbers.byte()).collect(),
     }
 }
@@ -2088,7 +2287,7 @@ fn any_fields_at_random() {
             let byte = number as u8;
             let record = numbers.below(server.datapoints.len() as u64 + 1) as usize;
             let entry = numbers.below(server.items.len() as u64 + 1) as usize;
-            match numbers.below(16) {
+            match numbers.below(18) {
                 0 => server.link.received = number,
                 1 => server.link.held = number,
                 2 => server.link.resends = byte,
@@ -2113,6 +2312,11 @@ fn any_fields_at_random() {
                 12 if entry < server.items.len() => server.items[entry].size = byte,
                 13 if entry < server.items.len() => server.items[entry].bytes[numbers.below(16) as usize] = byte,
                 14 if entry < server.items.len() => server.items[entry].id = number,
+                15 => server.site_texts.resize(usize::from(byte), 0),
+                16 if !server.default_texts.is_empty() => {
+                    let at = numbers.below(server.default_texts.len() as u64) as usize;
+                    server.default_texts[at] = byte;
+                }
                 _ => server.parameters.resize(usize::from(number) % 400, 0),
             }
         }
@@ -2136,7 +2340,7 @@ fn any_fields_at_random() {
 }
 
 fn main() {
-    let parts: [(&str, fn()); 26] = [
+    let parts: [(&str, fn()); 28] = [
         ("examples of 01", examples_of_01),
         ("exchange of 000", exchange_of_000),
         ("messages without answer", messages_without_answer),
@@ -2149,6 +2353,8 @@ fn main() {
         ("a failed status", failed_status),
         ("parameter sets", parameter_sets),
         ("parameters left alone", parameters_left_alone),
+        ("description strings", description_strings),
+        ("lists of texts", text_lists),
         ("gets", gets),
         ("limits 254 and 255", limits_254_and_255),
         ("acknowledgements", acknowledgements),

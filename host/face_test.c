@@ -13,6 +13,7 @@
 static struct tagobrelin_datapoint datapoints[1];
 static struct tagobrelin_item items[1];
 static uint8_t parameters[248];
+static const uint8_t site_texts[] = {0, 5, 4, 'L', 'a', 'm', 'p'}, default_texts[] = {0, 5, 2, 'D', 'P', 0, 6, 0};
 static struct tagobrelin_server server, empty;
 static int failed;
 
@@ -90,6 +91,30 @@ static void parameter_bytes(void)
     EXPECT(HEARD(&server, "\x10\x40\x40\x16") == 1);
 }
 
+/* the text of datapoint 5: the site's, the default one, none; and a list that is cut */
+static void description_strings(void)
+{
+    server.site_texts = site_texts;
+    server.site_texts_size = sizeof site_texts;
+    server.default_texts = default_texts;
+    server.default_texts_size = sizeof default_texts;
+    EXPECT(HEARD(&server, "\x68\x07\x07\x68\x73\xF0\x04\x00\x05\x00\x01\x6D\x16") == 20);
+    EXPECT(SENT(&server, "\xE5\x68\x0D\x0D\x68\xF3\xF0\x84\x00\x05\x00\x01\x00\x04Lamp\xFB\x16"));
+    EXPECT(HEARD(&server, "\xE5") == 0);
+    server.site_texts_size = 0;
+    EXPECT(HEARD(&server, "\x68\x07\x07\x68\x53\xF0\x04\x00\x05\x00\x01\x4D\x16") == 18);
+    EXPECT(SENT(&server, "\xE5\x68\x0B\x0B\x68\xD3\xF0\x84\x00\x05\x00\x01\x00\x02" "DP\xE3\x16"));
+    EXPECT(HEARD(&server, "\xE5") == 0);
+    server.default_texts = NULL;
+    server.default_texts_size = 0;
+    EXPECT(HEARD(&server, "\x68\x07\x07\x68\x73\xF0\x04\x00\x05\x00\x01\x6D\x16") == 16);
+    EXPECT(SENT(&server, "\xE5\x68\x09\x09\x68\xF3\xF0\x84\x00\x05\x00\x01\x00\x00\x6D\x16"));
+    server.site_texts_size = sizeof site_texts - 1;
+    EXPECT(tagobrelin_idle_mark(&server) == TAGOBRELIN_BAD_TABLE && tagobrelin_is_outstanding(&server));
+    server.site_texts_size = 0;
+    EXPECT(HEARD(&server, "\x10\x40\x40\x16") == 1);
+}
+
 static void bus_events(void)
 {
     const uint8_t on[1] = {1};
@@ -124,6 +149,12 @@ static void no_tables(void)
     empty.parameter_count = 1;
     EXPECT(tagobrelin_poll(&empty) == TAGOBRELIN_BAD_TABLE);
     empty.parameter_count = 0;
+    empty.site_texts_size = 1;
+    EXPECT(tagobrelin_poll(&empty) == TAGOBRELIN_BAD_TABLE);
+    empty.site_texts_size = 0;
+    empty.default_texts_size = 1;
+    EXPECT(tagobrelin_poll(&empty) == TAGOBRELIN_BAD_TABLE);
+    empty.default_texts_size = 0;
     EXPECT(tagobrelin_poll(&empty) == 0);
 }
 
@@ -132,6 +163,7 @@ int main(void)
     set_up();
     requests();
     parameter_bytes();
+    description_strings();
     bus_events();
     no_tables();
     EXPECT(TAGOBRELIN_MICROSECONDS(TAGOBRELIN_GAP_BITS, 19200) == 1719);

@@ -16,6 +16,9 @@ static struct bench {
     size_t item_count;
     uint8_t parameters[256];
     size_t parameter_count;
+    uint8_t texts[2][100]; /* the lists, where they are altered */
+    const uint8_t *site_texts, *default_texts;
+    size_t site_texts_size, default_texts_size;
     struct tagobrelin_link link;
     uint8_t value[16];
     size_t value_count;
@@ -42,7 +45,7 @@ static void ends(void)
     wrong = 0;
 }
 
-/* a new test: no table entries, a fresh link record, room, and in every byte of padding A5 */
+/* a new test: no table entries, no texts, a fresh link record, room, and in every byte of padding A5 */
 static void begins(const char *name)
 {
     ends();
@@ -54,12 +57,15 @@ static void begins(const char *name)
     ((uint8_t *)&bench.link)[529] = 0xA5;
     memset(bench.out, 0xEE, sizeof bench.out);
     bench.room = TAGOBRELIN_ROOM;
+    bench.site_texts = bench.texts[0];
+    bench.default_texts = bench.texts[1];
 }
 
 static int32_t called(uint8_t event, uint8_t byte, uint16_t id, uint8_t outcome)
 {
     return tagobrelin_call(event, byte, id, outcome, bench.value, bench.value_count, bench.datapoints, bench.datapoint_count, bench.items, bench.item_count,
-                           bench.parameters, bench.parameter_count, &bench.link, bench.out, bench.room);
+                           bench.parameters, bench.parameter_count, bench.site_texts, bench.site_texts_size,
+                           bench.default_texts, bench.default_texts_size, &bench.link, bench.out, bench.room);
 }
 
 /* the call is refused with this number, and no byte of anything is changed, padding included */
@@ -224,14 +230,14 @@ static void link_record(void)
 
     begins("link: expected");
     bench.link.expected = 0;
-    ANSWERED(0x73, BYTES(0xF0, 0x04, 0, 1, 0, 1), 0, (const uint8_t *)"", 0);
+    ANSWERED(0x73, BYTES(0xF0, 0x09, 0, 1, 0, 1), 0, (const uint8_t *)"", 0);
     EXPECT(!bench.link.expected);
-    ANSWERED(0x53, BYTES(0xF0, 0x04, 0, 1, 0, 1), 0xF3, BYTES(0xF0, 0x84, 0, 1, 0, 0, 5));
+    ANSWERED(0x53, BYTES(0xF0, 0x09, 0, 1, 0, 1), 0xF3, BYTES(0xF0, 0x89, 0, 1, 0, 0, 5));
     EXPECT(bench.link.expected);
 
     begins("link: send");
     bench.link.send = 0;
-    ANSWERED(0x73, BYTES(0xF0, 0x04, 0, 1, 0, 1), 0xD3, BYTES(0xF0, 0x84, 0, 1, 0, 0, 5));
+    ANSWERED(0x73, BYTES(0xF0, 0x09, 0, 1, 0, 1), 0xD3, BYTES(0xF0, 0x89, 0, 1, 0, 0, 5));
     EXPECT(!bench.link.send && heard(BYTES(0xE5)) == 0 && bench.link.send && bench.link.held == 0);
 
     begins("link: outstanding, held, resends");
@@ -324,6 +330,105 @@ static void parameters_set(void)
     EXPECT(heard(BYTES(0x16)) == 1 + 14 && memcmp(bench.parameters + 1, message + 6, 248) == 0);
 }
 
+/* These are lent where a write would be a fault. */
+static const uint8_t site_list[] = {0, 0, 1, 'z', 1, 2, 3, 'a', 'b', 'c', 1, 3, 0, 2, 0, 1, 'n'};
+static const uint8_t default_list[] = {1, 2, 2, 'x', 'y', 1, 3, 4, 'p', 'q', 'r', 's', 255, 255, 0};
+
+/* three datapoints, the IDs of the first two in both lists */
+static void lend_three(void)
+{
+    static const uint16_t ids[] = {0x0102, 0x0103, 0x0304};
+    for (size_t i = 0; i < COUNT(ids); i++)
+        bench.datapoints[i] = (struct tagobrelin_datapoint){.id = ids[i], .typecode = 7, .state = 0x18, .mark = 1};
+    bench.datapoint_count = COUNT(ids);
+}
+
+/* the request for all strings draws this answer, and nothing else is changed */
+static void strings_are(const uint8_t *answer, size_t count, int line)
+{
+    tagobrelin_fresh_link(&bench.link);
+    memcpy(&before, &bench, sizeof bench);
+    answered(0x73, BYTES(0xF0, 0x04, 0x01, 0x00, 0xFF, 0xFF), 0xF3, answer, count, line);
+    is_as_before(line);
+}
+
+#define STRINGS_ARE(...) strings_are(BYTES(0xF0, 0x84, 0x01, 0x00, __VA_ARGS__), __LINE__)
+
+static void texts(void)
+{
+    begins("lists of texts: the site's text, the default one, none");
+    lend_three();
+    STRINGS_ARE(0, 3, 0, 0, 0, 0, 0, 0);
+    bench.default_texts = default_list;
+    bench.default_texts_size = sizeof default_list;
+    STRINGS_ARE(0, 3, 0, 2, 'x', 'y', 0, 4, 'p', 'q', 'r', 's', 0, 0);
+    bench.site_texts = site_list;
+    bench.site_texts_size = sizeof site_list;
+    STRINGS_ARE(0, 3, 0, 3, 'a', 'b', 'c', 0, 4, 'p', 'q', 'r', 's', 0, 0);
+    bench.default_texts_size = 0;
+    STRINGS_ARE(0, 3, 0, 3, 'a', 'b', 'c', 0, 0, 0, 0);
+    /* both are one list, and one begins within the other */
+    bench.default_texts = site_list;
+    bench.default_texts_size = sizeof site_list;
+    STRINGS_ARE(0, 3, 0, 3, 'a', 'b', 'c', 0, 0, 0, 0);
+    bench.site_texts = default_list;
+    bench.site_texts_size = sizeof default_list;
+    bench.default_texts = default_list + 5;
+    bench.default_texts_size = sizeof default_list - 5;
+    STRINGS_ARE(0, 3, 0, 2, 'x', 'y', 0, 4, 'p', 'q', 'r', 's', 0, 0);
+    /* and a value within a list, of an event that has none */
+    tagobrelin_fresh_link(&bench.link);
+    EXPECT(tagobrelin_call(TAGOBRELIN_POLL, 0, 0, 0, default_list + 2, 9, bench.datapoints, bench.datapoint_count,
+                           bench.items, 0, bench.parameters, 0, default_list, sizeof default_list, default_list,
+                           sizeof default_list, &bench.link, bench.out, bench.room) == 7 + 6 + 3 * 5);
+
+    for (size_t which = 0; which < 2; which++) {
+        uint8_t answer[6 + 2 + 30 + 2 + 1] = {0xF0, 0x84, 0x01, 0x00, 0, 2, 0, 30}, *list = bench.texts[which];
+        size_t *size = which ? &bench.default_texts_size : &bench.site_texts_size;
+        begins(which ? "default texts: each byte" : "site's texts: each byte");
+        lend_three();
+        bench.datapoint_count = 2;
+        memcpy(list, "\x01\x02\x1E", 3);
+        memcpy(list + 33, "\x01\x03\x01", 3);
+        *size = 37;
+        answer[6 + 2 + 30 + 1] = 1;
+        for (size_t i = 0; i < 30; i++)
+            list[3 + i] = answer[8 + i] = (uint8_t)(0xA0 + i);
+        list[36] = answer[40] = 0xFE;
+        strings_are(answer, sizeof answer, __LINE__);
+        for (size_t i = 0; i < 31; i++) {
+            list[i < 30 ? 3 + i : 36] = answer[i < 30 ? 8 + i : 40] = (uint8_t)(i * 5);
+            strings_are(answer, sizeof answer, __LINE__);
+        }
+        /* the second text is that of another ID, by its lower and by its higher byte */
+        answer[39] = 0;
+        for (size_t at = 33; at < 35; at++) {
+            list[at] += 4;
+            strings_are(answer, sizeof answer - 1, __LINE__);
+            list[at] -= 4;
+        }
+        /* so is the first one */
+        list[1] = 0;
+        STRINGS_ARE(0, 2, 0, 0, 0, 1, list[36]);
+        list[1] = 2;
+        /* the size is that of the first entry */
+        *size = 33;
+        strings_are(answer, sizeof answer - 1, __LINE__);
+        *size = 37;
+        /* a length of one less or one more leaves no whole entry behind it */
+        for (size_t i = 0; i < 4; i++) {
+            uint8_t *length = list + (i < 2 ? 2 : 35), was = *length;
+            *length = (uint8_t)(i % 2 ? was + 1 : was - 1);
+            REFUSED(TAGOBRELIN_BAD_TABLE, TAGOBRELIN_IDLE_MARK, 0, 0, 0);
+            *length = was;
+        }
+        /* cut at each byte */
+        for (*size = 0; *size < 37; ++*size)
+            if (*size != 0 && *size != 33)
+                REFUSED(TAGOBRELIN_BAD_TABLE, (uint8_t)(1 + *size % 6), 0x10, 0x0102, 0);
+    }
+}
+
 /* This byte of what is lent may be 0 or 1: with any other every event is refused. It is as before then. */
 static void is_0_or_1(uint8_t *byte, int32_t number, int line)
 {
@@ -408,6 +513,32 @@ static void refusals(void)
     EXPECT(called(TAGOBRELIN_IDLE_MARK, 0, 0, 0) == 0);
     bench.parameter_count = 256;
     REFUSED(TAGOBRELIN_BAD_TABLE, TAGOBRELIN_IDLE_MARK, 0, 0, 0);
+
+    for (size_t which = 0; which < 2; which++) {
+        uint8_t *list = bench.texts[which];
+        size_t *size = which ? &bench.default_texts_size : &bench.site_texts_size;
+        begins(which ? "-1: default texts" : "-1: site's texts");
+        memcpy(list, "\0\0\0\0\1\1z\1\0\0", *size = 10);
+        for (uint8_t event = 1; event < 5; event++)
+            EXPECT(called(event, 0, 0, 0) == 0);
+        list[7] = 0; /* 0, 1, 0 */
+        for (uint8_t event = 1; event < 7; event++)
+            REFUSED(TAGOBRELIN_BAD_TABLE, event, 0x68, 1, 0);
+        list[8] = 1; /* 0, 1, 1 */
+        REFUSED(TAGOBRELIN_BAD_TABLE, TAGOBRELIN_IDLE_MARK, 0, 0, 0);
+        list[8] = 2; /* 0, 1, 2 */
+        EXPECT(called(TAGOBRELIN_IDLE_MARK, 0, 0, 0) == 0);
+        list[4] = 0; /* 0, 0, 2 */
+        REFUSED(TAGOBRELIN_BAD_TABLE, TAGOBRELIN_IDLE_MARK, 0, 0, 0);
+        for (uint8_t length = 29; length < 40; length++) {
+            list[2] = length;
+            *size = 3u + length;
+            if (length < 31)
+                EXPECT(called(TAGOBRELIN_IDLE_MARK, 0, 0, 0) == 0);
+            else
+                REFUSED(TAGOBRELIN_BAD_TABLE, TAGOBRELIN_IDLE_MARK, 0, 0, 0);
+        }
+    }
 
     begins("-2: the link record");
     IS_0_OR_1(bench.link.dropping, TAGOBRELIN_BAD_LINK);
@@ -498,6 +629,7 @@ int main(void)
     link_record();
     parameters();
     parameters_set();
+    texts();
     refusals();
     ends();
     return failed != 0;

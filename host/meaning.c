@@ -141,6 +141,36 @@ static void show_parameters(FILE *to, const uint8_t *message, size_t count)
         fprintf(to, " .. %02X", message[count - 1]);
 }
 
+/* a text in quotation marks: printable ASCII as it is, any other byte, a quotation mark and a backslash as \xNN */
+static void show_text(FILE *to, const uint8_t *text, size_t count)
+{
+    fputc('"', to);
+    for (size_t i = 0; i < count; i++)
+        if (text[i] < 0x20 || text[i] > 0x7E || text[i] == '"' || text[i] == '\\')
+            fprintf(to, "\\x%02X", text[i]);
+        else
+            fputc(text[i], to);
+    fputc('"', to);
+}
+
+/* the strings of an answer, in one line: the first three */
+static void show_strings(FILE *to, const uint8_t *message, size_t count)
+{
+    size_t at = 6;
+    for (int k = 0; k < 3; k++) {
+        if (count - at < 2 || count - at - 2 < number_of(message + at))
+            return;
+        if (k == 0)
+            below(to);
+        else
+            fputs(", ", to);
+        show_text(to, message + at + 2, number_of(message + at));
+        at += 2 + number_of(message + at);
+    }
+    if (at < count)
+        fputs(", ..", to);
+}
+
 static void show_message(FILE *to, const uint8_t *message, size_t count)
 {
     static const char *const filters[] = {", all values", ", valid values", ", updated values", ", reserved filter"};
@@ -159,6 +189,8 @@ static void show_message(FILE *to, const uint8_t *message, size_t count)
         fputs(choice(filters, COUNT(filters), message[6]), to);
     else if (sub == 0x08 || sub == 0x87)
         show_parameters(to, message, count);
+    else if (sub == 0x84)
+        show_strings(to, message, count);
     else
         show_entries(to, sub, message, count);
 }

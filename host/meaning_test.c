@@ -128,6 +128,26 @@ int main(int count, char **words)
          SHOWN("\x68\x07\x07\x68\x73\xF0\x08\x00\x00\x00\x00\x6B\x16",
                "68 07 07 68 73 F0 08 00 00 00 00 6B 16\n"
                "            data frame, count bit odd, 6 bytes: SetParameterByte.Req, start 0, number 0\n"));
+    test("of a request for description strings",
+         SHOWN("\x68\x07\x07\x68\x73\xF0\x04\x00\x05\x00\x03\x6F\x16",
+               "68 07 07 68 73 F0 04 00 05 00 03 6F 16\n"
+               "            data frame, count bit odd, 6 bytes: GetDescriptionString.Req, start 5, number 3\n"));
+    test("of its answer of three strings",
+         SHOWN("\x68\x13\x13\x68\xF3\xF0\x84\x00\x05\x00\x03\x00\x04Lamp\x00\x00\x00\x02\xC3\xBC\x7E\x16",
+               "68 13 13 68 F3 F0 84 00 05 00 03 00 04 4C 61 6D 70 00 00 00 02 C3 BC 7E\n"
+               "            16\n"
+               "            data frame, count bit odd, 18 bytes: GetDescriptionString.Res, start 5, number 3\n"
+               "            \"Lamp\", \"\", \"\\xC3\\xBC\"\n"));
+    test("of four strings",
+         SHOWN("\x68\x12\x12\x68\xD3\xF0\x84\x00\x01\x00\x04\x00\x01\x22\x00\x01\x5C\x00\x01~\x00\x00\x4B\x16",
+               "68 12 12 68 D3 F0 84 00 01 00 04 00 01 22 00 01 5C 00 01 7E 00 00 4B 16\n"
+               "            data frame, count bit even, 17 bytes: GetDescriptionString.Res, start 1, number 4\n"
+               "            \"\\x22\", \"\\x5C\", \"~\", ..\n"));
+    test("of strings that do not fit",
+         SHOWN("\x68\x08\x08\x68\xF3\xF0\x84\x00\x08\x00\x00\x03\x72\x16",
+               "68 08 08 68 F3 F0 84 00 08 00 00 03 72 16\n"
+               "            data frame, count bit odd, 7 bytes: GetDescriptionString.Res, error 3 (buffer is too small), "
+               "ID 8\n"));
     test("of the server's reset", SHOWN("\x10\xC0\xC0\x16", "10 C0 C0 16\n            reset indication\n"));
     test("of half a frame", SHOWN("\x68\x07\x07", "68 07 07\n            no sound frame\n"));
     return failed;

@@ -6,8 +6,10 @@
 //!   (000)  000_feb9994ac7e2d72b.txt, the protocol paper;
 //!   (R)    docs/DECISIONS.md, how open points are read.
 //!
-//! Order of this file: the records; sizes; refusals 1 to 4; the link; the messages; the call.
+//! Order of this file: the records; sizes; the texts; refusals 1 to 4; the link; the messages; the call.
 //! Nothing here is quick or clever: lists are searched from the front and bytes are gathered in a Vec<u8>.
+
+use std::collections::BTreeMap;
 
 // ------------------------------------------------------------------------------------------------------ the records
 
@@ -66,14 +68,18 @@ pub enum Event {
     TransmissionOutcome(u16, Outcome),
 }
 
-/// The three tables and the link record, all that is lent to a call.
+/// The three tables, the two lists of texts and the link record, all that is lent to a call.
 /// (01) "parameter bytes | 0 to 255 | byte; the first has index 1"
 /// (02) item 5: "The parameter table is lent for writing from now on, and only that service writes it."
+/// (02) item 1: "We ship a list of default texts; a site may bring its own list."; "Lists are lent, strictly rising by
+/// ID, and are only read." They stand here as the bytes that they are; (R) none brought is a list of 0 bytes.
 #[derive(Clone, PartialEq, Debug)]
 pub struct Server {
     pub datapoints: Vec<Datapoint>,
     pub items: Vec<Item>,
     pub parameters: Vec<u8>,
+    pub site_texts: Vec<u8>,
+    pub default_texts: Vec<u8>,
     pub link: Link,
 }
 
@@ -163,6 +169,50 @@ fn find_item(items: &[Item], id: u16) -> Option<usize> {
     items.iter().position(|item| item.id == id)
 }
 
+// ---------------------------------------------------------------------------------------------------------- the texts
+
+/// The texts of a list by their IDs, or None: the list is not in order.
+/// (02) item 1: "A list entry is an ID of two bytes, a length byte of 0 to 30 and the text. Lists are lent, strictly
+/// rising by ID"; "call refusal 1 also for a list out of order or not made of whole entries".
+/// (R) A first ID 0 is in order, a length byte above 30 is "not made of whole entries", no number of entries is too high.
+fn texts_of(list: &[u8]) -> Option<BTreeMap<u16, &[u8]>> {
+    let mut texts = BTreeMap::new();
+    let mut rest = list;
+    while !rest.is_empty() {
+        // "an ID of two bytes, a length byte"
+        if rest.len() < 3 {
+            return None;
+        }
+        let id = number_of(rest[0], rest[1]);
+        let length = usize::from(rest[2]);
+        // "of 0 to 30 and the text"
+        if length > 30 || rest.len() < 3 + length {
+            return None;
+        }
+        // "strictly rising by ID"
+        if texts.last_key_value().is_some_and(|(before, _)| *before >= id) {
+            return None;
+        }
+        texts.insert(id, &rest[3..3 + length]);
+        rest = &rest[3 + length..];
+    }
+    Some(texts)
+}
+
+/// (02) item 1: "the text comes from the site list, failing that the default list, where that has a non-empty entry for
+/// the ID, else it is the empty start of the default list".
+/// (R) An empty site entry does not count: the default's text is taken.
+fn text_for<'a>(site: &BTreeMap<u16, &'a [u8]>, default: &BTreeMap<u16, &'a [u8]>, id: u16) -> &'a [u8] {
+    for list in [site, default] {
+        if let Some(text) = list.get(&id) {
+            if !text.is_empty() {
+                return text;
+            }
+        }
+    }
+    &[]
+}
+
 // ------------------------------------------------------------------------------------------------------- the refusals
 
 /// (01) "1 | a table is not well formed"; "2 | link record is not in range"; "3 | output room below 262 bytes";
@@ -173,6 +223,9 @@ fn refusal(server: &Server, event: &Event, value: &[u8], room: usize) -> Option<
     if !datapoints_well_formed(&server.datapoints)
         || !items_well_formed(&server.items)
         || !parameters_well_formed(&server.parameters)
+        // (02) item 1: "call refusal 1 also for a list out of order or not made of whole entries"
+        || texts_of(&server.site_texts).is_none()
+        || texts_of(&server.default_texts).is_none()
     {
         return Some(1);
     }
@@ -581,6 +634,8 @@ fn answer_of(server: &mut Server, message: &[u8]) -> Result<Vec<u8>, Bad> {
         0x01 => get_items(server, message, start, number),
         0x02 => set_items(server, message, start, number),
         0x03 => get_descriptions(server, message, start, number),
+        // (02) item 1: "code 5 no longer for sub 04"
+        0x04 => get_strings(server, message, start, number),
         0x05 => get_values(server, message, start, number),
         0x06 => set_values(server, message, start, number),
         0x07 => get_parameters(server, message, start, number),
@@ -658,6 +713,28 @@ fn get_descriptions(server: &Server, message: &[u8], start: u16, number: u16) ->
         }
     }
     get_answer(0x03, start, &entries)
+}
+
+/// (000) 3.8 and 3.9. An entry: "Length of first DP description string" (2), "Description string of first datapoint", and
+/// no ID. "The datapoint description strings are not null terminated."
+fn get_strings(server: &Server, message: &[u8], start: u16, number: u16) -> Result<Vec<u8>, Bad> {
+    // (02) item 1: "code 10 if not 6 bytes, then 6, 2 and 3 as for other gets"
+    check_get(message, start, number)?;
+    // both are there, or the call was refused
+    let site = texts_of(&server.site_texts).unwrap_or_default();
+    let default = texts_of(&server.default_texts).unwrap_or_default();
+    let mut entries = Vec::new();
+    // (02) item 1: "For each datapoint present in the range"; (R) an empty text has an entry too.
+    for datapoint in &server.datapoints {
+        if in_range(datapoint.id, start, number) {
+            let text = text_for(&site, &default, datapoint.id);
+            let length = text.len() as u16;
+            let mut bytes = vec![high_byte(length), low_byte(length)];
+            bytes.extend_from_slice(text);
+            entries.push(Entry { id: datapoint.id, bytes });
+        }
+    }
+    get_answer(0x04, start, &entries)
 }
 
 /// The entry of a datapoint value in an answer or indication, (000) 3.11 and 3.12: "ID of first datapoint" (2), "State byte

@@ -5,7 +5,7 @@
 
 struct lent lent;
 struct play plays[VARIANTS];
-static size_t datapoint_count, item_count;
+static size_t datapoint_count, item_count, site_size, default_size;
 
 static uint64_t state;
 
@@ -35,6 +35,7 @@ void make_tables(size_t datapoints, size_t items)
     memset(&lent, 0, sizeof lent);
     datapoint_count = datapoints;
     item_count = items;
+    site_size = default_size = 0;
     for (size_t i = 0; i < datapoints; i++) {
         struct tagobrelin_datapoint *d = &lent.datapoints[i];
         id += 1 + random_below(20);
@@ -79,18 +80,48 @@ static void put_two_bytes(uint8_t *at, uint32_t n)
     at[1] = (uint8_t)n;
 }
 
-/* GetDatapointValue for so many datapoints, or as many as there are */
-static size_t get_message(uint8_t *m, size_t size)
+/* 4 to 10 bytes of text, so that 20 of them fit in an answer; or none */
+static size_t put_text(uint8_t *at, uint32_t id, bool empty)
+{
+    size_t length = empty ? 0 : 4 + random_below(7);
+    put_two_bytes(at, id);
+    at[2] = (uint8_t)length;
+    for (size_t i = 0; i < length; i++)
+        at[3 + i] = (uint8_t)('a' + random_below(26));
+    return 3 + length;
+}
+
+void make_texts(size_t entries)
+{
+    uint32_t behind = datapoint_count ? lent.datapoints[datapoint_count - 1].id + 1u : 1;
+    site_size = default_size = 0;
+    for (size_t i = 0; i < entries; i++) {
+        size_t at = entries < datapoint_count ? i * datapoint_count / entries : i;
+        uint32_t id = at < datapoint_count ? lent.datapoints[at].id : behind++;
+        site_size += put_text(lent.site_texts + site_size, id, i % 2 == 1);
+        default_size += put_text(lent.default_texts + default_size, id, false);
+    }
+}
+
+/* A get of this sub for so many datapoints, or as many as there are; without its filter */
+static size_t get_message(uint8_t *m, uint8_t sub, size_t size)
 {
     size_t from = datapoint_count > size ? random_below((uint32_t)(datapoint_count - size + 1)) : 0;
     size_t last = datapoint_count > size ? from + size - 1 : datapoint_count - 1;
     uint32_t start = datapoint_count ? lent.datapoints[from].id : 1;
     uint32_t number = datapoint_count ? lent.datapoints[last].id - start + 1u : (uint32_t)size;
-    memcpy(m, "\xf0\x05", 2);
+    m[0] = 0xf0;
+    m[1] = sub;
     put_two_bytes(m + 2, start);
     put_two_bytes(m + 4, number);
-    m[6] = 0;
-    return 7;
+    return 6;
+}
+
+static size_t get_values_message(uint8_t *m, size_t size)
+{
+    size_t at = get_message(m, 5, size);
+    m[at] = 0;
+    return at + 1;
 }
 
 /* SetDatapointValue, value and request to send, for so many datapoints of one byte, anywhere in the table */
@@ -156,7 +187,7 @@ unsigned make_plays(enum kind kind, size_t size, size_t held)
         tagobrelin_fresh_link(&p->link);
         for (size_t i = 0; i < sizeof message; i++)
             message[i] = (uint8_t)(random_below(255) + 1);
-        memcpy(message, "\xf0\x04", 2);
+        memcpy(message, "\xf0\x09", 2);
         if (kind == RESEND)
             held = size;
         if (held)
@@ -175,8 +206,11 @@ unsigned make_plays(enum kind kind, size_t size, size_t held)
             break;
         case GET:
         case GET_FRAME:
-            n = framed(0x73, message, get_message(message, size), f);
+            n = framed(0x73, message, get_values_message(message, size), f);
             whole = kind == GET_FRAME;
+            break;
+        case STRINGS:
+            n = framed(0x73, message, get_message(message, 4, size), f);
             break;
         case SET:
         case SET_FRAME:
@@ -234,7 +268,8 @@ int32_t play(const struct play *p, call_function *f)
         lent.datapoints[p->marks[i]].mark = 1;
     for (size_t i = 0; i < p->step_count; i++)
         answer = f(p->steps[i].event, p->steps[i].byte, p->steps[i].id, 2, p->value, p->value_count, lent.datapoints, datapoint_count, lent.items,
-                   item_count, lent.parameters, sizeof lent.parameters, &lent.link, lent.out, sizeof lent.out);
+                   item_count, lent.parameters, sizeof lent.parameters, lent.site_texts, site_size, lent.default_texts,
+                   default_size, &lent.link, lent.out, sizeof lent.out);
     return answer;
 }
 
@@ -261,5 +296,6 @@ static uint64_t read_bytes(const void *from, size_t n)
 uint64_t read_all(void)
 {
     return read_bytes(lent.datapoints, datapoint_count * sizeof *lent.datapoints) + read_bytes(lent.items, item_count * sizeof *lent.items) +
-           read_bytes(lent.parameters, sizeof lent.parameters) + read_bytes(&lent.link, sizeof lent.link);
+           read_bytes(lent.parameters, sizeof lent.parameters) + read_bytes(lent.site_texts, site_size) +
+           read_bytes(lent.default_texts, default_size) + read_bytes(&lent.link, sizeof lent.link);
 }

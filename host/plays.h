@@ -6,7 +6,9 @@
 
 typedef int32_t call_function(uint8_t event, uint8_t byte, uint16_t id, uint8_t outcome, const uint8_t *value, size_t value_count,
                               struct tagobrelin_datapoint *datapoints, size_t datapoint_count, struct tagobrelin_item *items, size_t item_count,
-                              uint8_t *parameters, size_t parameter_count, struct tagobrelin_link *link, uint8_t *out, size_t room);
+                              uint8_t *parameters, size_t parameter_count, const uint8_t *site_texts,
+                              size_t site_texts_size, const uint8_t *default_texts, size_t default_texts_size,
+                              struct tagobrelin_link *link, uint8_t *out, size_t room);
 
 /* Some calls: the link record that they begin with, the datapoints that have a report mark before them, and their events. */
 struct play {
@@ -30,6 +32,7 @@ enum kind {
     STREAM,         /* `size` host bytes, one after the other, in such a frame */
     GET,            /* the last byte of a request for `size` values */
     GET_FRAME,      /* all bytes of it, and the acknowledgement of the answer */
+    STRINGS,        /* the last byte of a request for `size` description strings */
     SET,            /* the last byte of a request that sets `size` datapoints */
     SET_FRAME,      /* all bytes of it, and the acknowledgement */
     PARAMETERS,     /* the last byte of a request for `size` parameter bytes */
@@ -43,8 +46,13 @@ enum kind {
     IDLE            /* an idle mark behind `size` gathered bytes */
 };
 
-/* Fills the tables: so many datapoints and items, some parameter bytes. */
+/* Fills the tables: so many datapoints and items, some parameter bytes. The lists of texts are empty. */
 void make_tables(size_t datapoints, size_t items);
+
+/* Fills the two lists of texts, each with so many entries: for datapoints spread over the table, and for IDs behind the
+ * last where there are more entries than datapoints. Every other entry of the site's list is empty, so that half of the
+ * texts are default ones. */
+void make_texts(size_t entries);
 
 /* Makes the plays of a kind on these tables; a frame of `held` bytes is outstanding, 0: none. Answers how many calls each play has. */
 unsigned make_plays(enum kind kind, size_t size, size_t held);
@@ -52,7 +60,7 @@ unsigned make_plays(enum kind kind, size_t size, size_t held);
 /* One play by this function. Answers what its last call answered. */
 int32_t play(const struct play *p, call_function *f);
 
-/* Reads each byte of the tables, the parameters and the link record once. */
+/* Reads each byte of the tables, the parameters, the lists and the link record once. */
 uint64_t read_all(void);
 
 /* All that is lent. */
@@ -61,6 +69,7 @@ extern struct lent {
     struct tagobrelin_item items[64];
     struct tagobrelin_link link;
     uint8_t parameters[255], out[TAGOBRELIN_ROOM];
+    uint8_t site_texts[33000], default_texts[33000];
 } lent;
 
 #endif

@@ -398,8 +398,8 @@ static void tell_usage(FILE *to)
 {
     fputs("usage: serve [-hv] [-b BAUD] [-p even|odd|none] [-g MS] [-a MS] [-i MS] TTY TABLES\n"
           "  TTY     the serial line to the host\n"
-          "  TABLES  a text file with datapoints, items and parameter bytes; host/tables.txt is one. It is only read: what the\n"
-          "          host sets is shown, and kept as long as the program runs\n"
+          "  TABLES  a text file with datapoints, items, parameter bytes and texts; host/tables.txt is one. It is only read:\n"
+          "          what the host sets is shown, and kept as long as the program runs\n"
           "  -b      baud: 19200 if not given\n"
           "  -p      parity: even if not given\n"
           "  -g      milliseconds of silence that are an idle mark. If not given 20, and more below 12650 baud, so that the\n"
@@ -501,8 +501,10 @@ int main(int count, char **texts)
     told = tables;
     poll_due = now();
     setvbuf(stdout, NULL, _IOFBF, 1 << 16); /* what is shown leaves at the end of a round: no frame waits for it */
-    printf("serving %zu datapoints, %zu items and %zu parameter bytes on %s: %lu baud, %s parity\n", tables.datapoint_count, tables.item_count,
-           tables.parameter_count, line.path, baud, parity == NO_PARITY ? "no" : parities[parity]);
+    printf("serving %zu datapoints, %zu items, %zu parameter bytes and %zu texts on %s: %lu baud, %s parity\n",
+           tables.datapoint_count, tables.item_count, tables.parameter_count,
+           tables.site_texts.count + tables.default_texts.count, line.path, baud,
+           parity == NO_PARITY ? "no" : parities[parity]);
     fflush(stdout);
     serve();
     return EXIT_SUCCESS;

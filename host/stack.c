@@ -16,10 +16,13 @@ static const struct play *played;
 
 static int32_t no_call(uint8_t event, uint8_t byte, uint16_t id, uint8_t outcome, const uint8_t *value, size_t value_count,
                        struct tagobrelin_datapoint *datapoints, size_t datapoint_count, struct tagobrelin_item *items, size_t item_count,
-                       uint8_t *parameters, size_t parameter_count, struct tagobrelin_link *link, uint8_t *out, size_t room)
+                       uint8_t *parameters, size_t parameter_count, const uint8_t *site_texts, size_t site_texts_size,
+                       const uint8_t *default_texts, size_t default_texts_size, struct tagobrelin_link *link, uint8_t *out,
+                       size_t room)
 {
     (void)byte, (void)id, (void)outcome, (void)value, (void)value_count, (void)datapoints, (void)datapoint_count, (void)items, (void)item_count;
-    (void)parameters, (void)parameter_count, (void)link, (void)out, (void)room;
+    (void)parameters, (void)parameter_count, (void)site_texts, (void)site_texts_size, (void)default_texts;
+    (void)default_texts_size, (void)link, (void)out, (void)room;
     return event;
 }
 
@@ -53,11 +56,14 @@ int main(void)
         enum kind kind;
         size_t size;
     } events[] = {
-        {"host byte in mid-frame", MID_FRAME, 40}, {"get of 20 values", GET, 20}, {"set of 40 entries", SET, 40}, {"248 parameter bytes", PARAMETERS, 248},
-        {"248 parameter bytes set", SET_PARAMETERS, 248}, {"poll, 40 marks", POLL, 40}, {"bus value", BUS_VALUE, 0}, {"outcome", OUTCOME, 0},
+        {"host byte in mid-frame", MID_FRAME, 40}, {"get of 20 values", GET, 20},
+        {"get of 20 strings", STRINGS, 20}, {"set of 40 entries", SET, 40},
+        {"248 parameter bytes", PARAMETERS, 248}, {"248 parameter bytes set", SET_PARAMETERS, 248},
+        {"poll, 40 marks", POLL, 40}, {"bus value", BUS_VALUE, 0}, {"outcome", OUTCOME, 0},
         {"261 bytes sent again", RESEND, 261}, {"idle mark", IDLE, 40},
     };
     make_tables(1000, 64);
+    make_texts(1000);
     printf("%-36s %9s %9s\n", "bytes of stack", "ours", "C -O2");
     for (size_t i = 0; i < sizeof events / sizeof *events; i++) {
         size_t ours = 0, tuned = 0;

@@ -25,6 +25,10 @@ void lend_tables(struct tables *tables, struct tagobrelin_server *server)
     server->item_count = tables->item_count;
     server->parameters = tables->parameters;
     server->parameter_count = tables->parameter_count;
+    server->site_texts = tables->site_texts.bytes;
+    server->site_texts_size = tables->site_texts.size;
+    server->default_texts = tables->default_texts.bytes;
+    server->default_texts_size = tables->default_texts.size;
 }
 
 /* The library alone judges what is well formed: it refuses any event with tables that are not. */
@@ -100,6 +104,35 @@ static bool read_parameters(struct words *words, struct tables *tables)
     return true;
 }
 
+/* text site|default ID "TEXT" */
+static bool read_text_line(struct words *words, struct tables *tables)
+{
+    enum { TEXTS = 1000 };
+    const char *name = next_word(words);
+    bool is_site = name != NULL && strcmp(name, "site") == 0;
+    if (!is_site && (name == NULL || strcmp(name, "default") != 0))
+        return wrong(words, "behind 'text' stands neither site nor default");
+    struct text_list *list = is_site ? &tables->site_texts : &tables->default_texts;
+    unsigned long id;
+    uint8_t text[30];
+    size_t count;
+    if (list->count == TEXTS)
+        return wrong(words, "there are more than %d texts in this list", TEXTS);
+    if (!read_number(words, "ID", 1, 65535, &id) || !read_text(words, text, sizeof text, &count) || !read_end(words))
+        return false;
+    if (list->count > 0 && id <= list->last_id)
+        return wrong(words, "the text for %lu stands behind that for %lu: IDs have to rise", id, list->last_id);
+    uint8_t *entry = list->bytes + list->size;
+    entry[0] = (uint8_t)(id >> 8);
+    entry[1] = (uint8_t)id;
+    entry[2] = (uint8_t)count;
+    memcpy(entry + 3, text, count);
+    list->size += 3 + count;
+    list->count++;
+    list->last_id = id;
+    return true;
+}
+
 static bool read_entry(struct words *words, struct tables *tables)
 {
     const char *kind = next_word(words);
@@ -112,8 +145,10 @@ static bool read_entry(struct words *words, struct tables *tables)
         is_read = read_item(words, tables);
     else if (strcmp(kind, "parameters") == 0)
         is_read = read_parameters(words, tables);
+    else if (strcmp(kind, "text") == 0)
+        is_read = read_text_line(words, tables);
     else
-        return wrong(words, "'%s' is none of datapoint, item, parameters", kind);
+        return wrong(words, "'%s' is none of datapoint, item, parameters, text", kind);
     if (is_read && !is_accepted(tables))
         return wrong(words, "the value has bits set that its type does not have");
     return is_read;

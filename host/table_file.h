@@ -6,6 +6,13 @@
 
 #include "tagobrelin.h"
 
+/* A list of texts as the library takes it, and what a reader of the next entry has to know. */
+struct text_list {
+    uint8_t bytes[1000 * 33];
+    size_t size, count;
+    unsigned long last_id;
+};
+
 struct tables {
     struct tagobrelin_datapoint datapoints[1000];
     size_t datapoint_count;
@@ -13,6 +20,7 @@ struct tables {
     size_t item_count;
     uint8_t parameters[255];
     size_t parameter_count;
+    struct text_list site_texts, default_texts;
 };
 
 /* How many bytes a value of this type code has, for codes up to 14. */

@@ -135,6 +135,26 @@ static inline bool items_are_well_formed(const item *i, size_t n)
     return bad == 0 && rises != 0 && (sizes & 0xfef0) == 0;
 }
 
+/* A list of texts: where an entry begins hangs on the length byte before it, so that these loads are a chain; the rest
+ * is gathered beside it. The top bit of `lengths` is set where one is above 30, that of `rises` stays set while each ID
+ * is above the one before it; the first may be 0. */
+static inline bool texts_are_in_order(const uint8_t *list, size_t size)
+{
+    uint32_t last = ~0u, rises = 1u << 31, lengths = 0;
+    ptrdiff_t left = (ptrdiff_t)size;
+    while (left >= 3) {
+        uint32_t length = list[2], id = two_bytes(list);
+        rises &= last - id;
+        last = id;
+        lengths |= 30 - length;
+        left -= 3 + (ptrdiff_t)length;
+        if (RARELY(left < 0))
+            return false;
+        list += 3 + length;
+    }
+    return left == 0 && rises != 0 && lengths >> 31 == 0;
+}
+
 /* how many datapoints have a lower ID */
 static inline size_t datapoint_place(const datapoint *table, size_t n, uint32_t id)
 {
@@ -378,6 +398,73 @@ static size_t get_descriptions(const datapoint *table, size_t n, const uint8_t *
     return at;
 }
 
+/* the two lists of texts */
+struct texts {
+    const uint8_t *site, *site_end, *defaults, *defaults_end;
+};
+
+/* The text of this ID, behind its length byte, where the list has one that is not empty; else null. The list is gone
+ * through from `*at` on: asked for in rising ID, each entry is looked at once. */
+static inline const uint8_t *text_of(const uint8_t **at, const uint8_t *end, uint32_t id)
+{
+    const uint8_t *entry = *at;
+    while (entry != end && two_bytes(entry) < id)
+        entry += 3 + entry[2];
+    *at = entry;
+    return entry != end && two_bytes(entry) == id && entry[2] ? entry + 2 : NULL;
+}
+
+/* 1 to 30 bytes, by stores that overlap */
+static inline void copy_text(uint8_t *to, const uint8_t *from, size_t n)
+{
+    if (n >= 16) {
+        memcpy(to, from, 16);
+        memcpy(to + n - 16, from + n - 16, 16);
+    } else if (n >= 8) {
+        put_word(to, word(from));
+        put_word(to + n - 8, word(from + n - 8));
+    } else if (n >= 4) {
+        memcpy(to, from, 4);
+        memcpy(to + n - 4, from + n - 4, 4);
+    } else {
+        to[0] = from[0];
+        to[n / 2] = from[n / 2];
+        to[n - 1] = from[n - 1];
+    }
+}
+
+static size_t get_strings(const datapoint *table, size_t n, const struct texts *texts, const uint8_t *m, size_t m_size,
+                          uint8_t *f)
+{
+    uint32_t start = two_bytes(m + 2), number = two_bytes(m + 4), end_id = start + number, count = 0;
+    if (m_size != 6)
+        return put_coded(f, 4, start, 10);
+    if (number == 0)
+        return put_coded(f, 4, start, 6);
+    const datapoint *d = table + datapoint_place(table, n, start), *end = table + n;
+    const uint8_t *site = texts->site, *defaults = texts->defaults;
+    size_t at = ENTRIES;
+    for (; d != end && d->id < end_id; d++) {
+        const uint8_t *text = text_of(&site, texts->site_end, d->id);
+        if (!text)
+            text = text_of(&defaults, texts->defaults_end, d->id);
+        size_t size = text ? text[0] : 0;
+        if (at + 2 + size > MESSAGE_END)
+            return put_over(f, at, 4, d->id);
+        /* the higher byte of the length is 0, as the memory is */
+        if (size) {
+            f[at + 1] = (uint8_t)size;
+            copy_text(f + at + 2, text + 1, size);
+        }
+        at += 2 + size;
+        count++;
+    }
+    if (count == 0)
+        return put_coded(f, 4, start, 2);
+    put_head(f, 0x84, start, count);
+    return at;
+}
+
 static size_t get_items(const item *table, size_t n, const uint8_t *m, size_t m_size, uint8_t *f)
 {
     uint32_t start = two_bytes(m + 2), number = two_bytes(m + 4), end_id = start + number, count = 0;
@@ -540,7 +627,7 @@ static size_t set_parameters(uint8_t *parameters, size_t n, const uint8_t *m, si
 
 /* the message carried out: where its answer ends, 0 where there is none */
 static size_t carry_out(datapoint *datapoints, size_t datapoint_count, item *items, size_t item_count, uint8_t *parameters,
-                        size_t parameter_count, const uint8_t *m, size_t m_size, uint8_t *f)
+                        size_t parameter_count, const struct texts *texts, const uint8_t *m, size_t m_size, uint8_t *f)
 {
     if (m_size < 6 || m[0] != 0xf0 || m[1] >= 0x80)
         return 0;
@@ -551,6 +638,8 @@ static size_t carry_out(datapoint *datapoints, size_t datapoint_count, item *ite
         return set_items(items, item_count, m, m_size, f);
     case 3:
         return get_descriptions(datapoints, datapoint_count, m, m_size, f);
+    case 4:
+        return get_strings(datapoints, datapoint_count, texts, m, m_size, f);
     case 5:
         return get_values(datapoints, datapoint_count, m, m_size, f);
     case 6:
@@ -575,7 +664,8 @@ static int32_t damaged(link_record *link)
 
 /* a byte behind a frame's beginning that is not simply gathered, or at its start */
 static int32_t on_edge_byte(uint8_t byte, datapoint *datapoints, size_t datapoint_count, item *items, size_t item_count,
-                            uint8_t *parameters, size_t parameter_count, link_record *link, uint8_t *out)
+                            uint8_t *parameters, size_t parameter_count, const struct texts *texts, link_record *link,
+                            uint8_t *out)
 {
     uint8_t *g = link->receiver;
     size_t n = link->received;
@@ -617,7 +707,8 @@ static int32_t on_edge_byte(uint8_t byte, datapoint *datapoints, size_t datapoin
                 return damaged(link);
             uint8_t control = g[4], wanted = (uint8_t)(0x53 | link->expected << 5);
             if (control == wanted && link->held == 0) {
-                size_t end = carry_out(datapoints, datapoint_count, items, item_count, parameters, parameter_count, g + MESSAGE, count - 1, link->outstanding);
+                size_t end = carry_out(datapoints, datapoint_count, items, item_count, parameters, parameter_count,
+                                       texts, g + MESSAGE, count - 1, link->outstanding);
                 link->expected ^= 1;
                 empty_receiver(link);
                 out[0] = 0xe5;
@@ -636,7 +727,8 @@ static int32_t on_edge_byte(uint8_t byte, datapoint *datapoints, size_t datapoin
 }
 
 static inline int32_t on_host_byte(uint8_t byte, datapoint *datapoints, size_t datapoint_count, item *items, size_t item_count,
-                                   uint8_t *parameters, size_t parameter_count, link_record *link, uint8_t *out)
+                                   uint8_t *parameters, size_t parameter_count, const uint8_t *site, size_t site_size,
+                                   const uint8_t *defaults, size_t defaults_size, link_record *link, uint8_t *out)
 {
     size_t n = link->received;
     if (link->dropping)
@@ -647,7 +739,9 @@ static inline int32_t on_host_byte(uint8_t byte, datapoint *datapoints, size_t d
         link->received = (uint16_t)(n + 1);
         return 0;
     }
-    return on_edge_byte(byte, datapoints, datapoint_count, items, item_count, parameters, parameter_count, link, out);
+    struct texts texts = {site, site + site_size, defaults, defaults + defaults_size};
+    return on_edge_byte(byte, datapoints, datapoint_count, items, item_count, parameters, parameter_count, &texts, link,
+                        out);
 }
 
 static int32_t on_poll(datapoint *d, size_t n, link_record *link, uint8_t *out)
@@ -723,11 +817,15 @@ static int32_t on_outcome(uint32_t id, uint8_t status, datapoint *table, size_t 
 
 int32_t tuned_call(uint8_t event, uint8_t byte, uint16_t id, uint8_t outcome, const uint8_t *value, size_t value_count,
                    datapoint *datapoints, size_t datapoint_count, item *items, size_t item_count, uint8_t *parameters,
-                   size_t parameter_count, link_record *link, uint8_t *out, size_t room)
+                   size_t parameter_count, const uint8_t *site_texts, size_t site_texts_size,
+                   const uint8_t *default_texts, size_t default_texts_size, link_record *link, uint8_t *out, size_t room)
 {
     if (RARELY(event - 1u > 5) || RARELY(event == TAGOBRELIN_OUTCOME && outcome > 2))
         return TAGOBRELIN_NO_EVENT;
     if (RARELY(!datapoints_are_well_formed(datapoints, datapoint_count)) || RARELY(!items_are_well_formed(items, item_count)) || RARELY(parameter_count > 255))
+        return TAGOBRELIN_BAD_TABLE;
+    if (RARELY(!texts_are_in_order(site_texts, site_texts_size)) ||
+        RARELY(!texts_are_in_order(default_texts, default_texts_size)))
         return TAGOBRELIN_BAD_TABLE;
     if (RARELY(!link_is_in_range(link)))
         return TAGOBRELIN_BAD_LINK;
@@ -735,7 +833,8 @@ int32_t tuned_call(uint8_t event, uint8_t byte, uint16_t id, uint8_t outcome, co
         return TAGOBRELIN_NO_ROOM;
     switch (event) {
     case TAGOBRELIN_HOST_BYTE:
-        return on_host_byte(byte, datapoints, datapoint_count, items, item_count, parameters, parameter_count, link, out);
+        return on_host_byte(byte, datapoints, datapoint_count, items, item_count, parameters, parameter_count, site_texts,
+                            site_texts_size, default_texts, default_texts_size, link, out);
     case TAGOBRELIN_IDLE_MARK:
         empty_receiver(link);
         link->dropping = 0;

@@ -6,6 +6,8 @@
 
 int32_t tuned_call(uint8_t event, uint8_t byte, uint16_t id, uint8_t outcome, const uint8_t *value, size_t value_count,
                    struct tagobrelin_datapoint *datapoints, size_t datapoint_count, struct tagobrelin_item *items, size_t item_count,
-                   uint8_t *parameters, size_t parameter_count, struct tagobrelin_link *link, uint8_t *out, size_t room);
+                   uint8_t *parameters, size_t parameter_count, const uint8_t *site_texts, size_t site_texts_size,
+                   const uint8_t *default_texts, size_t default_texts_size, struct tagobrelin_link *link, uint8_t *out,
+                   size_t room);
 
 #endif

@@ -1,5 +1,6 @@
 /* Holds tuned.c against the archive: random tables, link records and events; after each call both have given the same answer and left the same
- * bytes, padding included. Usage: tuned_test [CALLS [SEED]]. Prints how often each answer was met; the exit status tells whether all were the same. */
+ * bytes, padding included. Usage: tuned_test [CALLS [SEED]]. Prints how often each answer was met; the exit status tells
+ * whether all were the same, and whether description strings were answered with each code that they have. */
 #include <stdbool.h>
 #include <stdio.h>
 #include <stdlib.h>
@@ -7,7 +8,7 @@
 
 #include "tuned.h"
 
-enum { OUT = 300 };
+enum { OUT = 300, TEXTS = 4096 };
 
 /* all that a call is lent */
 static struct world {
@@ -16,8 +17,9 @@ static struct world {
     struct tagobrelin_link link;
     uint8_t out[OUT];
     uint8_t parameters[256], value[20];
+    uint8_t site_texts[TEXTS], default_texts[TEXTS];
 } ours, tuned, saved;
-static size_t datapoint_count, item_count, parameter_count, value_count, room;
+static size_t datapoint_count, item_count, parameter_count, value_count, room, site_size, default_size;
 
 static uint64_t state = 1;
 static unsigned long calls, limit = 1500000;
@@ -50,9 +52,11 @@ static void differs(const char *what, uint8_t event, uint8_t byte)
 static int32_t call(uint8_t event, uint8_t byte, uint16_t id, uint8_t outcome)
 {
     int32_t a = tagobrelin_call(event, byte, id, outcome, ours.value, value_count, ours.datapoints, datapoint_count, ours.items, item_count,
-                                ours.parameters, parameter_count, &ours.link, ours.out, room);
+                                ours.parameters, parameter_count, ours.site_texts, site_size, ours.default_texts,
+                                default_size, &ours.link, ours.out, room);
     int32_t b = tuned_call(event, byte, id, outcome, tuned.value, value_count, tuned.datapoints, datapoint_count, tuned.items, item_count,
-                           tuned.parameters, parameter_count, &tuned.link, tuned.out, room);
+                           tuned.parameters, parameter_count, tuned.site_texts, site_size, tuned.default_texts,
+                           default_size, &tuned.link, tuned.out, room);
     calls++;
     if (a != b) {
         printf("%d, tuned %d\n", (int)a, (int)b);
@@ -94,6 +98,36 @@ static bool takes(uint8_t flags, uint8_t command)
     return command < 2 || (command < 4 && (flags & 0x44) == 0x44) || (command == 4 && (flags & 0x04) != 0);
 }
 
+/* A list of texts in order: none, some or many entries, mostly for datapoints that are there, long, short and empty.
+ * Answers its size. */
+static size_t random_texts(uint8_t *list)
+{
+    uint32_t most = one_in(4) ? 0 : one_in(2) ? 10 : 1400, longest = one_in(3) ? 30 : one_in(2) ? 8 : 1;
+    bool all = one_in(2);
+    size_t size = 0;
+    int64_t last = -1;
+    for (size_t i = 0; i <= datapoint_count && most; i++) {
+        /* the IDs of the table, some of them left out, and some beside them */
+        int64_t id = i < datapoint_count ? ours.datapoints[i].id : 65535;
+        if (one_in(6))
+            id -= random_below(3);
+        if (id <= last || (!all && one_in(2)))
+            continue;
+        uint32_t length = one_in(4) ? 0 : one_in(8) ? 30 : random_below(longest + 1);
+        if (size + 3 + length > TEXTS)
+            break;
+        list[size] = (uint8_t)(id >> 8);
+        list[size + 1] = (uint8_t)id;
+        list[size + 2] = (uint8_t)length;
+        for (uint32_t k = 0; k < length; k++)
+            list[size + 3 + k] = (uint8_t)random_below(256);
+        size += 3 + length;
+        last = id;
+        most--;
+    }
+    return size;
+}
+
 static void new_world(void)
 {
     static const uint8_t flags[] = {0x00, 0x04, 0x40, 0x44};
@@ -132,6 +166,8 @@ static void new_world(void)
     }
     for (size_t i = 0; i < parameter_count; i++)
         ours.parameters[i] = (uint8_t)random_below(256);
+    site_size = random_texts(ours.site_texts);
+    default_size = random_texts(ours.default_texts);
     tagobrelin_fresh_link(&ours.link);
     ((uint8_t *)&ours.link)[529] = 0xa5;
     memset(ours.out, 0xee, sizeof ours.out);
@@ -274,13 +310,32 @@ static void alter_0_or_1(void)
     }
 }
 
-/* some byte of the tables or of the link record is altered, or a count, for a call or a few */
+/* a list of texts is cut, has bytes behind it, or one byte of it is altered, mostly of an entry's head; some are in
+ * order still */
+static void alter_texts(void)
+{
+    bool site = one_in(2);
+    uint8_t *a = site ? ours.site_texts : ours.default_texts, *b = site ? tuned.site_texts : tuned.default_texts;
+    size_t *size = site ? &site_size : &default_size, at = 0;
+    if (*size == 0 || one_in(3)) {
+        uint32_t room_behind = (uint32_t)(TEXTS - *size), behind = one_in(2) && room_behind > 3 ? 3 : room_behind;
+        *size = one_in(2) ? random_below((uint32_t)*size + 1) : *size + random_below(behind + 1);
+        return;
+    }
+    for (uint32_t n = random_below(20); n && at + 3 + a[at + 2] < *size; n--)
+        at += 3u + a[at + 2];
+    at += random_below(one_in(4) ? (uint32_t)(*size - at) : 3);
+    a[at] = b[at] = (uint8_t)(one_in(3) ? 30 + random_below(2) : one_in(2) ? a[at] + 1u : random_below(256));
+}
+
+/* some byte of the tables, of the lists of texts or of the link record is altered, or a count, for a call or a few */
 static void broken(void)
 {
     size_t d = datapoint_count, i = item_count, p = parameter_count, r = room, k = 1 + random_below(3);
+    size_t s = site_size, t = default_size;
     bool alone = false;
     memcpy(&saved, &ours, sizeof ours);
-    switch (random_below(9)) {
+    switch (random_below(11)) {
     case 0:
         datapoint_count = 1001;
         break;
@@ -301,6 +356,11 @@ static void broken(void)
         break;
     case 6:
         alter_0_or_1();
+        alone = random_below(4) > 0;
+        break;
+    case 7:
+    case 8:
+        alter_texts();
         alone = random_below(4) > 0;
         break;
     default:
@@ -330,6 +390,8 @@ static void broken(void)
     item_count = i;
     parameter_count = p;
     room = r;
+    site_size = s;
+    default_size = t;
     memcpy(&ours, &saved, sizeof ours);
     memcpy(&tuned, &saved, sizeof ours);
 }
@@ -416,5 +478,11 @@ int main(int argc, char **argv)
                 printf(" %s%d: %lu", code ? "code " : "", code, answered[sub - 1][code]);
         printf("\n");
     }
+    static const int codes[] = {0, 2, 3, 6, 10};
+    for (size_t i = 0; i < sizeof codes / sizeof *codes; i++)
+        if (!answered[4 - 1][codes[i]]) {
+            printf("never met: code %d for sub 4\n", codes[i]);
+            return 1;
+        }
     return 0;
 }

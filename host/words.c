@@ -22,9 +22,10 @@ bool wrong(const struct words *words, const char *format, ...)
     return false;
 }
 
+static const char space[] = " \t\r\n";
+
 char *next_word(struct words *words)
 {
-    static const char space[] = " \t\r\n";
     char *word = words->rest + strspn(words->rest, space);
     if (*word == '\0' || *word == '#') {
         words->rest = word + strlen(word);
@@ -70,6 +71,40 @@ bool read_bytes(struct words *words, uint8_t *bytes, size_t most, size_t *count)
             return wrong(words, "there are more than %zu bytes", most);
         bytes[*count] = (uint8_t)strtoul(word, NULL, 16);
     }
+    return true;
+}
+
+/* the byte that a text has next, and how many characters tell it; 0 where none does: a backslash that begins no \xNN */
+static size_t text_byte(const char *at, uint8_t *byte)
+{
+    if (*at != '\\') {
+        *byte = (uint8_t)*at;
+        return 1;
+    }
+    if (at[1] != 'x' || !isxdigit((unsigned char)at[2]) || !isxdigit((unsigned char)at[3]))
+        return 0;
+    *byte = (uint8_t)strtoul((char[]){at[2], at[3], '\0'}, NULL, 16);
+    return 4;
+}
+
+bool read_text(struct words *words, uint8_t *bytes, size_t most, size_t *count)
+{
+    char *at = words->rest + strspn(words->rest, space);
+    if (*at++ != '"')
+        return wrong(words, "there is no quotation mark where the text is expected");
+    for (*count = 0; *at != '"'; ++*count) {
+        uint8_t byte;
+        if (*at == '\0' || *at == '\n' || *at == '\r')
+            return wrong(words, "the line ends within the text");
+        size_t told = text_byte(at, &byte);
+        if (told == 0)
+            return wrong(words, "a backslash in the text begins no byte like \\x5C");
+        if (*count == most)
+            return wrong(words, "the text has more than %zu bytes", most);
+        bytes[*count] = byte;
+        at += told;
+    }
+    words->rest = at + 1;
     return true;
 }
 

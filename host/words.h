@@ -28,6 +28,10 @@ bool read_number(struct words *words, const char *what, unsigned long least, uns
 /* The words up to the end are bytes of two hexadecimal digits: `most` of them at most. */
 bool read_bytes(struct words *words, uint8_t *bytes, size_t most, size_t *count);
 
+/* Next stands a text in quotation marks: bytes as they are, \xNN for the byte of these two hexadecimal digits; `most`
+ * of them at most. */
+bool read_text(struct words *words, uint8_t *bytes, size_t most, size_t *count);
+
 /* There is no further word. */
 bool read_end(struct words *words);
 

@@ -8,9 +8,11 @@
  *
  * A caller guarantees, at each call:
  *   - No pointer is null, not even one whose count is 0: pass the address of any byte then. (The face does.)
- *   - Behind each pointer lies as much memory as its count says, and the counts are elements, not bytes.
+ *   - Behind each pointer lies as much memory as its count says, and the counts are elements, not bytes. The size of a
+ *     list of texts is bytes.
  *   - Datapoints, items and the link record lie at even addresses. (As C objects of these types they do.)
- *   - No two of these runs of memory overlap, and all but value, which is only read, lie in memory that can be written.
+ *   - Value and the two lists of texts are only read: they may lie in flash, and may overlap each other, but nothing
+ *     else. All other runs of memory overlap nothing and lie in memory that can be written.
  *   - Nobody else writes to any of them while the call runs. So two calls for one server are never made at the same
  *     time, also not one of them in an interrupt or another thread; for two servers that share no memory they may be.
  * The contents may be anything: what is not in order is refused by number, and then no byte of anything is changed.
@@ -25,9 +27,9 @@
  * what a host is answered may change in a minor version: header and archive are always taken together. CHANGELOG.md
  * tells what changed. */
 #define TAGOBRELIN_VERSION_MAJOR 1
-#define TAGOBRELIN_VERSION_MINOR 3
+#define TAGOBRELIN_VERSION_MINOR 4
 #define TAGOBRELIN_VERSION_PATCH 0
-#define TAGOBRELIN_VERSION "1.3.0"
+#define TAGOBRELIN_VERSION "1.4.0"
 
 #ifdef __cplusplus
 extern "C" {
@@ -51,6 +53,15 @@ struct tagobrelin_item {
     uint8_t writable;  /* 1: a host may set it; else 0 */
     uint8_t bytes[16]; /* those beyond the size are 0 */
 };
+
+/* A list of texts is bytes, entry behind entry: the datapoint's ID in two bytes, the higher first, as in a message; a
+ * length byte of 0 to 30; and as many bytes of text, any bytes, without a 0 behind them. IDs strictly rise, the first
+ * may be 0, and they need not be datapoints of the table. A list has any number of entries; one of 0 bytes has none.
+ * Texts for the datapoints 5 and 258, 17 bytes without the 0 that C puts behind a string:
+ *     "\x00\x05\x07Kitchen" "\x01\x02\x04Hall"
+ *
+ * There are two. A host that asks for a datapoint's description string is given its text of the site's list, where that
+ * has one of 1 byte or more, else that of the default list, else an empty one. */
 
 /* The link record: made by tagobrelin_fresh_link, and from then on changed by tagobrelin_call alone. */
 struct tagobrelin_link {
@@ -84,7 +95,8 @@ enum {
 /* What tagobrelin_call returns: 0 to 262, how many bytes from the start of `out` are to be sent to the host; or one of
  * these. Several at once: the first that applies, in the order TAGOBRELIN_NO_EVENT, -1, -2, -3, -4. */
 enum {
-    TAGOBRELIN_BAD_TABLE = -1,     /* a table is not well formed, or too long; or more than 255 parameter bytes */
+    TAGOBRELIN_BAD_TABLE = -1,     /* a table is not well formed, or too long; or more than 255 parameter bytes; or a
+                                      list of texts is out of order or not made of whole entries */
     TAGOBRELIN_BAD_LINK = -2,      /* the link record is not in range: not made by tagobrelin_fresh_link, or altered */
     TAGOBRELIN_NO_ROOM = -3,       /* `out` has room for less than TAGOBRELIN_ROOM bytes */
     TAGOBRELIN_BAD_BUS_EVENT = -4, /* the ID is absent, the value's length is not its type's, or unused bits are set */
@@ -103,6 +115,8 @@ int32_t tagobrelin_call(uint8_t event, uint8_t byte, uint16_t id, uint8_t outcom
                         struct tagobrelin_datapoint *datapoints, size_t datapoint_count,
                         struct tagobrelin_item *items, size_t item_count,
                         uint8_t *parameters, size_t parameter_count,
+                        const uint8_t *site_texts, size_t site_texts_size,
+                        const uint8_t *default_texts, size_t default_texts_size,
                         struct tagobrelin_link *link,
                         uint8_t *out, size_t room);
 
@@ -121,6 +135,10 @@ struct tagobrelin_server {
     size_t item_count;
     uint8_t *parameters; /* a host may set them, while an event runs; to keep them over a restart is the program's part */
     size_t parameter_count;
+    const uint8_t *site_texts;    /* the lists of texts, each laid out as above; null and 0 bytes: none */
+    size_t site_texts_size;       /* in bytes */
+    const uint8_t *default_texts;
+    size_t default_texts_size;
     struct tagobrelin_link link;  /* made by tagobrelin_start; nobody else writes to it, or has to read it */
     uint8_t out[TAGOBRELIN_ROOM]; /* what the last event left to be sent */
 };
@@ -138,14 +156,18 @@ static inline int32_t tagobrelin_event(struct tagobrelin_server *server, uint8_t
     /* Something that exists stands where there is no element. */
     struct tagobrelin_datapoint no_datapoint;
     struct tagobrelin_item no_item;
-    uint8_t no_parameter;
+    uint8_t no_parameter, no_text = 0;
     if ((!server->datapoints && server->datapoint_count > 0) || (!server->items && server->item_count > 0) ||
-        (!server->parameters && server->parameter_count > 0))
+        (!server->parameters && server->parameter_count > 0) ||
+        (!server->site_texts && server->site_texts_size > 0) ||
+        (!server->default_texts && server->default_texts_size > 0))
         return TAGOBRELIN_BAD_TABLE;
     return tagobrelin_call(event, byte, id, outcome, value ? value : server->out, value ? value_count : 0,
                            server->datapoints ? server->datapoints : &no_datapoint, server->datapoint_count,
                            server->items ? server->items : &no_item, server->item_count,
                            server->parameters ? server->parameters : &no_parameter, server->parameter_count,
+                           server->site_texts ? server->site_texts : &no_text, server->site_texts_size,
+                           server->default_texts ? server->default_texts : &no_text, server->default_texts_size,
                            &server->link, server->out, sizeof server->out);
 }
 

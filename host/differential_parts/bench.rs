@@ -28,8 +28,14 @@ pub struct Bench {
 
 impl Bench {
     pub fn new(seed: u64, upto: Option<u64>) -> Bench {
-        let server =
-            Server { datapoints: Vec::new(), items: Vec::new(), parameters: Vec::new(), link: crate::frames::fresh() };
+        let server = Server {
+            datapoints: Vec::new(),
+            items: Vec::new(),
+            parameters: Vec::new(),
+            site_texts: Vec::new(),
+            default_texts: Vec::new(),
+            link: crate::frames::fresh(),
+        };
         Bench {
             server,
             counts: Counts::new(),

@@ -55,6 +55,26 @@ const CLAUSES: &[Clause] = &[
     clause(-1, "1: item length above 17", item_size_above),
     clause(-1, "1: bytes behind an item", item_bytes),
     clause(-1, "1: a writable that is neither 0 nor 1", writable),
+    clause(-1, "1: site's texts: a cut entry", |case, random| cut_text(&mut case.server.site_texts, random)),
+    clause(-1, "1: site's texts: a length of 31", |case, random| text_size(&mut case.server.site_texts, random, 31)),
+    clause(-1, "1: site's texts: a length above 31", |case, random| text_above(&mut case.server.site_texts, random)),
+    clause(-1, "1: site's texts: IDs equal", |case, random| text_ids_equal(&mut case.server.site_texts, random)),
+    clause(-1, "1: site's texts: IDs fall", |case, random| text_ids_fall(&mut case.server.site_texts, random)),
+    clause(-1, "1: site's texts: a byte or two behind", |case, random| {
+        behind_texts(&mut case.server.site_texts, random)
+    }),
+    clause(-1, "1: default texts: a cut entry", |case, random| cut_text(&mut case.server.default_texts, random)),
+    clause(-1, "1: default texts: a length of 31", |case, random| {
+        text_size(&mut case.server.default_texts, random, 31)
+    }),
+    clause(-1, "1: default texts: a length above 31", |case, random| {
+        text_above(&mut case.server.default_texts, random)
+    }),
+    clause(-1, "1: default texts: IDs equal", |case, random| text_ids_equal(&mut case.server.default_texts, random)),
+    clause(-1, "1: default texts: IDs fall", |case, random| text_ids_fall(&mut case.server.default_texts, random)),
+    clause(-1, "1: default texts: a byte or two behind", |case, random| {
+        behind_texts(&mut case.server.default_texts, random)
+    }),
     clause(-2, "2: received is 261", received_261),
     clause(-2, "2: received above 261", received_above),
     clause(-2, "2: received: first byte", |case, random| received(case, random, "first")),
@@ -173,6 +193,31 @@ const EDGES: &[(&str, Breaks)] = &[
         case.server.items[1].bytes = [0xFF; 16];
         Some(())
     }),
+    ("texts of 0 and 30 bytes, IDs 0 and 65535", |case, random| {
+        let list = tables::text_list(&[(0, random.bytes(30)), (1, Vec::new()), (65535, random.bytes(30))]);
+        *one_list(&mut case.server, random.coin()) = list;
+        Some(())
+    }),
+    ("a list of 1000 texts", |case, random| {
+        let list: Vec<(u16, Vec<u8>)> = tables::ids(random, 1000).into_iter().map(|id| (id, random.bytes(9))).collect();
+        *one_list(&mut case.server, random.coin()) = tables::text_list(&list);
+        Some(())
+    }),
+    ("texts without a datapoint", |case, random| {
+        case.server.datapoints.clear();
+        let list: Vec<(u16, Vec<u8>)> = tables::ids(random, 5).into_iter().map(|id| (id, random.bytes(5))).collect();
+        *one_list(&mut case.server, random.coin()) = tables::text_list(&list);
+        Some(())
+    }),
+    ("the same list twice", |case, _| {
+        case.server.default_texts = case.server.site_texts.clone();
+        Some(())
+    }),
+    ("no list", |case, _| {
+        case.server.site_texts.clear();
+        case.server.default_texts.clear();
+        Some(())
+    }),
     ("received 260", |case, random| {
         let message = random.bytes(254);
         let frame = frames::data(random.byte(), &message);
@@ -236,10 +281,14 @@ fn base(bench: &mut Bench) -> Case {
         bench.server.clone()
     } else {
         let (datapoints, items, parameters) = (random.below(8), random.below(8), random.below(8));
+        let datapoints = tables::datapoints(random, datapoints);
+        let (site_texts, default_texts) = tables::both_texts(random, &datapoints);
         Server {
-            datapoints: tables::datapoints(random, datapoints),
+            datapoints,
             items: tables::items(random, items),
             parameters: random.bytes(parameters),
+            site_texts,
+            default_texts,
             link: bench.server.link.clone(),
         }
     };
@@ -509,6 +558,72 @@ fn mark(case: &mut Case, random: &mut Random) -> Option<()> {
 fn writable(case: &mut Case, random: &mut Random) -> Option<()> {
     let at = any(random, case.server.items.len())?;
     case.server.items[at].writable = random.no_bit();
+    Some(())
+}
+
+fn one_list(server: &mut Server, site: bool) -> &mut Vec<u8> {
+    if site {
+        &mut server.site_texts
+    } else {
+        &mut server.default_texts
+    }
+}
+
+/// The place of an entry of a list that is in order.
+fn text_place(list: &[u8], random: &mut Random) -> Option<usize> {
+    let places = tables::text_places(list);
+    Some(places[any(random, places.len())?])
+}
+
+/// The list ends in mid-entry.
+fn cut_text(list: &mut Vec<u8>, random: &mut Random) -> Option<()> {
+    let at = text_place(list, random)?;
+    let size = 3 + usize::from(list[at + 2]);
+    list.truncate(at + random.edgy(1, size - 1));
+    Some(())
+}
+
+/// A text of this many bytes, which are there, and the entries behind it.
+fn text_size(list: &mut Vec<u8>, random: &mut Random, size: u8) -> Option<()> {
+    let at = text_place(list, random)?;
+    let text = random.bytes(usize::from(size));
+    let end = at + 3 + usize::from(list[at + 2]);
+    list.splice(at + 3..end, text);
+    list[at + 2] = size;
+    Some(())
+}
+
+fn text_above(list: &mut Vec<u8>, random: &mut Random) -> Option<()> {
+    let size = random.edgy(32, 255) as u8;
+    text_size(list, random, size)
+}
+
+/// Two entries, one behind the other: where they begin.
+fn two_texts(list: &[u8], random: &mut Random) -> Option<(usize, usize)> {
+    let places = tables::text_places(list);
+    let at = any(random, places.len().checked_sub(1)?)?;
+    Some((places[at], places[at + 1]))
+}
+
+fn text_ids_equal(list: &mut [u8], random: &mut Random) -> Option<()> {
+    let (first, second) = two_texts(list, random)?;
+    list.copy_within(first..first + 2, second);
+    Some(())
+}
+
+/// An ID below the one before it, 0 too.
+fn text_ids_fall(list: &mut [u8], random: &mut Random) -> Option<()> {
+    let (first, second) = two_texts(list, random)?;
+    let id = u16::from_be_bytes([list[first], list[first + 1]]);
+    let lower = if random.coin() { id.checked_sub(1)? } else { random.edgy(0, usize::from(id.checked_sub(1)?)) as u16 };
+    list[second..second + 2].copy_from_slice(&lower.to_be_bytes());
+    Some(())
+}
+
+/// What is behind the last entry is too short for an entry, an ID that would rise or not.
+fn behind_texts(list: &mut Vec<u8>, random: &mut Random) -> Option<()> {
+    let count = random.between(1, 2);
+    list.extend(if random.coin() { vec![0xFF; count] } else { random.bytes(count) });
     Some(())
 }
 

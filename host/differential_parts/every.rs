@@ -12,7 +12,7 @@ pub fn lists() -> Vec<(&'static str, Vec<&'static str>)> {
     vec![(NAME, EVERY.iter().map(|(label, _)| *label).collect())]
 }
 
-const EVERY: [(&str, fn(&mut Bench)); 23] = [
+const EVERY: [(&str, fn(&mut Bench)); 26] = [
     ("room 0 to 263, each event", rooms),
     ("event 0 to 255, outcome 0 to 255", events),
     ("host byte at each place of a frame", bytes_in_frames),
@@ -31,6 +31,9 @@ const EVERY: [(&str, fn(&mut Bench)); 23] = [
     ("start and number around the IDs of a table", ranges),
     ("start and number around 65535", ranges_at_the_end),
     ("parameter bytes set: start, number and size around the ends of a table", parameter_sets),
+    ("description strings: each kind of entry in either list, each length, each byte", strings),
+    ("description strings, how many of them: empty ones, texts of 30 bytes, the last of each length", string_counts),
+    ("lists of texts: cut at each byte, each bit, each length, pairs of IDs; each event", text_lists),
     ("number of entries", entry_counts),
     ("each bit of a datapoint", datapoint_bits),
     ("each bit of an item", item_bits),
@@ -49,7 +52,8 @@ pub fn episode(bench: &mut Bench) {
     }
 }
 
-/// A datapoint of each type, which takes each command, an item of each length, twenty parameter bytes.
+/// A datapoint of each type, which takes each command, an item of each length, twenty parameter bytes, texts for every
+/// other datapoint in the site's list and for every third in the default one.
 fn small(bench: &mut Bench) -> Server {
     let random = &mut bench.random;
     let datapoints = (0..15)
@@ -67,7 +71,16 @@ fn small(bench: &mut Bench) -> Server {
             Item { id: 5 + 2 * size as u16, size: size as u8, writable: u8::from(size % 3 != 0), bytes }
         })
         .collect();
-    Server { datapoints, items, parameters: random.bytes(20), link: frames::fresh() }
+    let site: Vec<(u16, Vec<u8>)> = (0..8).map(|at| (10 + at * 6, random.bytes(usize::from(at)))).collect();
+    let default: Vec<(u16, Vec<u8>)> = (0..5).map(|at| (10 + at * 9, random.bytes(20))).collect();
+    Server {
+        datapoints,
+        items,
+        parameters: random.bytes(20),
+        site_texts: tables::text_list(&site),
+        default_texts: tables::text_list(&default),
+        link: frames::fresh(),
+    }
 }
 
 /// A call with tables and link record as they were before the last.
@@ -399,7 +412,7 @@ fn config_flags(bench: &mut Bench) {
                     bench.missed("bus events and polls do not look at config flags", &answer);
                 }
             }
-            for message in [&[0xF0, 3, 0, id, 0, 1][..], &[0xF0, 5, 0, id, 0, 1, 0]] {
+            for message in [&[0xF0, 3, 0, id, 0, 1][..], &[0xF0, 4, 0, id, 0, 1], &[0xF0, 5, 0, id, 0, 1, 0]] {
                 let _ = ask(bench, &before, message);
             }
         }
@@ -419,7 +432,7 @@ fn ranges(bench: &mut Bench) {
     let before = bench.server.clone();
     for start in 0..=60 {
         for number in 0..=24 {
-            for sub in [1, 3, 5, 7] {
+            for sub in [1, 3, 4, 5, 7] {
                 let filter = bench.random.below(3) as u8;
                 let _ = ask(bench, &before, &get(sub, start, number, filter));
             }
@@ -436,9 +449,11 @@ fn ranges_at_the_end(bench: &mut Bench) {
             before.datapoints[at].id = id;
             before.items[at].id = id;
         }
+        before.site_texts = tables::text_list(&[(0, "zero"), (1, "one"), (65533, ""), (65534, "last but one")]);
+        before.default_texts = tables::text_list(&[(65530, "a"), (65533, "b"), (65534, "c"), (65535, "last")]);
         for start in (0..=2).chain(65528..=65535) {
             for number in (0..=9).chain(65525..=65535) {
-                for sub in [1, 3, 5, 7] {
+                for sub in [1, 3, 4, 5, 7] {
                     let _ = ask(bench, &before, &get(sub, start, number, 0));
                 }
             }
@@ -495,6 +510,219 @@ fn set_parameters(bench: &mut Bench, before: &Server, start: usize, number: usiz
     }
 }
 
+fn list_of(server: &mut Server, site: bool) -> &mut Vec<u8> {
+    if site {
+        &mut server.site_texts
+    } else {
+        &mut server.default_texts
+    }
+}
+
+/// The texts of these datapoints come, in this order, as a get of them all is answered.
+fn expect_strings(bench: &mut Bench, before: &Server, start: u16, number: u16, texts: &[&[u8]]) {
+    let mut wanted = get(4, start, texts.len() as u16, 0);
+    wanted[1] = 0x84;
+    for text in texts {
+        wanted.extend_from_slice(&[0, text.len() as u8]);
+        wanted.extend_from_slice(text);
+    }
+    let answer = ask(bench, before, &get(4, start, number, 0));
+    if !answer.as_ref().is_ok_and(|sent| sent[6..sent.len() - 2] == wanted) {
+        bench.missed("the site's text, where it has one, else the default one, else an empty one", &answer);
+    }
+}
+
+fn strings(bench: &mut Bench) {
+    let mut before = bench.server.clone();
+    // of three datapoints, IDs 10, 13 and 16, the middle one; with and without entries beside it
+    before.datapoints.truncate(3);
+    let kinds: Vec<Option<Vec<u8>>> =
+        vec![None, Some(Vec::new()), Some(vec![0x53]), Some(bench.random.bytes(17)), Some(bench.random.bytes(30))];
+    for site in &kinds {
+        for default in &kinds {
+            for beside in 0..4 {
+                let list = |entry: &Option<Vec<u8>>, with: bool| {
+                    let mut all: Vec<(u16, Vec<u8>)> = Vec::new();
+                    if with {
+                        all.extend([(0, vec![7; 2]), (12, vec![8; 3])]);
+                    }
+                    all.extend(entry.iter().map(|text| (13, text.clone())));
+                    if with {
+                        all.extend([(14, vec![9; 4]), (269, vec![10; 5]), (65535, Vec::new())]);
+                    }
+                    tables::text_list(&all)
+                };
+                before.site_texts = list(site, beside & 1 == 1);
+                before.default_texts = list(default, beside & 2 == 2);
+                let text: &[u8] = match (site, default) {
+                    (Some(text), _) if !text.is_empty() => text,
+                    (_, Some(text)) => text,
+                    _ => &[],
+                };
+                expect_strings(bench, &before, 13, 1, &[text]);
+                expect_strings(bench, &before, 11, 4, &[text]);
+                expect_strings(bench, &before, 10, 7, &[&[], text, &[]]);
+                expect_strings(bench, &before, 0, 65535, &[&[], text, &[]]);
+            }
+        }
+    }
+    for site in [false, true] {
+        before.site_texts.clear();
+        before.default_texts.clear();
+        for length in 0..=30 {
+            let text = bench.random.bytes(length);
+            *list_of(&mut before, site) = tables::text_list(&[(10, &[1][..]), (13, &text), (16, &[2])]);
+            expect_strings(bench, &before, 10, 7, &[&[1], &text, &[2]]);
+        }
+        for byte in 0..=255 {
+            *list_of(&mut before, site) = tables::text_list(&[(13, &[byte, 0, byte])]);
+            expect_strings(bench, &before, 13, 1, &[&[byte, 0, byte]]);
+        }
+    }
+}
+
+fn string_counts(bench: &mut Bench) {
+    let mut before = bench.server.clone();
+    let texts: Vec<Vec<u8>> = (0..9).map(|_| bench.random.bytes(30)).collect();
+    let with_datapoints = |bench: &mut Bench, before: &mut Server, count: u16| {
+        before.datapoints = tables::datapoints(&mut bench.random, usize::from(count));
+        for (at, datapoint) in before.datapoints.iter_mut().enumerate() {
+            datapoint.id = 5 + 3 * at as u16;
+        }
+    };
+    let too_long = |bench: &mut Bench, before: &Server, number: u16, at: u16| {
+        let answer = ask(bench, before, &get(4, 5, number, 0));
+        let id = (5 + 3 * at).to_be_bytes();
+        if !answer.as_ref().is_ok_and(|sent| sent[6..13] == [0xF0, 0x84, id[0], id[1], 0, 0, 3]) {
+            bench.missed("3, with the ID of the datapoint whose string goes over 254 bytes", &answer);
+        }
+    };
+    // empty ones: without a list, or with entries that are empty, or that are not for these datapoints
+    for list in [Vec::new(), tables::text_list(&[(0, "zero"), (5, ""), (6, "six"), (8, ""), (9, "nine")])] {
+        for count in [1, 2, 123, 124, 125, 126, 250, 1000] {
+            with_datapoints(bench, &mut before, count);
+            before.site_texts = list.clone();
+            before.default_texts = if bench.random.coin() { Vec::new() } else { list.clone() };
+            if count <= 124 {
+                expect_strings(bench, &before, 5, 3 * count, &vec![&[][..]; usize::from(count)]);
+            } else {
+                expect_strings(bench, &before, 5, 3 * 124, &[&[][..]; 124]);
+                too_long(bench, &before, 3 * count, 124);
+                too_long(bench, &before, 65535, 124);
+            }
+        }
+    }
+    // of 30 bytes: in the site's list, in the default one, in both, in turns
+    for count in [6, 7, 8, 9] {
+        with_datapoints(bench, &mut before, count as u16);
+        for kind in 0..4 {
+            let list = |wanted: &dyn Fn(usize) -> bool| {
+                let all: Vec<(u16, &Vec<u8>)> =
+                    (0..count).filter(|at| wanted(*at)).map(|at| (5 + 3 * at as u16, &texts[at])).collect();
+                tables::text_list(&all)
+            };
+            before.site_texts = list(&|at| kind != 1 && (kind != 3 || at % 2 == 0));
+            before.default_texts = list(&|at| kind != 0 && (kind != 3 || at % 2 == 1));
+            let wanted: Vec<&[u8]> = texts[..count.min(7)].iter().map(|text| &text[..]).collect();
+            expect_strings(bench, &before, 5, 3 * wanted.len() as u16, &wanted);
+            if count > 7 {
+                too_long(bench, &before, 65535, 7);
+            }
+            // the last one of each length, and a datapoint without a text behind it
+            for length in 0..=30 {
+                let mut all: Vec<(u16, &[u8])> = (0..7).map(|at| (5 + 3 * at as u16, &texts[at][..])).collect();
+                all.push((26, &texts[7][..length]));
+                let mut before = before.clone();
+                with_datapoints(bench, &mut before, 9);
+                before.site_texts = if kind % 2 == 0 { tables::text_list(&all) } else { Vec::new() };
+                before.default_texts = if kind % 2 == 1 { tables::text_list(&all) } else { Vec::new() };
+                let wanted: Vec<&[u8]> = all.iter().map(|(_, text)| *text).collect();
+                if length <= 22 {
+                    expect_strings(bench, &before, 5, 22, &wanted);
+                } else {
+                    too_long(bench, &before, 22, 7);
+                }
+                if length <= 20 {
+                    expect_strings(bench, &before, 5, 65535, &[&wanted[..], &[&[]]].concat());
+                } else {
+                    too_long(bench, &before, 65535, if length <= 22 { 8 } else { 7 });
+                }
+            }
+        }
+    }
+}
+
+/// Each event with this list in the place of one of the two: refused with 1, or accepted.
+fn judged(bench: &mut Bench, before: &Server, site: bool, list: Vec<u8>, in_order: bool) {
+    let mut server = before.clone();
+    *list_of(&mut server, site) = list;
+    for event in 1..=6 {
+        let call = Call { event, byte: 0xE5, id: 10, outcome: 1, value: vec![1], room: 262 };
+        let answer = once(bench, &server, call);
+        if answer.as_ref().err().copied() != (!in_order).then_some(-1) {
+            bench.missed("1 for a list out of order or not made of whole entries, and for no other", &answer);
+        }
+    }
+}
+
+fn text_lists(bench: &mut Bench) {
+    let before = bench.server.clone();
+    let thirty = bench.random.bytes(30);
+    let list = tables::text_list(&[
+        (0, &b"zero"[..]),
+        (1, b""),
+        (16, &thirty),
+        (256, &[0, 0, 0]),
+        (300, b""),
+        (600, &[2, 88, 0]),
+        (65535, b"end"),
+    ]);
+    let mut ends = tables::text_places(&list);
+    ends.push(list.len());
+    for site in [false, true] {
+        for cut in 0..=list.len() {
+            judged(bench, &before, site, list[..cut].to_vec(), ends.contains(&cut));
+        }
+        for more in 1..=2 {
+            judged(bench, &before, site, [&list[..], &vec![0xFF; more]].concat(), false);
+        }
+        for at in 0..list.len() {
+            for bit in 0..8 {
+                let mut server = before.clone();
+                let mut bytes = list.clone();
+                bytes[at] ^= 1 << bit;
+                *list_of(&mut server, site) = bytes;
+                let _ = once(bench, &server, IDLE);
+            }
+        }
+        // each length: with its bytes there, alone and between others; and over the bytes that there are
+        for length in 0..=255 {
+            let text = bench.random.bytes(length);
+            let fits = length <= 30;
+            judged(bench, &before, site, tables::text_list(&[(9, &text)]), fits);
+            judged(bench, &before, site, tables::text_list(&[(3, &b"three"[..]), (9, &text), (10, b"")]), fits);
+            for at in &ends[..ends.len() - 1] {
+                let mut server = before.clone();
+                let mut bytes = list.clone();
+                bytes[at + 2] = length as u8;
+                *list_of(&mut server, site) = bytes;
+                let _ = once(bench, &server, IDLE);
+            }
+        }
+        let ids = [0, 1, 2, 0xFE, 0xFF, 0x100, 0x101, 0x1FF, 0x200, 0x7FFF, 0x8000, 0xFF00, 0xFFFE, 0xFFFF];
+        for first in ids {
+            judged(bench, &before, site, tables::text_list(&[(first, "a")]), true);
+            for second in ids {
+                let rises = first < second;
+                judged(bench, &before, site, tables::text_list(&[(first, ""), (second, "")]), rises);
+                judged(bench, &before, site, tables::text_list(&[(first, "any"), (second, "other")]), rises);
+                let three = tables::text_list(&[(first, ""), (second, "b"), (0xFFFF, "c")]);
+                judged(bench, &before, site, three, rises && second < 0xFFFF);
+            }
+        }
+    }
+}
+
 fn entry_counts(bench: &mut Bench) {
     let mut before = bench.server.clone();
     for count in 0..=257 {
@@ -507,7 +735,7 @@ fn entry_counts(bench: &mut Bench) {
             before.datapoints[at].value = [0; 14];
             before.datapoints[at].mark = 1;
         }
-        for sub in [1, 3, 5, 7] {
+        for sub in [1, 3, 4, 5, 7] {
             for start in [0, 1] {
                 let _ = ask(bench, &before, &get(sub, start, 65535, 0));
             }

@@ -163,6 +163,9 @@ fn any_tables(bench: &mut Bench) {
             }
         })
         .collect();
+    let sizes = (random.pick(&[0, 0, 1, 3, 20]), random.pick(&[0, 0, 1, 3, 20]));
+    bench.server.site_texts = random.bytes(sizes.0);
+    bench.server.default_texts = random.bytes(sizes.1);
     bench.server.items = (0..items)
         .map(|_| {
             let mut bytes = [0; 16];
@@ -176,7 +179,10 @@ fn nearly_tables(bench: &mut Bench) {
     let random = &mut bench.random;
     let server = &mut bench.server;
     for _ in 0..random.between(1, 2) {
-        if !server.datapoints.is_empty() && random.coin() {
+        if random.one_in(4) {
+            let site = random.coin();
+            nearly_texts(random, if site { &mut server.site_texts } else { &mut server.default_texts });
+        } else if !server.datapoints.is_empty() && random.coin() {
             let at = random.below(server.datapoints.len());
             let datapoint = &mut server.datapoints[at];
             match random.below(6) {
@@ -197,5 +203,17 @@ fn nearly_tables(bench: &mut Bench) {
                 _ => item.writable = random.byte_like(&[0, 1]),
             }
         }
+    }
+}
+
+/// A list of texts but for some byte: altered, lost or added.
+fn nearly_texts(random: &mut Random, list: &mut Vec<u8>) {
+    let at = random.below(list.len() + 1);
+    match random.below(4) {
+        0 => list.truncate(at),
+        1 => list.insert(at, random.byte_like(&[0, 1, 30, 31])),
+        2 if at < list.len() => drop(list.remove(at)),
+        _ if at < list.len() => list[at] = random.byte_like(&[0, 1, 30, 31]),
+        _ => list.push(0),
     }
 }

@@ -18,6 +18,10 @@ extern "C" {
         item_count: usize,
         parameters: *mut u8,
         parameter_count: usize,
+        site_texts: *const u8,
+        site_texts_size: usize,
+        default_texts: *const u8,
+        default_texts_size: usize,
         link: *mut u8,
         out: *mut u8,
         room: usize,
@@ -56,6 +60,10 @@ pub struct Lent {
     value: usize,
     parameters: usize,
     parameter_count: usize,
+    site_texts: usize,
+    site_texts_size: usize,
+    default_texts: usize,
+    default_texts_size: usize,
     items: usize,
     item_count: usize,
     datapoints: usize,
@@ -65,7 +73,7 @@ pub struct Lent {
 
 impl Lent {
     pub fn new() -> Lent {
-        let memory = vec![0; 1 << 16];
+        let memory = vec![0; 1 << 18];
         let (before, wanted) = (memory.clone(), memory.clone());
         Lent {
             memory,
@@ -77,6 +85,10 @@ impl Lent {
             value: 0,
             parameters: 0,
             parameter_count: 0,
+            site_texts: 0,
+            site_texts_size: 0,
+            default_texts: 0,
+            default_texts_size: 0,
             items: 0,
             item_count: 0,
             datapoints: 0,
@@ -85,9 +97,11 @@ impl Lent {
         }
     }
 
-    /// Lays the parts out anew, at other addresses and in other bytes.
+    /// Lays the parts out anew, at other addresses and in other bytes. Two lists of texts that are the same may lie at
+    /// one place, since they are only read.
     pub fn lay_out(&mut self, server: &Server, seed: u64) {
         self.noise = Random::new(seed);
+        let at_one_place = server.site_texts == server.default_texts && self.noise.coin();
         let base = self.memory.as_ptr() as usize;
         let mut end = 0;
         let noise = &mut self.noise;
@@ -104,6 +118,10 @@ impl Lent {
         self.value = part(VALUE_AT_MOST, false);
         self.parameter_count = server.parameters.len();
         self.parameters = part(self.parameter_count, false);
+        self.site_texts_size = server.site_texts.len();
+        self.site_texts = part(self.site_texts_size, false);
+        self.default_texts_size = server.default_texts.len();
+        self.default_texts = if at_one_place { self.site_texts } else { part(self.default_texts_size, false) };
         self.item_count = server.items.len();
         self.items = part(self.item_count * ITEM, true);
         self.datapoint_count = server.datapoints.len();
@@ -118,11 +136,26 @@ impl Lent {
         self.datapoint_count == server.datapoints.len()
             && self.item_count == server.items.len()
             && self.parameter_count == server.parameters.len()
+            && self.site_texts_size == server.site_texts.len()
+            && self.default_texts_size == server.default_texts.len()
+            && (self.site_texts != self.default_texts || server.site_texts == server.default_texts)
     }
 
-    /// Writes tables and link record.
+    fn places(&self) -> Places {
+        Places {
+            datapoints: self.datapoints,
+            items: self.items,
+            parameters: self.parameters,
+            site_texts: self.site_texts,
+            default_texts: self.default_texts,
+            link: self.link,
+        }
+    }
+
+    /// Writes tables, lists of texts and link record.
     pub fn put(&mut self, server: &Server) {
-        put(&mut self.memory, (self.datapoints, self.items, self.parameters, self.link), server);
+        let places = self.places();
+        put(&mut self.memory, places, server);
     }
 
     pub fn put_link(&mut self, link: &Link) {
@@ -136,7 +169,7 @@ impl Lent {
         self.memory[self.value..self.value + call.value.len()].copy_from_slice(&call.value);
         self.before[..self.end].copy_from_slice(&self.memory[..self.end]);
         let memory = self.memory.as_mut_ptr();
-        // Each part lies within the memory, apart from the others; records stand at even addresses.
+        // Each part lies within the memory, apart from the others but for the lists; records stand at even addresses.
         unsafe {
             tagobrelin_call(
                 call.event,
@@ -151,6 +184,10 @@ impl Lent {
                 self.item_count,
                 memory.add(self.parameters),
                 self.parameter_count,
+                memory.add(self.site_texts),
+                self.site_texts_size,
+                memory.add(self.default_texts),
+                self.default_texts_size,
                 memory.add(self.link),
                 memory.add(self.out),
                 call.room,
@@ -163,12 +200,13 @@ impl Lent {
         unsafe { tagobrelin_fresh_link(self.memory.as_mut_ptr().add(self.link)) }
     }
 
-    /// Whether the memory is what the plain server leaves: `sent` at the start of the output, its tables and its link
-    /// record, and every other byte as before. Padding may differ where the call was accepted (`sent` is given), and
-    /// nowhere else.
+    /// Whether the memory is what the plain server leaves: `sent` at the start of the output, its tables, lists and
+    /// link record, and every other byte as before. Padding may differ where the call was accepted (`sent` is given),
+    /// and nowhere else.
     pub fn is(&mut self, after: &Server, sent: Option<&[u8]>) -> bool {
         self.wanted[..self.end].copy_from_slice(&self.before[..self.end]);
-        put(&mut self.wanted, (self.datapoints, self.items, self.parameters, self.link), after);
+        let places = self.places();
+        put(&mut self.wanted, places, after);
         if let Some(sent) = sent {
             self.wanted[self.out..self.out + sent.len()].copy_from_slice(sent);
             self.wanted[self.link + LINK_PADDING] = self.memory[self.link + LINK_PADDING];
@@ -217,6 +255,12 @@ impl Lent {
         if within(self.parameters, self.parameter_count) {
             return format!("parameters[{}]", at - self.parameters);
         }
+        if within(self.site_texts, self.site_texts_size) {
+            return format!("site_texts[{}]", at - self.site_texts);
+        }
+        if within(self.default_texts, self.default_texts_size) {
+            return format!("default_texts[{}]", at - self.default_texts);
+        }
         if within(self.items, self.item_count * ITEM) {
             let (record, byte) = ((at - self.items) / ITEM, (at - self.items) % ITEM);
             let field = ["id", "id", "size", "writable"]
@@ -241,7 +285,7 @@ impl Lent {
         format!("a byte that was not lent, at {at}")
     }
 
-    /// Tables and link record before the call, as far as they are short enough to be read.
+    /// Tables, lists and link record before the call, as far as they are short enough to be read.
     pub fn state_before(&self) -> Vec<String> {
         let hex = |bytes: &[u8]| bytes.iter().map(|byte| format!("{byte:02X}")).collect::<Vec<_>>().join(" ");
         let link = &self.before[self.link..self.link + LINK];
@@ -264,6 +308,13 @@ impl Lent {
                 hex(&self.before[self.parameters..self.parameters + self.parameter_count])
             ),
         ];
+        for (name, start, size) in [
+            ("site_texts", self.site_texts, self.site_texts_size),
+            ("default_texts", self.default_texts, self.default_texts_size),
+        ] {
+            let shown = hex(&self.before[start..start + size.min(400)]);
+            lines.push(format!("{name}, {size} bytes, the first 400: {shown}"));
+        }
         for (name, start, count, size) in [
             ("items", self.items, self.item_count, ITEM),
             ("datapoints", self.datapoints, self.datapoint_count, DATAPOINT),
@@ -287,7 +338,18 @@ fn shortened(bytes: &[u8]) -> &[u8] {
     &bytes[..count]
 }
 
-fn put(memory: &mut [u8], (datapoints, items, parameters, link): (usize, usize, usize, usize), server: &Server) {
+/// Where each part lies.
+struct Places {
+    datapoints: usize,
+    items: usize,
+    parameters: usize,
+    site_texts: usize,
+    default_texts: usize,
+    link: usize,
+}
+
+fn put(memory: &mut [u8], places: Places, server: &Server) {
+    let Places { datapoints, items, parameters, site_texts, default_texts, link } = places;
     let records = &mut memory[datapoints..datapoints + server.datapoints.len() * DATAPOINT];
     for (record, datapoint) in records.chunks_exact_mut(DATAPOINT).zip(&server.datapoints) {
         put_datapoint(record, datapoint);
@@ -296,7 +358,11 @@ fn put(memory: &mut [u8], (datapoints, items, parameters, link): (usize, usize, 
     for (record, item) in records.chunks_exact_mut(ITEM).zip(&server.items) {
         put_item(record, item);
     }
-    memory[parameters..parameters + server.parameters.len()].copy_from_slice(&server.parameters);
+    for (start, bytes) in
+        [(parameters, &server.parameters), (site_texts, &server.site_texts), (default_texts, &server.default_texts)]
+    {
+        memory[start..start + bytes.len()].copy_from_slice(bytes);
+    }
     put_link(&mut memory[link..link + LINK], &server.link);
 }
 

@@ -2,7 +2,7 @@
 
 use crate::plain::{Datapoint, Server};
 use crate::random::Random;
-use crate::tables::{absent_datapoint, absent_item, found, takes, used_bits, value, SIZES};
+use crate::tables::{absent_datapoint, absent_item, found, takes, texts_by_id, used_bits, value, SIZES};
 
 /// A message and what is to come of it: an answer of this code and ID (code 0: a positive one), none, or anything.
 pub struct Request {
@@ -23,13 +23,12 @@ pub const AIMS: &[&str] = &[
     "first byte not F0",
     "sub 80 and above",
     "5: sub 00",
-    "5: sub 04",
     "5: sub 09 to 7F",
     "5 before 10 and 6",
     "get: answered",
     "get: answered, the whole table",
     "get: answered, exactly 254 bytes",
-    "get: answered, exactly 49 or 248 entries of one size",
+    "get: answered, exactly 49, 124 or 248 entries of one size",
     "get: start FFFF, number FFFF",
     "get: range beyond 65535",
     "get: 10, one byte too many",
@@ -45,6 +44,17 @@ pub const AIMS: &[&str] = &[
     "get: 2, start 0, number 1",
     "get value: 2, nothing passes the filter",
     "get parameters: 2, start 0",
+    "get strings: answered, 124 empty ones",
+    "get strings: 3, the 125th of empty ones",
+    "get strings: answered, 7 texts of 30 bytes",
+    "get strings: 3, the 8th text of 30 bytes",
+    "get strings: 2, an ID that a list has and no datapoint",
+    "get strings: answered, from an ID on that a list has and no datapoint",
+    "get strings: answered, one that only the site's list has",
+    "get strings: answered, one that only the default list has",
+    "get strings: answered, one that both lists have",
+    "get strings: answered, an empty site's entry over a default text",
+    "get strings: answered, one that neither list has",
     "get: 3, exactly 255 bytes",
     "get: 3, more",
     "set: answered, one entry",
@@ -141,12 +151,13 @@ pub fn request(random: &mut Random, server: &Server) -> Request {
 
 fn aimed(random: &mut Random, server: &Server) -> Request {
     for _ in 0..20 {
-        let made = match random.below(36) {
+        let made = match random.below(39) {
             0 | 1 => Some(unanswered(random)),
             2 => Some(unknown(random)),
-            3..=17 => get(random, server),
-            18..=22 => set_items(random, server),
-            23..=29 => set_values(random, server),
+            3..=16 => get(random, server),
+            17..=20 => get_strings(random, server),
+            21..=25 => set_items(random, server),
+            26..=32 => set_values(random, server),
             _ => set_parameters(random, server),
         };
         if let Some(request) = made {
@@ -172,7 +183,7 @@ fn made(aim: &'static str, code: u8, id: u16, message: Vec<u8>) -> Option<Reques
 }
 
 fn unanswered(random: &mut Random) -> Request {
-    let mut message = head(random.pick(&[1, 2, 3, 5, 6, 7, 8, 9]), random.number(), random.number());
+    let mut message = head(random.pick(&[1, 2, 3, 4, 5, 6, 7, 8, 9]), random.number(), random.number());
     let more = random.below(10);
     message.extend(random.bytes(more));
     let aim = match random.below(3) {
@@ -185,7 +196,7 @@ fn unanswered(random: &mut Random) -> Request {
             "first byte not F0"
         }
         _ => {
-            message[1] = 0x80 | random.byte_like(&[0x80, 0x81, 0x83, 0x86, 0x88, 0xC1, 0xFF]);
+            message[1] = 0x80 | random.byte_like(&[0x80, 0x81, 0x83, 0x84, 0x86, 0x88, 0xC1, 0xFF]);
             "sub 80 and above"
         }
     };
@@ -193,11 +204,10 @@ fn unanswered(random: &mut Random) -> Request {
 }
 
 fn unknown(random: &mut Random) -> Request {
-    let (sub, aim) = match random.below(4) {
+    let (sub, aim) = match random.below(3) {
         0 => (0, "5: sub 00"),
-        1 => (4, "5: sub 04"),
-        2 => (random.edgy(9, 0x7F) as u8, "5: sub 09 to 7F"),
-        _ => (random.pick(&[0, 4, 9, 0x7F]), "5 before 10 and 6"),
+        1 => (random.edgy(9, 0x7F) as u8, "5: sub 09 to 7F"),
+        _ => (random.pick(&[0, 9, 0x7F]), "5 before 10 and 6"),
     };
     let before = aim == "5 before 10 and 6";
     let start = random.number();
@@ -239,6 +249,7 @@ fn present(server: &Server, sub: u8, filter: u8) -> Vec<(u16, usize)> {
     match sub {
         1 => server.items.iter().map(|item| (item.id, 3 + usize::from(item.size))).collect(),
         3 => datapoints.map(|datapoint| (datapoint.id, 5)).collect(),
+        4 => texts(server).iter().map(|text| (text.id, 2 + text.size())).collect(),
         5 => datapoints
             .filter(|datapoint| match filter {
                 1 => datapoint.state & 0x10 != 0,
@@ -249,6 +260,30 @@ fn present(server: &Server, sub: u8, filter: u8) -> Vec<(u16, usize)> {
             .collect(),
         _ => (1..=server.parameters.len()).map(|index| (index as u16, 1)).collect(),
     }
+}
+
+/// What the lists have for a datapoint: the lengths of its texts, where there is an entry.
+pub struct Texts {
+    pub id: u16,
+    pub site: Option<usize>,
+    pub default: Option<usize>,
+}
+
+impl Texts {
+    /// The length of the text that is handed out.
+    pub fn size(&self) -> usize {
+        match self.site {
+            Some(size) if size > 0 => size,
+            _ => self.default.unwrap_or(0),
+        }
+    }
+}
+
+/// That of each datapoint.
+pub fn texts(server: &Server) -> Vec<Texts> {
+    let (site, default) = (texts_by_id(&server.site_texts), texts_by_id(&server.default_texts));
+    let of = |id: u16| Texts { id, site: site.get(&id).map(Vec::len), default: default.get(&id).map(Vec::len) };
+    server.datapoints.iter().map(|datapoint| of(datapoint.id)).collect()
 }
 
 /// The size of all that a get returns from start to last.
@@ -289,7 +324,7 @@ fn run_of(random: &mut Random, entries: &[(u16, usize)], wanted: impl Fn(usize) 
 }
 
 fn get(random: &mut Random, server: &Server) -> Option<Request> {
-    let sub = random.pick(&[1, 3, 5, 5, 7]);
+    let sub = random.pick(&[1, 3, 4, 5, 5, 7]);
     let filter = if sub == 5 { random.below(3) as u8 } else { 0 };
     let message = |start: u16, number: u16, filter: u8| {
         let mut message = head(sub, start, number);
@@ -412,15 +447,15 @@ fn get(random: &mut Random, server: &Server) -> Option<Request> {
             made("get: 3, more", 3, entries[over].0, message(start, number, filter))
         }
         20 => {
-            // as many entries of one size as fit: 49 of 5 bytes, 248 of 1 byte
+            // as many entries of one size as fit: 49 of 5 bytes, 124 of 2 bytes, 248 of 1 byte
             let size = entries[0].1;
             let count = 248 / size;
-            if entries.len() < count || entries.iter().any(|entry| entry.1 != size) || (size != 5 && size != 1) {
+            if entries.len() < count || entries.iter().any(|entry| entry.1 != size) || ![5, 2, 1].contains(&size) {
                 return None;
             }
             let first = random.between(0, entries.len() - count);
             let (start, number) = range(random, &entries, first, first + count - 1, lowest)?;
-            made("get: answered, exactly 49 or 248 entries of one size", 0, start, message(start, number, filter))
+            made("get: answered, exactly 49, 124 or 248 entries of one size", 0, start, message(start, number, filter))
         }
         21 => {
             let all: usize = entries.iter().map(|entry| entry.1).sum();
@@ -442,6 +477,76 @@ fn get(random: &mut Random, server: &Server) -> Option<Request> {
             let (start, number) = range(random, &entries, first, last, lowest)?;
             made("get: answered", 0, start, message(start, number, filter))
         }
+    }
+}
+
+/// Description strings by what the lists have; by their number where all are empty, or of 30 bytes.
+fn get_strings(random: &mut Random, server: &Server) -> Option<Request> {
+    let texts = texts(server);
+    let message = |start: u16, number: u16| head(4, start, number);
+    let run = |random: &mut Random, size: usize, count: usize| {
+        let from: Vec<usize> = (0..(texts.len() + 1).saturating_sub(count))
+            .filter(|at| texts[*at..*at + count].iter().all(|text| text.size() == size))
+            .collect();
+        let first = *from.get(random.below(from.len().max(1)))?;
+        let entries: Vec<(u16, usize)> = texts.iter().map(|text| (text.id, 2 + text.size())).collect();
+        Some((range(random, &entries, first, first + count - 1, 0)?, entries[first + count - 1].0))
+    };
+    let one = |random: &mut Random, aim: &'static str, fits: fn(&Texts) -> bool| {
+        let all: Vec<u16> = texts.iter().filter(|text| fits(text)).map(|text| text.id).collect();
+        let start = *all.get(random.below(all.len().max(1)))?;
+        made(aim, 0, start, message(start, 1))
+    };
+    // an ID of a list that no datapoint has
+    let beside = |random: &mut Random| {
+        let list = if random.coin() { &server.site_texts } else { &server.default_texts };
+        let ids: Vec<u16> =
+            texts_by_id(list).into_keys().filter(|id| found(&server.datapoints, *id).is_none()).collect();
+        ids.get(random.below(ids.len().max(1))).copied()
+    };
+    match random.below(16) {
+        0 | 14 => {
+            let ((start, number), _) = run(random, 0, 124)?;
+            made("get strings: answered, 124 empty ones", 0, start, message(start, number))
+        }
+        1 | 15 => {
+            let ((start, number), last) = run(random, 0, 125)?;
+            made("get strings: 3, the 125th of empty ones", 3, last, message(start, number))
+        }
+        2 => {
+            let ((start, number), _) = run(random, 30, 7)?;
+            made("get strings: answered, 7 texts of 30 bytes", 0, start, message(start, number))
+        }
+        3 => {
+            let ((start, number), last) = run(random, 30, 8)?;
+            made("get strings: 3, the 8th text of 30 bytes", 3, last, message(start, number))
+        }
+        4 => {
+            let start = beside(random)?;
+            made("get strings: 2, an ID that a list has and no datapoint", 2, start, message(start, 1))
+        }
+        5 => {
+            let start = beside(random)?;
+            let next = texts.iter().find(|text| text.id > start)?.id;
+            let number = (next - start).checked_add(1)?;
+            let aim = "get strings: answered, from an ID on that a list has and no datapoint";
+            made(aim, 0, start, message(start, number))
+        }
+        6 => one(random, "get strings: answered, one that only the site's list has", |text| {
+            text.site.is_some_and(|size| size > 0) && text.default.is_none()
+        }),
+        7 => one(random, "get strings: answered, one that only the default list has", |text| {
+            text.site.is_none() && text.default.is_some_and(|size| size > 0)
+        }),
+        8 | 9 => one(random, "get strings: answered, one that both lists have", |text| {
+            text.site.is_some_and(|size| size > 0) && text.default.is_some_and(|size| size > 0)
+        }),
+        10 | 11 => one(random, "get strings: answered, an empty site's entry over a default text", |text| {
+            text.site == Some(0) && text.default.is_some_and(|size| size > 0)
+        }),
+        _ => one(random, "get strings: answered, one that neither list has", |text| {
+            text.site.is_none() && text.default.is_none()
+        }),
     }
 }
 

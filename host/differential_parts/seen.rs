@@ -4,8 +4,8 @@ use crate::bench::Answer;
 use crate::counts::{Counts, Matrix};
 use crate::lent::Call;
 use crate::plain::{Link, Server};
-use crate::requests;
-use crate::tables::{found, takes, type_of, used_bits, SIZES};
+use crate::requests::{self, Texts};
+use crate::tables::{found, takes, texts_by_id, type_of, used_bits, SIZES};
 
 // The matrices, and their rows.
 pub const ERRORS: usize = 0;
@@ -13,6 +13,8 @@ pub const TYPES: usize = 1;
 pub const COMMANDS: usize = 2;
 const FLAGS: usize = 3;
 const PARAMETERS: usize = 4;
+const STRINGS: usize = 5;
+const TEXT_SIZES: usize = 6;
 
 pub const BUS_TAKEN: usize = 0;
 pub const BUS_LENGTH: usize = 1;
@@ -34,12 +36,12 @@ const FLAGS_ANSWERED: usize = 13;
 const FLAGS_INDICATED: usize = 14;
 const FLAGS_DESCRIBED: usize = 15;
 
-const SERVICES: [&str; 8] = ["other", "01", "02", "03", "05", "06", "07", "08"];
+const SERVICES: [&str; 9] = ["other", "01", "02", "03", "04", "05", "06", "07", "08"];
 
 pub fn matrices() -> Vec<Matrix> {
-    let gets = &[1, 3, 4, 6];
-    let sets = &[2, 5, 7];
-    let seven = &[1, 2, 3, 4, 5, 6, 7];
+    let gets = &[1, 3, 4, 5, 7];
+    let sets = &[2, 6, 8];
+    let eight = &[1, 2, 3, 4, 5, 6, 7, 8];
     let all_types: Vec<usize> = (0..15).collect();
     // by bits 2 and 6 alone, then with other bits set too
     let flags = ["00", "04", "40", "44", "00+", "04+", "40+", "44+"];
@@ -54,20 +56,20 @@ pub fn matrices() -> Vec<Matrix> {
             &SERVICES,
             &[
                 ("5: sub", &[0]),
-                ("10: size", seven),
-                ("6: number 0", seven),
-                ("6: filter", &[4]),
+                ("10: size", eight),
+                ("6: number 0", eight),
+                ("6: filter", &[5]),
                 ("7: ID absent", sets),
                 ("4: not writable", &[2]),
-                ("8: command", &[5]),
-                ("8: config flags", &[5]),
-                ("9: length", &[2, 5]),
-                ("8: unused bits", &[5]),
+                ("8: command", &[6]),
+                ("8: config flags", &[6]),
+                ("9: length", &[2, 6]),
+                ("8: unused bits", &[6]),
                 ("2: nothing to return", gets),
                 ("3: too long", gets),
-                ("3: 255 bytes", &[1, 4, 6]),
-                ("answered", seven),
-                ("answered, 254 bytes", &[1, 4, 6]),
+                ("3: 255 bytes", &[1, 4, 5, 7]),
+                ("answered", eight),
+                ("answered, 254 bytes", &[1, 4, 5, 7]),
                 ("range beyond 65535", gets),
             ],
         ),
@@ -142,6 +144,20 @@ pub fn matrices() -> Vec<Matrix> {
                 ("answered, not up to the end", several),
                 ("answered, 254 bytes", several),
             ],
+        ),
+        Matrix::new(
+            "Description strings in answers, by what the site's list has",
+            &["no entry", "an empty one", "a text"],
+            &[
+                ("the default list has no entry", &[0, 1, 2]),
+                ("the default list has an empty one", &[0, 1, 2]),
+                ("the default list has a text", &[0, 1, 2]),
+            ],
+        ),
+        Matrix::new(
+            "Description strings in answers, by their length",
+            &["0", "1", "2 to 29", "30"],
+            &[("from the site's list", &[1, 2, 3]), ("from the default list", &[1, 2, 3]), ("empty", &[0])],
         ),
     ]
 }
@@ -241,7 +257,7 @@ const EVENTS: [&str; 28] = [
     "accepted with room above 262",
 ];
 
-const REQUESTS: [&str; 10] = [
+const REQUESTS: [&str; 22] = [
     "set of items, an ID twice",
     "set of datapoints, an ID twice",
     "set of items, start is not the first entry's",
@@ -252,6 +268,18 @@ const REQUESTS: [&str; 10] = [
     "filter 2 answered",
     "49 descriptions answered",
     "an answer that skips absent IDs",
+    "124 empty strings answered",
+    "125 empty strings: 3",
+    "7 texts of 30 bytes answered",
+    "8 texts of 30 bytes: 3",
+    "strings answered, neither list has an entry",
+    "strings answered, only the site's list has entries",
+    "strings answered, only the default list has entries",
+    "strings answered, a list begins with ID 0",
+    "strings answered, a list has entries before the range",
+    "strings answered, a list has entries behind the range",
+    "strings answered, a list has an ID in the range that no datapoint has",
+    "strings answered, a list has 100 entries or more",
 ];
 
 /// The sizes that the marked datapoints have in an indication.
@@ -499,11 +527,7 @@ fn number_at(message: &[u8], at: usize) -> u16 {
 
 fn answered(counts: &mut Counts, message: &[u8], answer: &[u8], after: &Server) {
     let sub = message[1];
-    let column = match sub {
-        1 | 2 | 3 => usize::from(sub),
-        5 | 6 | 7 | 8 => usize::from(sub) - 1,
-        _ => 0,
-    };
+    let column = if sub <= 8 { usize::from(sub) } else { 0 };
     let (start, number, id) = (number_at(message, 2), number_at(message, 4), number_at(answer, 2));
     let positive = number_at(answer, 4) != 0 || answer[6] == 0;
     let code = if positive { 0 } else { answer[6] };
@@ -531,6 +555,9 @@ fn answered(counts: &mut Counts, message: &[u8], answer: &[u8], after: &Server) 
     if !set && (positive || code == 2 || code == 3) && usize::from(start) + usize::from(number) > 65536 {
         counts.cell(ERRORS, 15, column);
     }
+    if sub == 4 && code == 3 {
+        strings_too_long(counts, start, id, after);
+    }
     if sub == 8 {
         parameter_set(counts, message, code, after.parameters.len());
     } else if set && positive {
@@ -554,6 +581,7 @@ fn answered(counts: &mut Counts, message: &[u8], answer: &[u8], after: &Server) 
                 count_flags(counts, FLAGS_DESCRIBED, number_at(entry, 0), after);
             }
         }
+        4 => strings(counts, start, number, answer, after),
         5 => {
             counts.hit(
                 "requests carried out",
@@ -565,6 +593,73 @@ fn answered(counts: &mut Counts, message: &[u8], answer: &[u8], after: &Server) 
     }
     if !set && number_at(answer, 4) < number {
         counts.hit("requests carried out", "an answer that skips absent IDs");
+    }
+}
+
+/// What the lists have for the datapoints from start to last.
+fn texts_of_range(start: u16, last: u16, after: &Server) -> Vec<Texts> {
+    requests::texts(after).into_iter().filter(|text| (start..=last).contains(&text.id)).collect()
+}
+
+fn strings_too_long(counts: &mut Counts, start: u16, id: u16, after: &Server) {
+    let texts = texts_of_range(start, id, after);
+    if texts.len() == 125 && texts.iter().all(|text| text.size() == 0) {
+        counts.hit("requests carried out", "125 empty strings: 3");
+    }
+    if texts.len() == 8 && texts.iter().all(|text| text.size() == 30) {
+        counts.hit("requests carried out", "8 texts of 30 bytes: 3");
+    }
+}
+
+/// Counts the strings of an answer, each by what the lists have for its datapoint; and how the lists lie to the range.
+fn strings(counts: &mut Counts, start: u16, number: u16, answer: &[u8], after: &Server) {
+    let hit = |counts: &mut Counts, label| counts.hit("requests carried out", label);
+    let last = start.saturating_add(number - 1);
+    let texts = texts_of_range(start, last, after);
+    for text in &texts {
+        let kind = |size: Option<usize>| size.map_or(0, |size| 1 + usize::from(size > 0));
+        counts.cell(STRINGS, kind(text.default), kind(text.site));
+        let from = match (kind(text.site), kind(text.default)) {
+            (2, _) => 0,
+            (_, 2) => 1,
+            _ => 2,
+        };
+        let column = match text.size() {
+            size @ (0 | 1) => size,
+            30 => 3,
+            _ => 2,
+        };
+        counts.cell(TEXT_SIZES, from, column);
+    }
+    if texts.len() == 124 && answer.len() == 254 {
+        hit(counts, "124 empty strings answered");
+    }
+    if texts.len() == 7 && answer.len() == 230 && texts.iter().all(|text| text.size() == 30) {
+        hit(counts, "7 texts of 30 bytes answered");
+    }
+    match (after.site_texts.is_empty(), after.default_texts.is_empty()) {
+        (true, true) => hit(counts, "strings answered, neither list has an entry"),
+        (false, true) => hit(counts, "strings answered, only the site's list has entries"),
+        (true, false) => hit(counts, "strings answered, only the default list has entries"),
+        (false, false) => {}
+    }
+    for list in [&after.site_texts, &after.default_texts] {
+        let ids: Vec<u16> = texts_by_id(list).into_keys().collect();
+        if ids.first() == Some(&0) {
+            hit(counts, "strings answered, a list begins with ID 0");
+        }
+        if ids.first().is_some_and(|id| *id < start) {
+            hit(counts, "strings answered, a list has entries before the range");
+        }
+        if ids.last().is_some_and(|id| *id > last) {
+            hit(counts, "strings answered, a list has entries behind the range");
+        }
+        if ids.iter().any(|id| (start..=last).contains(id) && found(&after.datapoints, *id).is_none()) {
+            hit(counts, "strings answered, a list has an ID in the range that no datapoint has");
+        }
+        if ids.len() >= 100 {
+            hit(counts, "strings answered, a list has 100 entries or more");
+        }
     }
 }
 

@@ -2,6 +2,7 @@
 
 use crate::plain::{Datapoint, Item, Server};
 use crate::random::Random;
+use std::collections::BTreeMap;
 
 /// Bytes of each type code.
 pub const SIZES: [usize; 15] = [1, 1, 1, 1, 1, 1, 1, 1, 2, 3, 4, 6, 8, 10, 14];
@@ -115,6 +116,91 @@ pub fn items(random: &mut Random, count: usize) -> Vec<Item> {
         .collect()
 }
 
+/// The bytes of a list of texts.
+pub fn text_list<T: AsRef<[u8]>>(entries: &[(u16, T)]) -> Vec<u8> {
+    let mut list = Vec::new();
+    for (id, text) in entries {
+        list.extend_from_slice(&id.to_be_bytes());
+        list.push(text.as_ref().len() as u8);
+        list.extend_from_slice(text.as_ref());
+    }
+    list
+}
+
+/// Where each entry of a list that is in order begins.
+pub fn text_places(list: &[u8]) -> Vec<usize> {
+    let mut places = Vec::new();
+    let mut at = 0;
+    while at < list.len() {
+        places.push(at);
+        at += 3 + usize::from(list[at + 2]);
+    }
+    places
+}
+
+/// The texts of a list that is in order, by their IDs.
+pub fn texts_by_id(list: &[u8]) -> BTreeMap<u16, Vec<u8>> {
+    let entry = |at: usize| {
+        let length = usize::from(list[at + 2]);
+        (u16::from_be_bytes([list[at], list[at + 1]]), list[at + 3..at + 3 + length].to_vec())
+    };
+    text_places(list).into_iter().map(entry).collect()
+}
+
+/// A list of texts in order: none; for each datapoint; for some of them and for IDs beside; or for any IDs.
+pub fn texts(random: &mut Random, datapoints: &[Datapoint]) -> Vec<u8> {
+    let mut entries: Vec<u16> = datapoints.iter().map(|datapoint| datapoint.id).collect();
+    match random.below(10) {
+        0 | 1 => return Vec::new(),
+        2 | 3 => {}
+        4 => {
+            let count = random.between(1, 40);
+            entries = ids(random, count);
+        }
+        _ => {
+            let kept = random.pick(&[2, 5, 8]);
+            entries.retain(|_| random.below(10) < kept);
+            for _ in 0..random.below(6) {
+                let near = if entries.is_empty() { random.number() } else { random.pick(&entries) };
+                entries.push(near.wrapping_add(random.pick(&[1, 2, 0xFFFF, 0x0100])));
+            }
+        }
+    }
+    if random.one_in(4) {
+        entries.push(0);
+    }
+    entries.sort();
+    entries.dedup();
+    // all of one length; the ends; short ones; any
+    let lengths: Vec<usize> = match random.below(8) {
+        0 => vec![0],
+        1 => vec![30],
+        2 => vec![0, 30],
+        3 => vec![random.between(1, 29)],
+        4 => vec![0, 0, 1, 2, 3],
+        5 => vec![0, 0, 0, 0, 0, 12],
+        _ => (0..=30).collect(),
+    };
+    let entries: Vec<(u16, Vec<u8>)> = entries
+        .into_iter()
+        .map(|id| {
+            let length = random.pick(&lengths);
+            (id, random.bytes(length))
+        })
+        .collect();
+    text_list(&entries)
+}
+
+/// Both lists: none at all, each by itself, or twice the same.
+pub fn both_texts(random: &mut Random, datapoints: &[Datapoint]) -> (Vec<u8>, Vec<u8>) {
+    if random.one_in(8) {
+        return (Vec::new(), Vec::new());
+    }
+    let site = texts(random, datapoints);
+    let default = if random.one_in(10) { site.clone() } else { texts(random, datapoints) };
+    (site, default)
+}
+
 /// Tables of a random size, mostly small; the link record is as given.
 pub fn server(random: &mut Random, link: crate::plain::Link) -> Server {
     let datapoint_count = match random.below(100) {
@@ -122,7 +208,8 @@ pub fn server(random: &mut Random, link: crate::plain::Link) -> Server {
         6..=9 => 1,
         10..=59 => random.between(2, 14),
         60..=84 => random.between(15, 60),
-        85..=97 => random.between(61, 150),
+        85..=93 => random.between(61, 150),
+        94..=97 => random.between(120, 150),
         98 => random.between(151, 999),
         _ => 1000,
     };
@@ -143,10 +230,14 @@ pub fn server(random: &mut Random, link: crate::plain::Link) -> Server {
         17 => random.between(250, 254),
         _ => 255,
     };
+    let datapoints = datapoints(random, datapoint_count);
+    let (site_texts, default_texts) = both_texts(random, &datapoints);
     Server {
-        datapoints: datapoints(random, datapoint_count),
+        datapoints,
         items: items(random, item_count),
         parameters: random.bytes(parameter_count),
+        site_texts,
+        default_texts,
         link,
     }
 }

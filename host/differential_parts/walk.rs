@@ -515,5 +515,8 @@ fn alter_tables(bench: &mut Bench) {
         item.writable = bench.random.bit();
     }
     bench.random.fill(&mut bench.server.parameters);
+    let (site, default) = tables::both_texts(&mut bench.random, &bench.server.datapoints);
+    bench.server.site_texts = site;
+    bench.server.default_texts = default;
     bench.lend();
 }

@@ -19,7 +19,7 @@ def argument(fn, clause):
     if kind in ('passed', 'passed-ref'):          # passed P L: a reference of the parameters, as it is; P/1 where it was had twice
         entry, _, now = rest.partition(' ')
         p = fn.param(entry.split('/')[0])
-        return Argument(p.name, "'" + p.name, '*' + entry, p.lifetime, p.share, p.name, slice_value(p.name, now) if kind == 'passed' else ref_value(p.name))
+        return Argument(p.name, "'" + fn.owner(p.lifetime), '*' + entry, p.lifetime, p.share, p.name, slice_value(p.name, now) if kind == 'passed' else ref_value(p.name))
     if kind == 'plain':                           # plain D V
         data, value = rest.split(' ', 1)
         return Argument(value, None, 'made-' + data, None, None, value, f'{data} .val {value} ∷ []')
@@ -43,16 +43,25 @@ def arguments(fn, inside):
     return [argument(fn, c) for c in clauses(inside)]
 
 
+def living(args):
+    '''the first argument of each lifetime: those that live equally long have one token'''
+    first = {}
+    for a in args:
+        if a.lifetime:
+            first.setdefault(a.lifetime, a)
+    return list(first.values())
+
+
 def wanted_first(fn, inside):
     '''the entries that a call with these arguments wants first: the tokens, and what each argument owns'''
     args = arguments(fn, inside)
-    return '@[' + ' '.join([a.token for a in args if a.token] + [a.owned for a in args]) + ']'
+    return '@[' + ' '.join([a.token for a in living(args)] + [a.owned for a in args]) + ']'
 
 
 def ghost(fn, inside):
     '''the lifetimes, the shares, the values and the machine values'''
     args = arguments(fn, inside)
-    lives, shares = [a.lifetime for a in args if a.lifetime], [a.share for a in args if a.lifetime]
+    lives, shares = [a.lifetime for a in living(args)], [a.share for a in living(args)]
     return f'(({nest(lives)}, {nest(shares)}, tt, {nest([a.value for a in args])}, {nest([a.machine for a in args])}), tt)'
 
 

@@ -5,8 +5,9 @@ from .rules import Context
 from .texts import Mistake, matching, tokens_of
 
 # what an entry is called, by the formula that it is: {} is its owner's name, by the lifetime or the value in the formula
+OWNED = r'(?:(?:MutS|ShrS|Mut|Shr) \S+|\S+ \.row \.own) (\S+) '
 FORMULAS = [
-    (r'(?:MutS|ShrS|Mut|Shr) \S+ (\S+) ', '*{}'), (r'flft (\S+) ', "'{}"), (r'OpenS \S+ (\S+) ', '{}-open'), (r'LookS \S+ (\S+) ', '{}-look'), (r'\S+ \.row \.own (\S+) ', '*{}'),
+    (OWNED, '*{}'), (r'flft (\S+) ', "'{}"), (r'OpenS \S+ (\S+) ', '{}-open'), (r'LookS \S+ (\S+) ', '{}-look'),
 ]
 
 
@@ -16,6 +17,11 @@ class Contexts:
     def owner(self, lifetime):
         '''the parameter that lives so long; a value is called as it is'''
         return next((p.name for p in self.params if p.lifetime == lifetime), lifetime)
+
+    def named(self, formula):
+        '''whose entry it is: of parameters that live equally long, the one whose name it has'''
+        m = re.match(OWNED, formula)
+        return next((p.name for p in self.params if p.lifetime == m.group(1) and f'({p.name} .name)' in formula), self.owner(m.group(1)))
 
     def at_entry(self):
         return ["'" + self.owner(l) for l in self.lifetimes] + ['*' + p.name for p in self.params]
@@ -82,7 +88,7 @@ class Contexts:
         for pattern, name in FORMULAS:
             m = re.match(pattern, formula)
             if m:
-                return name.format(self.owner(m.group(1)))
+                return name.format(self.named(formula) if name == '*{}' else self.owner(m.group(1)))
         m = re.match(r'row \((\S+) \.row\) ', formula)
         return f'row of {m.group(1)}' if m else f'entry{k}'
 

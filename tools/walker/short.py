@@ -32,6 +32,7 @@ SHORT = [
     ('land $x : $W', 'land ! (from ! (stop !)) (§put ! @$x refl $W)'),
     ('land %$x : $W', 'land ! (from ! (stop !)) (§put ! %$x refl $W)'),
     ('§fm', '(fmOf 𝓤 H (W .laws) 𝓣)'),
+    ('twice $x of $D for $k', 'use1 W (‵ (ShrS $D $k ($x .ptr .0) ($x .ptr .1) ($x .name) (length ($x .now)) ($x .now)) ⊛ ‵ (ShrS $D $k ($x .ptr .0) ($x .ptr .1) ($x .name) (length ($x .now)) ($x .now))) (shr-slice-copy 𝓤 H A W erased $k ($D .row) .twice $x (sliceVal ($x .ptr) (length ($x .now)) ∷ [])) $ split !'),
     ('plain $D $E by $G', 'use0 W (‵ ($D .row .own $E ($D .val $E ∷ []))) ($D .made 𝓤 H A W $E ($D .val $E ∷ []) $G)'),
 ]
 # the same for whole lines, which speak of the parameters

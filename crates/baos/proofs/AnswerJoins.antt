@@ -14,19 +14,22 @@ use Rattle.baos.specs.declared.item.Item.{Item}
 use Rattle.baos.specs.declared.inner.Wanted.{Wanted}
 use Rattle.baos.specs.declared.inner.Gathered.{Gathered}
 use Rattle.baos.specs.declared.inner.Verdict.{Verdict}
-use Rattle.baos.specs.Table.{Tables, datapointsOnly, itemsOnly, rising, place, tableOk}
+use Rattle.baos.specs.Text.{TextLists}
+use Rattle.baos.specs.Table.{Tables, datapointsOnly, itemsOnly, datapointsWithTexts, rising, place, tableOk}
 use Rattle.baos.specs.Datapoint.{datapointId, datapointOk}
 use Rattle.baos.specs.Item.{itemId, itemOk}
 use Rattle.baos.specs.Message.{subService, startOf, coded, verdictOf, Served}
-use Rattle.baos.specs.Get.{AnswerEntry, getServerItem}
+use Rattle.baos.specs.Get.{AnswerEntry, getServerItem, getDescriptionString}
 use Rattle.baos.specs.Inner.Gather.{requestFinding, gatheredVerdict, walked, nothingGathered, datapointStep, itemStep, datapointsBuilt, datapointsLeft, itemsBuilt, wantedOf, getDatapoints}
+use Rattle.baos.specs.Inner.Strings.{stringStep, stringsBuilt}
 use Rattle.baos.specs.Inner.Promise.{Written, Answered}
 use Rattle.words.proofs.WordLaws.{parts3}
 use Rattle.baos.proofs.TableLaws.{ids-rise}
-use Rattle.baos.proofs.GetLaws.{refused-first}
+use Rattle.baos.proofs.GetLaws.{gets, refused-first}
 use Rattle.baos.proofs.WrittenLaws.{coded-says}
 use Rattle.baos.proofs.GatherLaws.{Passed, datapoints-small, items-small}
 use Rattle.baos.proofs.AnsweredLaws.{answered-bad, answered-fine, datapointEntries, datapointsAfter, datapoints-passed, gets-datapoints, itemEntries, items-passed, gets-items}
+use Rattle.baos.proofs.StringLaws.{stringEntries, strings-passed, strings-small, gets-strings}
 
 -- what a test for a code other than 0 showed
 pub not-zero : (n : ℕ) → T (not (eqb n 0)) → n ≡ 0 → ⊥
@@ -154,58 +157,121 @@ module _ (values : Bool) (m : List ℕ) (ds : List Datapoint) (ok : tableOk 1000
           let f = said-fine m out at s (g .count) bytes (datapointsOnly (datapointsAfter values m ds)) room datapoints-fit e in
           record { table = sym (ap (λ (x : Served). x .after .datapoints) e); buffer = f .buffer; ends = f .ends }
 
+-- ---- a get that leaves its table: of items, or of strings
+module _ (m : List ℕ) (answer : Served) (es : List AnswerEntry) (g : Gathered) (bytes : List ℕ) (t : Tables) (gone : Passed es g bytes) (small : g .size ≤ 248) (is : answer ≡ gets false es t t m) (out : List ℕ) (at : ℕ) where
+  abbrev first : Verdict
+  first = verdictOf (requestFinding false m)
+
+  abbrev later : Verdict
+  later = gatheredVerdict (startOf m) g
+
+  abbrev Answers′ : List ℕ → ℕ → Type 0
+  Answers′ o n = Written out at (answer .says) n o
+
+  get-refused : T (not (eqb (first .code) 0)) → Answers′ (put out at (coded m (first .id) (first .code))) (at + 7)
+  get-refused x = said-coded m out at answer (first .id) (first .code) t (is ∙ refused-first false m es t t (not-zero (first .code) x))
+
+  module _ (z : T (not (not (eqb (first .code) 0)))) where
+    get-bad : T (not (eqb (later .code) 0)) → Answers′ (put out at (coded m (later .id) (later .code))) (at + 7)
+    get-bad x = said-coded m out at answer (later .id) (later .code) t (is ∙ answered-bad false m es g bytes gone t t (is-zero (first .code) z) (not-zero (later .code) x))
+
+    module _ (y : T (not (not (eqb (later .code) 0)))) where
+      get-fits : length bytes ≤ 248
+      get-fits = built-small es g bytes gone small (startOf m) (is-zero (later .code) y)
+
+      get-fine : at + 254 ≤ length out → Answers′ (put (put out at (headOf m (g .count))) (at + 6) bytes) (at + 6 + length bytes)
+      get-fine room = said-fine m out at answer (g .count) bytes t room get-fits (is ∙ answered-fine false m es g bytes gone t t (is-zero (first .code) z) (is-zero (later .code) y))
+
 -- ---- the get of items
 module _ (m : List ℕ) (is : List Item) (ok : tableOk 64 itemId itemOk is ≡ true) (out : List ℕ) (at : ℕ) where
   abbrev iw : Wanted
   iw = wantedOf false m
 
+  abbrev ig : Gathered
+  ig = walked (itemStep iw) nothingGathered (drop (place itemId (iw .start) is) is)
+
+  abbrev ibytes : List ℕ
+  ibytes = itemsBuilt iw (drop (place itemId (iw .start) is) is)
+
   abbrev iv : Verdict
   iv = verdictOf (requestFinding false m)
-
-  abbrev ifrom : ℕ
-  ifrom = place itemId (iw .start) is
-
-  abbrev ig : Gathered
-  ig = walked (itemStep iw) nothingGathered (drop ifrom is)
 
   abbrev iu : Verdict
   iu = gatheredVerdict (iw .start) ig
 
-  abbrev ibytes : List ℕ
-  ibytes = itemsBuilt iw (drop ifrom is)
-
-  abbrev answer : Served
-  answer = getServerItem (itemsOnly is) m
-
   abbrev ir : T (rising 0 (map itemId is))
   ir = they-rise 64 itemId itemOk is ok
 
-  abbrev ies : List AnswerEntry
-  ies = itemEntries m is
-
   abbrev ItemAnswers : List ℕ → ℕ → Type 0
-  ItemAnswers o n = Written out at (answer .says) n o
+  ItemAnswers o n = Written out at (getServerItem (itemsOnly is) m .says) n o
 
-  items-gone : Passed ies ig ibytes
+  items-gone : Passed (itemEntries m is) ig ibytes
   unfolding wantedOf
   items-gone = items-passed m is ir
 
+  items-few : ig .size ≤ 248
+  items-few = items-small iw (drop (place itemId (iw .start) is) is) .1
+
   pub items-refused : T (not (eqb (iv .code) 0)) → ItemAnswers (put out at (coded m (iv .id) (iv .code))) (at + 7)
-  items-refused t =
-      said-coded m out at answer (iv .id) (iv .code) (itemsOnly is) (gets-items m is ir ∙ refused-first false m ies (itemsOnly is) (itemsOnly is) (not-zero (iv .code) t))
+  items-refused = get-refused m _ (itemEntries m is) ig ibytes (itemsOnly is) items-gone items-few (gets-items m is ir) out at
 
   module _ (z : T (not (not (eqb (iv .code) 0)))) where
     pub items-bad : T (not (eqb (iu .code) 0)) → ItemAnswers (put out at (coded m (iu .id) (iu .code))) (at + 7)
     unfolding wantedOf
-    items-bad t =
-        said-coded m out at answer (iu .id) (iu .code) (itemsOnly is) (gets-items m is ir ∙ answered-bad false m ies ig ibytes items-gone (itemsOnly is) (itemsOnly is) (is-zero (iv .code) z) (not-zero (iu .code) t))
+    items-bad = get-bad m _ (itemEntries m is) ig ibytes (itemsOnly is) items-gone items-few (gets-items m is ir) out at z
 
     module _ (y : T (not (not (eqb (iu .code) 0)))) where
       pub items-fit : length ibytes ≤ 248
-      items-fit = built-small ies ig ibytes items-gone (items-small iw (drop ifrom is) .1) (iw .start) (is-zero (iu .code) y)
+      unfolding wantedOf
+      items-fit = get-fits m _ (itemEntries m is) ig ibytes (itemsOnly is) items-gone items-few (gets-items m is ir) out at z y
 
       pub items-fine : at + 254 ≤ length out → ItemAnswers (put (put out at (headOf m (ig .count))) (at + 6) ibytes) (at + 6 + length ibytes)
       unfolding wantedOf
-      items-fine room =
-          said-fine m out at answer (ig .count) ibytes (itemsOnly is) room items-fit
-          (gets-items m is ir ∙ answered-fine false m ies ig ibytes items-gone (itemsOnly is) (itemsOnly is) (is-zero (iv .code) z) (is-zero (iu .code) y))
+      items-fine = get-fine m _ (itemEntries m is) ig ibytes (itemsOnly is) items-gone items-few (gets-items m is ir) out at z y
+
+-- ---- the get of strings
+module _ (ts : TextLists) (m : List ℕ) (ds : List Datapoint) (ok : tableOk 1000 datapointId datapointOk ds ≡ true) (out : List ℕ) (at : ℕ) where
+  abbrev sw : Wanted
+  sw = wantedOf false m
+
+  abbrev sg : Gathered
+  sg = walked (stringStep ts sw) nothingGathered (drop (place datapointId (sw .start) ds) ds)
+
+  abbrev sbytes : List ℕ
+  sbytes = stringsBuilt ts sw (drop (place datapointId (sw .start) ds) ds)
+
+  abbrev sv : Verdict
+  sv = verdictOf (requestFinding false m)
+
+  abbrev su : Verdict
+  su = gatheredVerdict (sw .start) sg
+
+  abbrev sr : T (rising 0 (map datapointId ds))
+  sr = they-rise 1000 datapointId datapointOk ds ok
+
+  abbrev StringAnswers : List ℕ → ℕ → Type 0
+  StringAnswers o n = Written out at (getDescriptionString (datapointsWithTexts ds ts) m .says) n o
+
+  strings-gone : Passed (stringEntries ts m ds) sg sbytes
+  unfolding wantedOf
+  strings-gone = strings-passed ts m ds sr
+
+  strings-few : sg .size ≤ 248
+  strings-few = strings-small ts sw (drop (place datapointId (sw .start) ds) ds)
+
+  pub strings-refused : T (not (eqb (sv .code) 0)) → StringAnswers (put out at (coded m (sv .id) (sv .code))) (at + 7)
+  strings-refused = get-refused m _ (stringEntries ts m ds) sg sbytes (datapointsWithTexts ds ts) strings-gone strings-few (gets-strings ts m ds sr) out at
+
+  module _ (z : T (not (not (eqb (sv .code) 0)))) where
+    pub strings-bad : T (not (eqb (su .code) 0)) → StringAnswers (put out at (coded m (su .id) (su .code))) (at + 7)
+    unfolding wantedOf
+    strings-bad = get-bad m _ (stringEntries ts m ds) sg sbytes (datapointsWithTexts ds ts) strings-gone strings-few (gets-strings ts m ds sr) out at z
+
+    module _ (y : T (not (not (eqb (su .code) 0)))) where
+      pub strings-fit : length sbytes ≤ 248
+      unfolding wantedOf
+      strings-fit = get-fits m _ (stringEntries ts m ds) sg sbytes (datapointsWithTexts ds ts) strings-gone strings-few (gets-strings ts m ds sr) out at z y
+
+      pub strings-fine : at + 254 ≤ length out → StringAnswers (put (put out at (headOf m (sg .count))) (at + 6) sbytes) (at + 6 + length sbytes)
+      unfolding wantedOf
+      strings-fine = get-fine m _ (stringEntries ts m ds) sg sbytes (datapointsWithTexts ds ts) strings-gone strings-few (gets-strings ts m ds sr) out at z y

@@ -11,9 +11,10 @@ use Rattle.words.specs.Words.{if_then_else_, isYes, isEmpty, every, keep}
 use Rattle.words.proofs.WordLaws.{left, true-T, every-map, every-true, every-keep}
 use Rattle.baos.specs.declared.datapoint.Datapoint.{Datapoint}
 use Rattle.baos.specs.declared.item.Item.{Item}
+use Rattle.baos.specs.Text.{TextLists}
 use Rattle.baos.specs.Table.{Tables}
 use Rattle.baos.specs.Message.{subService, startOf, numberOf, filterOf, coded, Finding, fine, bad, Served, answerOf, served}
-use Rattle.baos.specs.Get.{AnswerEntry, inRequest, overflow, roomForEntries, listing, getFinding, getting, itemEntry, getServerItem, descriptionEntry, getDatapointDescription, valueEntry, asked, getDatapointValue, parameterEntries, getParameterByte}
+use Rattle.baos.specs.Get.{AnswerEntry, inRequest, overflow, roomForEntries, listing, getFinding, getting, itemEntry, getServerItem, descriptionEntry, getDatapointDescription, stringOf, stringEntry, getDescriptionString, valueEntry, asked, getDatapointValue, parameterEntries, getParameterByte}
 use Rattle.baos.specs.Set.{SetEntry, setFinding, setting, setServerItem, setDatapointValue, setParameterFinding, setParameterByte}
 use Rattle.baos.specs.Service.{service, carriedOut}
 use Rattle.baos.specs.Indication.{needs, goes, roomAfter, choices, reported, indicationOf, indication}
@@ -87,6 +88,10 @@ descriptions-have : (p : Datapoint → Bool) (xs : List Datapoint) → T (every 
 unfolding descriptionEntry
 descriptions-have p xs = every-map descriptionEntry hasBytes (λ (x : Datapoint). true) (λ x t. tt) (keep p xs) (every-true (keep p xs))
 
+strings-have : (ts : TextLists) (p : Datapoint → Bool) (xs : List Datapoint) → T (every hasBytes (map (stringEntry ts) (keep p xs)))
+unfolding stringEntry stringOf
+strings-have ts p xs = every-map (stringEntry ts) hasBytes (λ (x : Datapoint). true) (λ x t. le→leb 1 (length (stringEntry ts x .bytes)) (omega arith)) (keep p xs) (every-true (keep p xs))
+
 pub values-have : (xs : List Datapoint) → T (every hasBytes (map valueEntry xs))
 unfolding valueEntry
 values-have xs = every-map valueEntry hasBytes (λ (x : Datapoint). true) (λ x t. le→leb 1 (length (valueEntry x .bytes)) (omega arith)) xs (every-true xs)
@@ -98,12 +103,13 @@ parameters-have n (x ∷ xs) = parameters-have (suc n) xs
 
 -- ---- every answer
 service-sized : (t : Tables) (m : List ℕ) → Sized (service t m .says)
-unfolding getServerItem setServerItem getDatapointDescription getDatapointValue setDatapointValue getParameterByte
+unfolding getServerItem setServerItem getDatapointDescription getDescriptionString getDatapointValue setDatapointValue getParameterByte
 service-sized t m =
     by-service (λ (s : Served). Sized (s .says)) t m
     (λ e. get-sized 6 false _ t t m (items-have _ (t .items)))
     (λ e. set-sized 3 _ _ _ t m)
     (λ e. get-sized 6 false _ t t m (descriptions-have _ (t .datapoints)))
+    (λ e. get-sized 6 false _ t t m (strings-have (t .texts) _ (t .datapoints)))
     (λ e. get-sized 7 (ltb 2 (filterOf m)) _ t _ m (values-have (keep (asked m) (t .datapoints))))
     (λ e. set-sized 4 _ _ _ t m)
     (λ e. get-sized 6 false _ t t m (parameters (eqb (startOf m) 0)))

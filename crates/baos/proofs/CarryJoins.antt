@@ -11,15 +11,16 @@ use Rattle.words.specs.Words.{put}
 use Rattle.ft12.proofs.EventLaws.{put-none}
 use Rattle.baos.specs.declared.datapoint.Datapoint.{Datapoint}
 use Rattle.baos.specs.declared.item.Item.{Item}
-use Rattle.baos.specs.Table.{Tables, tablesOf, datapointsOnly, itemsOnly, parametersOnly}
+use Rattle.baos.specs.Text.{TextLists}
+use Rattle.baos.specs.Table.{Tables, tablesOf, datapointsOnly, itemsOnly, parametersOnly, datapointsWithTexts}
 use Rattle.baos.specs.Message.{subService, startOf, coded, Served}
-use Rattle.baos.specs.Get.{getServerItem, getParameterByte}
+use Rattle.baos.specs.Get.{getServerItem, getDescriptionString, getParameterByte}
 use Rattle.baos.specs.Set.{setServerItem, setDatapointValue, setParameterByte}
 use Rattle.baos.specs.Inner.Gather.{getDatapoints}
 use Rattle.baos.specs.Inner.Promise.{Carried}
 use Rattle.baos.specs.Service.{unanswered, carriedOut}
 use Rattle.baos.proofs.WrittenLaws.{coded-says}
-use Rattle.baos.proofs.ServiceLaws.{datapoints-say, datapoints-after, datapoints-keep-items, set-datapoints-say, set-datapoints-after, set-datapoints-keep-items, items-say, items-leave-all, set-items-say, set-items-after, set-items-keep-datapoints, parameters-say, parameters-leave-all, set-items-keep-parameters, datapoints-keep-parameters, set-datapoints-keep-parameters, set-parameters-say, set-parameters-after, set-parameters-keep-datapoints, set-parameters-keep-items, not-answered, answered-long, answered-sub, is-get-item, is-set-item, is-get-description, is-get-value, is-set-value, is-get-parameter, is-set-parameter, is-no-service}
+use Rattle.baos.proofs.ServiceLaws.{datapoints-say, datapoints-after, datapoints-keep-items, set-datapoints-say, set-datapoints-after, set-datapoints-keep-items, items-say, items-leave-all, set-items-say, set-items-after, set-items-keep-datapoints, strings-say, strings-leave-all, parameters-say, parameters-leave-all, set-items-keep-parameters, datapoints-keep-parameters, set-datapoints-keep-parameters, set-parameters-say, set-parameters-after, set-parameters-keep-datapoints, set-parameters-keep-items, not-answered, answered-long, answered-sub, is-get-item, is-set-item, is-get-description, is-get-string, is-get-value, is-set-value, is-get-parameter, is-set-parameter, is-no-service}
 
 -- what a test showed
 is-so : (b : Bool) → T b → b ≡ true
@@ -36,9 +37,9 @@ same-number a b t = eqb-true a b (is-so (eqb a b) t)
 other-number : (a b : ℕ) → T (not (eqb a b)) → a ≡ b → ⊥
 other-number a b t e = eqb-false a b (is-not-so (eqb a b) t) e
 
-module _ (ds : List Datapoint) (is : List Item) (ps : List ℕ) (m : List ℕ) (out : List ℕ) (at : ℕ) where
+module _ (ds : List Datapoint) (is : List Item) (ps : List ℕ) (ts : TextLists) (m : List ℕ) (out : List ℕ) (at : ℕ) where
   abbrev t : Tables
-  t = tablesOf ds is ps
+  t = tablesOf ds is ps ts
 
   abbrev s : Served
   s = carriedOut t m
@@ -97,6 +98,11 @@ module _ (ds : List Datapoint) (is : List Item) (ps : List ℕ) (m : List ℕ) (
         → Answers (getDatapoints false (datapointsOnly ds) m .after .datapoints) is ps (put out at (getDatapoints false (datapointsOnly ds) m .says)) (at + length (getDatapoints false (datapointsOnly ds) m .says))
     carry-descriptions c = gets false (is-get-description t m answered (same-number (subService m) 3 c))
 
+    pub carry-strings : T (eqb (subService m) 4)
+        → Answers ds is ps (put out at (getDescriptionString (datapointsWithTexts ds ts) m .says)) (at + length (getDescriptionString (datapointsWithTexts ds ts) m .says))
+    carry-strings c = comes (getDescriptionString t m) (is-get-string t m answered (same-number (subService m) 4 c)) ds is ps (getDescriptionString (datapointsWithTexts ds ts) m .says)
+        (sym (ap (λ (y : Tables). y .datapoints) (strings-leave-all t m))) (sym (ap (λ (y : Tables). y .items) (strings-leave-all t m))) (sym (ap (λ (y : Tables). y .parameters) (strings-leave-all t m))) (sym (strings-say t m))
+
     pub carry-values : T (eqb (subService m) 5)
         → Answers (getDatapoints true (datapointsOnly ds) m .after .datapoints) is ps (put out at (getDatapoints true (datapointsOnly ds) m .says)) (at + length (getDatapoints true (datapointsOnly ds) m .says))
     carry-values c = gets true (is-get-value t m answered (same-number (subService m) 5 c))
@@ -116,10 +122,10 @@ module _ (ds : List Datapoint) (is : List Item) (ps : List ℕ) (m : List ℕ) (
     carry-set-parameters c = comes (setParameterByte t m) (is-set-parameter t m answered (same-number (subService m) 8 c)) ds is (setParameterByte (parametersOnly ps) m .after .parameters) (setParameterByte (parametersOnly ps) m .says)
         (sym (set-parameters-keep-datapoints t m)) (sym (set-parameters-keep-items t m)) (sym (set-parameters-after t m)) (sym (set-parameters-say t m))
 
-    pub carry-unknown : T (not (eqb (subService m) 1)) → T (not (eqb (subService m) 2)) → T (not (eqb (subService m) 3)) → T (not (eqb (subService m) 5)) → T (not (eqb (subService m) 6))
+    pub carry-unknown : T (not (eqb (subService m) 1)) → T (not (eqb (subService m) 2)) → T (not (eqb (subService m) 3)) → T (not (eqb (subService m) 4)) → T (not (eqb (subService m) 5)) → T (not (eqb (subService m) 6))
         → T (not (eqb (subService m) 7)) → T (not (eqb (subService m) 8)) → Answers ds is ps (put out at (coded m (startOf m) 5)) (at + 7)
-    carry-unknown n1 n2 n3 n5 n6 n7 n8 =
-        let e = is-no-service t m answered (other-number (subService m) 1 n1) (other-number (subService m) 2 n2) (other-number (subService m) 3 n3) (other-number (subService m) 5 n5) (other-number (subService m) 6 n6) (other-number (subService m) 7 n7) (other-number (subService m) 8 n8) in
+    carry-unknown n1 n2 n3 n4 n5 n6 n7 n8 =
+        let e = is-no-service t m answered (other-number (subService m) 1 n1) (other-number (subService m) 2 n2) (other-number (subService m) 3 n3) (other-number (subService m) 4 n4) (other-number (subService m) 5 n5) (other-number (subService m) 6 n6) (other-number (subService m) 7 n7) (other-number (subService m) 8 n8) in
         let f = coded-says out at m (startOf m) 5 (ap (λ (y : Served). y .says) e) in
         record {
           datapoints = sym (ap (λ (y : Served). y .after .datapoints) e);

@@ -20,7 +20,7 @@ use Rattle.baos.specs.Item.{itemId}
 use Rattle.baos.specs.Lookup.{communicates, transmits, lookupOf, isPresent}
 use Rattle.baos.specs.Table.{Tables, withDatapoints, withItems, rising, tableOk, wellFormed, found, changedAt}
 use Rattle.baos.specs.Message.{subService, startOf, numberOf, filterOf, coded, Finding, fine, bad, Served, answerOf, afterOf, served}
-use Rattle.baos.specs.Get.{AnswerEntry, inRequest, overflow, roomForEntries, listing, getFinding, getting, itemEntry, getServerItem, descriptionEntry, getDatapointDescription, valueEntry, passes, asked, handingOut, getDatapointValue, parameterEntries, getParameterByte}
+use Rattle.baos.specs.Get.{AnswerEntry, inRequest, overflow, roomForEntries, listing, getFinding, getting, itemEntry, getServerItem, descriptionEntry, getDatapointDescription, stringEntry, getDescriptionString, valueEntry, passes, asked, handingOut, getDatapointValue, parameterEntries, getParameterByte}
 use Rattle.baos.specs.Set.{SetEntry, firstItemEntry, firstDatapointEntry, fills, setEntries, takesCommand, datapointCode, judgedItem, judgedDatapoint, firstBad, setFinding, applied, setting, setItem, setServerItem, setDatapoint, setDatapointValue, setParameterFinding, setParameterByte}
 use Rattle.baos.specs.Service.{service, unanswered, carriedOut}
 use Rattle.baos.specs.Bus.{takes, taken, foundTakes}
@@ -212,6 +212,20 @@ module _ (flags : ℕ → ℕ) where
       ∙ ap (λ (es : List AnswerEntry). getting 7 (ltb 2 (filterOf m)) es (reflagged flags t) (reflagged flags (handingOut m t)) m) (entries-flagged m (t .datapoints))
       ∙ getting-flagged 7 (ltb 2 (filterOf m)) (map valueEntry (keep (asked m) (t .datapoints))) t (handingOut m t) m
 
+  get-strings-flagged : (t : Tables) (m : List ℕ) → getDescriptionString (reflagged flags t) m ≡ reflaggedServed flags (getDescriptionString t m)
+  unfolding getDescriptionString reflagged
+  get-strings-flagged t m =
+      ap (λ (es : List AnswerEntry). getting 6 false es (reflagged flags t) (reflagged flags t) m) strings
+      ∙ getting-flagged 6 false (map (stringEntry (t .texts)) (keep within (t .datapoints))) t t m
+    where
+      within : Datapoint → Bool
+      within d = inRequest m (d .id)
+
+      strings : map (stringEntry (t .texts)) (keep within (map flagged (t .datapoints))) ≡ map (stringEntry (t .texts)) (keep within (t .datapoints))
+      strings =
+          ap (map (stringEntry (t .texts))) (kept-flagged within (λ d. unfold withFlags in refl) (t .datapoints))
+          ∙ shown-flagged (stringEntry (t .texts)) (λ d. unfold withFlags stringEntry in refl) (keep within (t .datapoints))
+
   -- descriptions show the flags: the same datapoints are found, and answered about
   overflow-flagged : (room : ℕ) (ds : List Datapoint) → overflow room (map descriptionEntry (map flagged ds)) ≡ overflow room (map descriptionEntry ds)
   unfolding overflow descriptionEntry withFlags
@@ -338,10 +352,11 @@ module _ (flags : ℕ → ℕ) where
       (both-ways (sub 0x01) _ _ _ _ (λ e. get-items-flagged t m)
       (both-ways (sub 0x02) _ _ _ _ (λ e. set-items-flagged t m)
       (both-ways (sub 0x03) _ _ _ _ (λ e. descriptions (eqb-true (subService m) 0x03 e))
+      (both-ways (sub 0x04) _ _ _ _ (λ e. get-strings-flagged t m)
       (both-ways (sub 0x05) _ _ _ _ (λ e. get-values-flagged t m)
       (both-ways (sub 0x06) _ _ _ _ (λ e. sets (eqb-true (subService m) 0x06 e))
       (both-ways (sub 0x07) _ _ _ _ (λ e. get-parameters-flagged t m)
-      (both-ways (sub 0x08) _ _ _ _ (λ e. set-parameters-flagged t m) refl)))))))
+      (both-ways (sub 0x08) _ _ _ _ (λ e. set-parameters-flagged t m) refl))))))))
     where
       sub : ℕ → Bool
       sub n = eqb (subService m) n

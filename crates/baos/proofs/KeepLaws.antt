@@ -7,45 +7,49 @@ use native.Mathlib.Omega.{arith}
 use lib.ListN.{length, drop}
 use lib.Dec.{T, leb, eqb, eqb→eq}
 use Rattle.words.specs.Words.{if_then_else_, isYes, isEmpty, every, put}
-use Rattle.words.proofs.WordLaws.{left, right, both, parts3, join3, T-true, every-imp, every-true}
+use Rattle.words.proofs.WordLaws.{left, right, both, parts3, parts4, join3, join4, T-true, every-imp, every-true}
 use Rattle.baos.specs.declared.datapoint.Datapoint.{Datapoint}
 use Rattle.baos.specs.declared.item.Item.{Item}
 use Rattle.baos.specs.Datapoint.{datapointId, datapointOk, sizeOf, unusedBitsOk, isValue, withState, withMark, handedOut}
 use Rattle.baos.specs.Item.{itemId, itemOk, withBytes}
 use Rattle.baos.specs.Lookup.{lookupOf, isPresent}
+use Rattle.baos.specs.Text.{textListsOk}
 use Rattle.baos.specs.Table.{Tables, withDatapoints, withParameters, rising, tableOk, wellFormed, found}
 use Rattle.baos.specs.Message.{startOf, numberOf, Finding, fine, bad, Served, afterOf, served}
-use Rattle.baos.specs.Get.{roomForEntries, getting, getServerItem, getDatapointDescription, asked, handingOut, getDatapointValue, getParameterByte}
+use Rattle.baos.specs.Get.{roomForEntries, getting, getServerItem, getDatapointDescription, getDescriptionString, asked, handingOut, getDatapointValue, getParameterByte}
 use Rattle.baos.specs.Set.{SetEntry, firstItemEntry, firstDatapointEntry, fills, setEntries, itemCode, takesCommand, datapointCode, judgedItem, judgedDatapoint, firstBad, setFinding, setting, setItem, setServerItem, setDatapoint, setDatapointValue, setParameterByte}
+use Rattle.baos.specs.Inner.Gather.{getDatapoints}
 use Rattle.baos.specs.Service.{service, carriedOut}
 use Rattle.baos.proofs.LookupLaws.{present-one}
 use Rattle.baos.specs.Indication.{goes, roomAfter, Choice, choices, reported, afterReport, indicationOf, indication}
 use Rattle.baos.proofs.TableLaws
 use Rattle.baos.proofs.DispatchLaws.{by-service, by-message}
+use Rattle.baos.proofs.ServiceLaws.{items-leave-all, strings-leave-all, parameters-leave-all, datapoints-keep-texts, set-datapoints-keep-texts, set-items-keep-texts, set-parameters-keep-texts}
 use Rattle.baos.proofs.SetParameterLaws.{set-length}
 use Rattle.baos.proofs.DatapointLaws
 
--- ---- the three tables
+-- ---- the tables
 pub record Parts (t : Tables) : Type 0 where
   pub datapoints : T (tableOk 1000 datapointId datapointOk (t .datapoints))
   pub items : T (tableOk 64 itemId itemOk (t .items))
   pub parameters : T (leb (length (t .parameters)) 255)
+  pub texts : T (textListsOk (t .texts))
 
 pub parts : (t : Tables) → T (wellFormed t) → Parts t
 unfolding wellFormed
 parts t w =
-    let p = parts3 (tableOk 1000 datapointId datapointOk (t .datapoints)) (tableOk 64 itemId itemOk (t .items)) (leb (length (t .parameters)) 255) w in
-    record { datapoints = p .0; items = p .1; parameters = p .2 }
+    let p = parts4 (tableOk 1000 datapointId datapointOk (t .datapoints)) (tableOk 64 itemId itemOk (t .items)) (leb (length (t .parameters)) 255) (textListsOk (t .texts)) w in
+    record { datapoints = p .0; items = p .1; parameters = p .2; texts = p .3 }
 
 pub whole : (t : Tables) → Parts t → T (wellFormed t)
 unfolding wellFormed
 whole t p =
-    join3 (tableOk 1000 datapointId datapointOk (t .datapoints)) (tableOk 64 itemId itemOk (t .items)) (leb (length (t .parameters)) 255)
-    (p .datapoints) (p .items) (p .parameters)
+    join4 (tableOk 1000 datapointId datapointOk (t .datapoints)) (tableOk 64 itemId itemOk (t .items)) (leb (length (t .parameters)) 255) (textListsOk (t .texts))
+    (p .datapoints) (p .items) (p .parameters) (p .texts)
 
 -- other datapoints, the rest as it was
 pub with-datapoints : (t : Tables) (ds : List Datapoint) → T (wellFormed t) → T (tableOk 1000 datapointId datapointOk ds) → T (wellFormed (withDatapoints ds t))
-with-datapoints t ds w d = whole _ (record { datapoints = d; items = parts t w .items; parameters = parts t w .parameters })
+with-datapoints t ds w d = whole _ (record { datapoints = d; items = parts t w .items; parameters = parts t w .parameters; texts = parts t w .texts })
 
 after-keeps : (f : Finding) (t t′ : Tables) → T (wellFormed t) → (f ≡ fine → T (wellFormed t′)) → T (wellFormed (afterOf f t t′))
 unfolding afterOf
@@ -132,6 +136,7 @@ items-keep t m w =
     (λ os j. whole _ (record {
       datapoints = parts t w .datapoints;
       parameters = parts t w .parameters;
+      texts = parts t w .texts;
       items =
           TableLaws.applied-ok itemId 64 itemOk itemFits setItem (λ o i. unfold setItem withBytes in refl) (λ o p i. unfold itemFits setItem withBytes in refl) item-ok os (t .items)
           (every-imp _ (λ o. every (TableLaws.at itemId (o .id) (itemFits o)) (t .items))
@@ -189,15 +194,17 @@ parameters-keep t m w =
       datapoints = parts t w .datapoints;
       items = parts t w .items;
       parameters = subst (λ (n : ℕ). T (leb n 255)) (sym (set-length (t .parameters) m f)) (parts t w .parameters);
+      texts = parts t w .texts;
     }))
 
 -- ---- every message
 service-keeps : (t : Tables) (m : List ℕ) → T (wellFormed t) → T (wellFormed (service t m .after))
-unfolding getServerItem getDatapointDescription getDatapointValue getParameterByte getting served
+unfolding getServerItem getDatapointDescription getDescriptionString getDatapointValue getParameterByte getting served
 service-keeps t m w =
     by-service (λ (s : Served). T (wellFormed (s .after))) t m
     (λ e. after-keeps _ t t w (λ p. w))
     (λ e. items-keep t m w)
+    (λ e. after-keeps _ t t w (λ p. w))
     (λ e. after-keeps _ t t w (λ p. w))
     (λ e. after-keeps _ t _ w (λ p. out-keeps m t w))
     (λ e. values-keep t m w)
@@ -207,6 +214,22 @@ service-keeps t m w =
 
 pub carried-out-keeps : (t : Tables) (m : List ℕ) → T (wellFormed t) → T (wellFormed (carriedOut t m .after))
 carried-out-keeps t m w = by-message (λ (s : Served). T (wellFormed (s .after))) t m w (service-keeps t m w)
+
+-- no message changes the texts
+pub carried-texts : (t : Tables) (m : List ℕ) → carriedOut t m .after .texts ≡ t .texts
+unfolding getDatapoints
+carried-texts t m =
+    by-message (λ (s : Served). s .after .texts ≡ t .texts) t m refl
+    (by-service (λ (s : Served). s .after .texts ≡ t .texts) t m
+    (λ e. ap (λ (u : Tables). u .texts) (items-leave-all t m))
+    (λ e. set-items-keep-texts t m)
+    (λ e. datapoints-keep-texts t m false)
+    (λ e. ap (λ (u : Tables). u .texts) (strings-leave-all t m))
+    (λ e. datapoints-keep-texts t m true)
+    (λ e. set-datapoints-keep-texts t m)
+    (λ e. ap (λ (u : Tables). u .texts) (parameters-leave-all t m))
+    (λ e. set-parameters-keep-texts t m)
+    refl)
 
 -- ---- the indication
 told : Choice → Datapoint

@@ -18,6 +18,7 @@ pub mod IndicationLaws
 pub mod KeepLaws
 pub mod LastLaws
 pub mod LeftLaws
+pub mod ListedLaws
 pub mod LookupLaws
 pub mod MeasureLaws
 pub mod Pairs
@@ -31,7 +32,10 @@ pub mod SetJoins
 pub mod SetLaws
 pub mod SetParameterLaws
 pub mod SettingLaws
+pub mod StringLaws
 pub mod TableLaws
+pub mod TextLaws
+pub mod TextListLaws
 pub mod Types
 pub mod ValueLaws
 pub mod WideLaws

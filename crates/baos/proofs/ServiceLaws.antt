@@ -13,10 +13,11 @@ use Rattle.baos.specs.declared.datapoint.Datapoint.{Datapoint}
 use Rattle.baos.specs.declared.item.Item.{Item}
 use Rattle.baos.specs.Datapoint.{datapointId, zeroDatapoint, withState, handedOut}
 use Rattle.baos.specs.Item.{itemId}
-use Rattle.baos.specs.Table.{Tables, found, datapointsOnly, itemsOnly, parametersOnly, withDatapoints, withItems, withParameters}
+use Rattle.baos.specs.Text.{TextLists}
+use Rattle.baos.specs.Table.{Tables, found, datapointsOnly, itemsOnly, parametersOnly, datapointsWithTexts, withDatapoints, withItems, withParameters}
 use Rattle.baos.proofs.TableLaws.{same-tables}
 use Rattle.baos.specs.Message.{mainService, subService, startOf, filterOf, coded, Finding, fine, bad, Served, answerOf, afterOf, served}
-use Rattle.baos.specs.Get.{AnswerEntry, inRequest, listing, getFinding, getting, itemEntry, descriptionEntry, valueEntry, asked, parameterEntries, getServerItem, getDatapointDescription, handingOut, getDatapointValue, getParameterByte}
+use Rattle.baos.specs.Get.{AnswerEntry, inRequest, listing, getFinding, getting, itemEntry, descriptionEntry, stringEntry, valueEntry, asked, parameterEntries, getServerItem, getDatapointDescription, getDescriptionString, handingOut, getDatapointValue, getParameterByte}
 use Rattle.baos.specs.Set.{SetEntry, firstItemEntry, firstDatapointEntry, setFinding, judgedItem, judgedDatapoint, setting, setServerItem, setDatapointValue, setParameterFinding, setParameterByte}
 use Rattle.baos.specs.Inner.Gather.{getDatapoints}
 use Rattle.baos.specs.Service.{service, unanswered, carriedOut}
@@ -50,6 +51,9 @@ itemsOf t = t .items
 abbrev parametersOf : Tables → List ℕ
 parametersOf t = t .parameters
 
+abbrev listsOf : Tables → TextLists
+listsOf t = t .texts
+
 module _ (t : Tables) (m : List ℕ) where
   pub datapoints-say : (values : Bool) → getDatapoints values t m .says ≡ getDatapoints values (datapointsOnly (t .datapoints)) m .says
   unfolding getDatapoints getDatapointValue getDatapointDescription getting served
@@ -71,6 +75,11 @@ module _ (t : Tables) (m : List ℕ) where
   datapoints-keep-parameters true = after-part parametersOf _ t (handingOut m t) refl
   datapoints-keep-parameters false = after-part parametersOf _ t t refl
 
+  pub datapoints-keep-texts : (values : Bool) → getDatapoints values t m .after .texts ≡ t .texts
+  unfolding getDatapoints getDatapointValue getDatapointDescription getting served handingOut
+  datapoints-keep-texts true = after-part listsOf _ t (handingOut m t) refl
+  datapoints-keep-texts false = after-part listsOf _ t t refl
+
   pub set-datapoints-say : setDatapointValue t m .says ≡ setDatapointValue (datapointsOnly (t .datapoints)) m .says
   unfolding setDatapointValue setting served
   set-datapoints-say = refl
@@ -86,6 +95,10 @@ module _ (t : Tables) (m : List ℕ) where
   pub set-datapoints-keep-parameters : setDatapointValue t m .after .parameters ≡ t .parameters
   unfolding setDatapointValue setting served
   set-datapoints-keep-parameters = after-part parametersOf _ t _ refl
+
+  pub set-datapoints-keep-texts : setDatapointValue t m .after .texts ≡ t .texts
+  unfolding setDatapointValue setting served
+  set-datapoints-keep-texts = after-part listsOf _ t _ refl
 
   pub items-say : getServerItem t m .says ≡ getServerItem (itemsOnly (t .items)) m .says
   unfolding getServerItem getting served
@@ -111,6 +124,10 @@ module _ (t : Tables) (m : List ℕ) where
   unfolding setServerItem setting served
   set-items-keep-parameters = after-part parametersOf _ t _ refl
 
+  pub set-items-keep-texts : setServerItem t m .after .texts ≡ t .texts
+  unfolding setServerItem setting served
+  set-items-keep-texts = after-part listsOf _ t _ refl
+
   pub parameters-say : getParameterByte t m .says ≡ getParameterByte (parametersOnly (t .parameters)) m .says
   unfolding getParameterByte getting served
   parameters-say = refl
@@ -135,6 +152,18 @@ module _ (t : Tables) (m : List ℕ) where
   unfolding setParameterByte served
   set-parameters-keep-items = after-part itemsOf (setParameterFinding (length (t .parameters)) m) _ _ refl
 
+  pub set-parameters-keep-texts : setParameterByte t m .after .texts ≡ t .texts
+  unfolding setParameterByte served
+  set-parameters-keep-texts = after-part listsOf (setParameterFinding (length (t .parameters)) m) _ _ refl
+
+  pub strings-say : getDescriptionString t m .says ≡ getDescriptionString (datapointsWithTexts (t .datapoints) (t .texts)) m .says
+  unfolding getDescriptionString getting served
+  strings-say = refl
+
+  pub strings-leave-all : getDescriptionString t m .after ≡ t
+  unfolding getDescriptionString getting served
+  strings-leave-all = after-all _ t
+
   -- each service as a whole, by what it does with its own table
   pub get-datapoints-whole : (values : Bool)
       → getDatapoints values t m
@@ -145,7 +174,7 @@ module _ (t : Tables) (m : List ℕ) where
   get-datapoints-whole values =
       λ i. record {
         says = datapoints-say values i;
-        after = same-tables (datapoints-after values) (datapoints-keep-items values) (datapoints-keep-parameters values) i;
+        after = same-tables (datapoints-after values) (datapoints-keep-items values) (datapoints-keep-parameters values) (datapoints-keep-texts values) i;
       }
 
   pub set-datapoints-whole :
@@ -157,7 +186,7 @@ module _ (t : Tables) (m : List ℕ) where
   set-datapoints-whole =
       λ i. record {
         says = set-datapoints-say i;
-        after = same-tables set-datapoints-after set-datapoints-keep-items set-datapoints-keep-parameters i;
+        after = same-tables set-datapoints-after set-datapoints-keep-items set-datapoints-keep-parameters set-datapoints-keep-texts i;
       }
 
   pub get-items-whole : getServerItem t m ≡ record { says = getServerItem (itemsOnly (t .items)) m .says; after = t }
@@ -172,8 +201,11 @@ module _ (t : Tables) (m : List ℕ) where
   set-items-whole =
       λ i. record {
         says = set-items-say i;
-        after = same-tables set-items-keep-datapoints set-items-after set-items-keep-parameters i;
+        after = same-tables set-items-keep-datapoints set-items-after set-items-keep-parameters set-items-keep-texts i;
       }
+
+  pub get-strings-whole : getDescriptionString t m ≡ record { says = getDescriptionString (datapointsWithTexts (t .datapoints) (t .texts)) m .says; after = t }
+  get-strings-whole = λ i. record { says = strings-say i; after = strings-leave-all i }
 
   pub get-parameters-whole : getParameterByte t m ≡ record { says = getParameterByte (parametersOnly (t .parameters)) m .says; after = t }
   get-parameters-whole = λ i. record { says = parameters-say i; after = parameters-leave-all i }
@@ -187,7 +219,7 @@ module _ (t : Tables) (m : List ℕ) where
   set-parameters-whole =
       λ i. record {
         says = set-parameters-say i;
-        after = same-tables set-parameters-keep-datapoints set-parameters-keep-items set-parameters-after i;
+        after = same-tables set-parameters-keep-datapoints set-parameters-keep-items set-parameters-after set-parameters-keep-texts i;
       }
 
 -- ---- which messages are answered
@@ -232,36 +264,42 @@ module _ (t : Tables) (m : List ℕ) (u : unanswered m ≡ false) where
   unfolding service getDatapoints
   is-get-description e = answered ∙ simp (not-this 1 e (λ q. omega (arith, q)), not-this 2 e (λ q. omega (arith, q)), eq-eqb (subService m) 3 e)
 
+  pub is-get-string : subService m ≡ 4 → carriedOut t m ≡ getDescriptionString t m
+  unfolding service
+  is-get-string e =
+      answered
+      ∙ simp (not-this 1 e (λ q. omega (arith, q)), not-this 2 e (λ q. omega (arith, q)), not-this 3 e (λ q. omega (arith, q)), eq-eqb (subService m) 4 e)
+
   pub is-get-value : subService m ≡ 5 → carriedOut t m ≡ getDatapoints true t m
   unfolding service getDatapoints
   is-get-value e =
       answered
-      ∙ simp (not-this 1 e (λ q. omega (arith, q)), not-this 2 e (λ q. omega (arith, q)), not-this 3 e (λ q. omega (arith, q)), eq-eqb (subService m) 5 e)
+      ∙ simp (not-this 1 e (λ q. omega (arith, q)), not-this 2 e (λ q. omega (arith, q)), not-this 3 e (λ q. omega (arith, q)), not-this 4 e (λ q. omega (arith, q)), eq-eqb (subService m) 5 e)
 
   pub is-set-value : subService m ≡ 6 → carriedOut t m ≡ setDatapointValue t m
   unfolding service
   is-set-value e =
       answered
-      ∙ simp (not-this 1 e (λ q. omega (arith, q)), not-this 2 e (λ q. omega (arith, q)), not-this 3 e (λ q. omega (arith, q)), not-this 5 e (λ q. omega (arith, q)), eq-eqb (subService m) 6 e)
+      ∙ simp (not-this 1 e (λ q. omega (arith, q)), not-this 2 e (λ q. omega (arith, q)), not-this 3 e (λ q. omega (arith, q)), not-this 4 e (λ q. omega (arith, q)), not-this 5 e (λ q. omega (arith, q)), eq-eqb (subService m) 6 e)
 
   pub is-get-parameter : subService m ≡ 7 → carriedOut t m ≡ getParameterByte t m
   unfolding service
   is-get-parameter e =
       answered
-      ∙ simp (not-this 1 e (λ q. omega (arith, q)), not-this 2 e (λ q. omega (arith, q)), not-this 3 e (λ q. omega (arith, q)), not-this 5 e (λ q. omega (arith, q)), not-this 6 e (λ q. omega (arith, q)), eq-eqb (subService m) 7 e)
+      ∙ simp (not-this 1 e (λ q. omega (arith, q)), not-this 2 e (λ q. omega (arith, q)), not-this 3 e (λ q. omega (arith, q)), not-this 4 e (λ q. omega (arith, q)), not-this 5 e (λ q. omega (arith, q)), not-this 6 e (λ q. omega (arith, q)), eq-eqb (subService m) 7 e)
 
   pub is-set-parameter : subService m ≡ 8 → carriedOut t m ≡ setParameterByte t m
   unfolding service
   is-set-parameter e =
       answered
-      ∙ simp (not-this 1 e (λ q. omega (arith, q)), not-this 2 e (λ q. omega (arith, q)), not-this 3 e (λ q. omega (arith, q)), not-this 5 e (λ q. omega (arith, q)), not-this 6 e (λ q. omega (arith, q)), not-this 7 e (λ q. omega (arith, q)), eq-eqb (subService m) 8 e)
+      ∙ simp (not-this 1 e (λ q. omega (arith, q)), not-this 2 e (λ q. omega (arith, q)), not-this 3 e (λ q. omega (arith, q)), not-this 4 e (λ q. omega (arith, q)), not-this 5 e (λ q. omega (arith, q)), not-this 6 e (λ q. omega (arith, q)), not-this 7 e (λ q. omega (arith, q)), eq-eqb (subService m) 8 e)
 
-  pub is-no-service : (subService m ≡ 1 → ⊥) → (subService m ≡ 2 → ⊥) → (subService m ≡ 3 → ⊥) → (subService m ≡ 5 → ⊥) → (subService m ≡ 6 → ⊥)
+  pub is-no-service : (subService m ≡ 1 → ⊥) → (subService m ≡ 2 → ⊥) → (subService m ≡ 3 → ⊥) → (subService m ≡ 4 → ⊥) → (subService m ≡ 5 → ⊥) → (subService m ≡ 6 → ⊥)
       → (subService m ≡ 7 → ⊥) → (subService m ≡ 8 → ⊥) → carriedOut t m ≡ record { says = coded m (startOf m) 5; after = t }
   unfolding service
-  is-no-service n1 n2 n3 n5 n6 n7 n8 =
+  is-no-service n1 n2 n3 n4 n5 n6 n7 n8 =
       answered
-      ∙ simp (ne-eqb (subService m) 1 n1, ne-eqb (subService m) 2 n2, ne-eqb (subService m) 3 n3, ne-eqb (subService m) 5 n5, ne-eqb (subService m) 6 n6, ne-eqb (subService m) 7 n7, ne-eqb (subService m) 8 n8)
+      ∙ simp (ne-eqb (subService m) 1 n1, ne-eqb (subService m) 2 n2, ne-eqb (subService m) 3 n3, ne-eqb (subService m) 4 n4, ne-eqb (subService m) 5 n5, ne-eqb (subService m) 6 n6, ne-eqb (subService m) 7 n7, ne-eqb (subService m) 8 n8)
 
 -- ---- an error answer leaves everything as it was
 bad-found : (f : Finding) (m answer : List ℕ) (t t′ : Tables) {i c : ℕ} → f ≡ bad i c → served f m answer t t′ ≡ record { says = coded m i c; after = t }
@@ -290,6 +328,9 @@ module _ (t : Tables) (m : List ℕ) where
   abbrev pub descriptionFinding : Finding
   descriptionFinding = getFinding 6 false m (map descriptionEntry (keep (λ (d : Datapoint). inRequest m (d .id)) (t .datapoints)))
 
+  abbrev pub stringFinding : Finding
+  stringFinding = getFinding 6 false m (map (stringEntry (t .texts)) (keep (λ (d : Datapoint). inRequest m (d .id)) (t .datapoints)))
+
   abbrev pub valueFinding : Finding
   valueFinding = getFinding 7 (ltb 2 (filterOf m)) m (map valueEntry (keep (asked m) (t .datapoints)))
 
@@ -310,6 +351,10 @@ module _ (t : Tables) (m : List ℕ) where
   pub bad-get-description : {i c : ℕ} → descriptionFinding ≡ bad i c → getDatapointDescription t m ≡ record { says = coded m i c; after = t }
   unfolding getDatapointDescription
   bad-get-description e = bad-get 6 false _ t t m e
+
+  pub bad-get-string : {i c : ℕ} → stringFinding ≡ bad i c → getDescriptionString t m ≡ record { says = coded m i c; after = t }
+  unfolding getDescriptionString
+  bad-get-string e = bad-get 6 false _ t t m e
 
   pub bad-get-value : {i c : ℕ} → valueFinding ≡ bad i c → getDatapointValue t m ≡ record { says = coded m i c; after = t }
   unfolding getDatapointValue

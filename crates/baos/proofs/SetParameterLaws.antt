@@ -19,7 +19,7 @@ use Rattle.baos.specs.Inner.Gather.{getDatapoints}
 use Rattle.baos.specs.Service.{carriedOut}
 use Rattle.baos.proofs.DispatchLaws.{by-service, by-message}
 use Rattle.baos.proofs.GetLaws.{verdict-bad}
-use Rattle.baos.proofs.ServiceLaws.{items-leave-all, set-items-keep-parameters, datapoints-keep-parameters, set-datapoints-keep-parameters, parameters-leave-all, bad-set-parameter, fine-set-parameter}
+use Rattle.baos.proofs.ServiceLaws.{items-leave-all, strings-leave-all, set-items-keep-parameters, datapoints-keep-parameters, set-datapoints-keep-parameters, parameters-leave-all, bad-set-parameter, fine-set-parameter}
 
 -- ---- the indices that are not in a table of so many bytes
 module _ (count : ℕ) where
@@ -192,6 +192,7 @@ parameters-kept t m n =
     (λ e. ap (λ (x : Tables). x .parameters) (items-leave-all t m))
     (λ e. set-items-keep-parameters t m)
     (λ e. datapoints-keep-parameters t m false)
+    (λ e. ap (λ (x : Tables). x .parameters) (strings-leave-all t m))
     (λ e. datapoints-keep-parameters t m true)
     (λ e. set-datapoints-keep-parameters t m)
     (λ e. ap (λ (x : Tables). x .parameters) (parameters-leave-all t m))

@@ -150,5 +150,5 @@ module _ {A : Type 0} (idOf : A → ℕ) where
           (kept ps (right (every (at (p .id) (fit p)) xs) (every (λ r. every (at (r .id) (fit r)) xs) ps) q))
 
 -- ---- tables that have the same records are the same
-pub same-tables : {s t : Tables} → s .datapoints ≡ t .datapoints → s .items ≡ t .items → s .parameters ≡ t .parameters → s ≡ t
-same-tables d i p = λ k. record { datapoints = d k; items = i k; parameters = p k }
+pub same-tables : {s t : Tables} → s .datapoints ≡ t .datapoints → s .items ≡ t .items → s .parameters ≡ t .parameters → s .texts ≡ t .texts → s ≡ t
+same-tables d i p x = λ k. record { datapoints = d k; items = i k; parameters = p k; texts = x k }

@@ -8,6 +8,7 @@ use denote.Struct.Laws as LL
 use Rattle.baos.specs.declared.datapoint.Datapoint.{Datapoint}
 use Rattle.baos.specs.declared.item.Item.{Item}
 use Rattle.baos.specs.Inner.Gather.{nothingGathered}
+use Rattle.baos.specs.Inner.Strings.{nothingMeasured}
 use Rattle.baos.proofs.datapoint.Datapoint as D
 use Rattle.baos.proofs.datapoint.Datapoint.Laws as D′
 use Rattle.baos.proofs.item.Item as I
@@ -22,6 +23,10 @@ use Rattle.baos.proofs.inner.Verdict as Judged
 use Rattle.baos.proofs.inner.Verdict.Laws as Judged′
 use Rattle.baos.proofs.inner.EntryPlace as Sought
 use Rattle.baos.proofs.inner.EntryPlace.Laws as Sought′
+use Rattle.baos.proofs.inner.Strings as S
+use Rattle.baos.proofs.inner.Strings.Laws as S′
+use Rattle.baos.proofs.inner.StringsEnd as E
+use Rattle.baos.proofs.inner.StringsEnd.Laws as E′
 use Rattle.baos.proofs.bus.Outcome as O
 use Rattle.baos.proofs.bus.Outcome.Laws as O′
 use Rattle.baos.proofs.bus.BusEvent as B
@@ -49,6 +54,12 @@ verdictD = structD Judged.the-type Judged′.the-laws Judged′.the-plain (λ x 
 abbrev pub entryPlaceD : Data
 entryPlaceD = structD Sought.the-type Sought′.the-laws Sought′.the-plain (λ x f. refl)
 
+abbrev pub stringsD : Data
+stringsD = structD S.the-type S′.the-laws S′.the-plain (λ x f. refl)
+
+abbrev pub stringsEndD : Data
+stringsEndD = structD E.the-type E′.the-laws E′.the-plain (λ x f. refl)
+
 abbrev pub outcomeD : Data
 outcomeD = enumD O.the-type O′.the-laws tt O′.the-plain (λ x f. refl)
 
@@ -75,6 +86,14 @@ item-id-fits i g = LL.owed I.the-type I′.the-laws i _ g .0 .1
 
 pub nothing-good : Good gatheredD nothingGathered
 nothing-good = LL.owes G.the-type G′.the-laws nothingGathered ((refl, lit< tt), ((refl, lit< tt), ((refl, lit< tt), (refl, tt))))
+
+pub no-string-good : Good stringsD nothingMeasured
+no-string-good =
+    LL.owes S.the-type S′.the-laws nothingMeasured
+    ((refl, lit< tt), ((refl, lit< tt), ((refl, lit< tt), (refl, ((refl, lit< tt), ((refl, lit< tt), tt))))))
+
+pub strings-begin-good : (at : ℕ) → at < 2 ^ 64 → Good stringsEndD (record { end = at; site = 0; defaults = 0 })
+strings-begin-good at f = LL.owes E.the-type E′.the-laws (record { end = at; site = 0; defaults = 0 }) ((refl, f), ((refl, lit< tt), ((refl, lit< tt), tt)))
 
 -- the byte offset of record i fits: a datapoint has 22 bytes, an item 20, a found entry 4
 pub datapoint-offset-fits : (n i : ℕ) → n * 22 < 2 ^ 63 → i < n → i * 22 < 2 ^ 64

@@ -1,4 +1,4 @@
--- The gets: GetServerItem, GetDatapointDescription, GetDatapointValue, GetParameterByte.
+-- The gets: GetServerItem, GetDatapointDescription, GetDescriptionString, GetDatapointValue, GetParameterByte.
 use Prim.Native.Nat.{ℕ, suc, _+_, _-_}
 use mathlib.Core.Bool.{Bool, true, false, not, _&&_, _||_}
 use mathlib.Core.List.{List, [], _∷_, _++_, map, flatten}
@@ -6,6 +6,7 @@ use lib.ListN.{length, getD}
 use lib.Dec.{leb, ltb, eqb}
 use Rattle.words.specs.Words.{if_then_else_, twoBytes, keep, isEmpty}
 use Rattle.ft12.specs.Frame.{longestMessage}
+use Rattle.baos.specs.Text.{TextLists, textOf}
 use Rattle.baos.specs.declared.datapoint.Datapoint.{Datapoint}
 use Rattle.baos.specs.declared.item.Item.{Item}
 use Rattle.baos.specs.Datapoint.{sizeOf, valueOf, isValid, isUpdated, handedOut}
@@ -65,6 +66,19 @@ descriptionEntry d = record { id = d .id; bytes = twoBytes (d .id) ++ d .typecod
 unfoldable pub getDatapointDescription : Tables → List ℕ → Served
 getDatapointDescription t m =
     getting 6 false (map descriptionEntry (keep (λ (d : Datapoint). inRequest m (d .id)) (t .datapoints))) t t m
+
+-- the string of an ID: "per string a length of two bytes and the text" (document 02, item 1)
+unfoldable pub stringOf : ℕ → TextLists → List ℕ
+stringOf id ts = twoBytes (length (textOf id ts)) ++ textOf id ts
+
+unfoldable pub stringEntry : TextLists → Datapoint → AnswerEntry
+stringEntry ts d = record { id = d .id; bytes = stringOf (d .id) ts }
+
+-- "For each datapoint present in the range": an empty text is an entry too
+unfoldable pub getDescriptionString : Tables → List ℕ → Served
+getDescriptionString t m =
+    getting 6 false
+    (map (stringEntry (t .texts)) (keep (λ (d : Datapoint). inRequest m (d .id)) (t .datapoints))) t t m
 
 -- the state byte is shown as it was
 unfoldable pub valueEntry : Datapoint → AnswerEntry

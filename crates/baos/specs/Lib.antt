@@ -1,5 +1,7 @@
 pub mod Datapoint
 pub mod Item
+pub mod TextList
+pub mod Text
 pub mod Table
 pub mod Message
 pub mod Lookup

@@ -7,15 +7,18 @@ use lib.Dec.{leb, ltb, eqb}
 use Rattle.words.specs.Words.{if_then_else_}
 use Rattle.baos.specs.Table.{Tables}
 use Rattle.baos.specs.Message.{mainService, subService, startOf, coded, Served}
-use Rattle.baos.specs.Get.{getServerItem, getDatapointDescription, getDatapointValue, getParameterByte}
+use Rattle.baos.specs.Get.{getServerItem, getDatapointDescription, getDescriptionString, getDatapointValue}
+use Rattle.baos.specs.Get.{getParameterByte}
 use Rattle.baos.specs.Set.{setServerItem, setDatapointValue, setParameterByte}
 
--- Row 5: "sub not one of the six"; of the seven below, since "code 5 no longer for sub 08" (document 02, item 5)
+-- Row 5: "sub not one of the six"; of the eight below, since "code 5 no longer for sub 08" (document 02, item 5), "code 5
+-- no longer for sub 04" (item 1)
 unfoldable pub service : Tables → List ℕ → Served
 service t m =
     if eqb (subService m) 0x01 then getServerItem t m
     else if eqb (subService m) 0x02 then setServerItem t m
     else if eqb (subService m) 0x03 then getDatapointDescription t m
+    else if eqb (subService m) 0x04 then getDescriptionString t m
     else if eqb (subService m) 0x05 then getDatapointValue t m
     else if eqb (subService m) 0x06 then setDatapointValue t m
     else if eqb (subService m) 0x07 then getParameterByte t m

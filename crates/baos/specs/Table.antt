@@ -5,6 +5,7 @@ use mathlib.Core.List.{List, [], _∷_, map}
 use lib.ListN.{length, getD}
 use lib.Dec.{leb, ltb, eqb}
 use Rattle.words.specs.Words.{if_then_else_, every}
+use Rattle.baos.specs.Text.{TextLists, noTextLists, textListsOk}
 use Rattle.baos.specs.declared.datapoint.Datapoint.{Datapoint}
 use Rattle.baos.specs.declared.item.Item.{Item}
 use Rattle.baos.specs.Datapoint.{datapointId, datapointOk}
@@ -14,22 +15,24 @@ pub record Tables : Type 0 where
   pub datapoints : List Datapoint
   pub items : List Item
   pub parameters : List ℕ
+  -- "are only read"
+  pub texts : TextLists
 
-abbrev pub tablesOf : List Datapoint → List Item → List ℕ → Tables
-tablesOf ds is ps = record { datapoints = ds; items = is; parameters = ps }
+abbrev pub tablesOf : List Datapoint → List Item → List ℕ → TextLists → Tables
+tablesOf ds is ps ts = record { datapoints = ds; items = is; parameters = ps; texts = ts }
 
 abbrev pub noTables : Tables
-noTables = tablesOf [] [] []
+noTables = tablesOf [] [] [] noTextLists
 
 -- one table replaced, the others as they are
 abbrev pub withDatapoints : List Datapoint → Tables → Tables
-withDatapoints ds t = tablesOf ds (t .items) (t .parameters)
+withDatapoints ds t = tablesOf ds (t .items) (t .parameters) (t .texts)
 
 abbrev pub withItems : List Item → Tables → Tables
-withItems is t = tablesOf (t .datapoints) is (t .parameters)
+withItems is t = tablesOf (t .datapoints) is (t .parameters) (t .texts)
 
 abbrev pub withParameters : List ℕ → Tables → Tables
-withParameters ps t = tablesOf (t .datapoints) (t .items) ps
+withParameters ps t = tablesOf (t .datapoints) (t .items) ps (t .texts)
 
 -- tables of which one alone is looked at
 abbrev pub datapointsOnly : List Datapoint → Tables
@@ -40,6 +43,10 @@ itemsOnly is = withItems is noTables
 
 abbrev pub parametersOnly : List ℕ → Tables
 parametersOnly ps = withParameters ps noTables
+
+-- tables of which datapoints and texts alone are looked at
+abbrev pub datapointsWithTexts : List Datapoint → TextLists → Tables
+datapointsWithTexts ds ts = tablesOf ds [] [] ts
 
 -- the numbers rise strictly, from above `last`
 unfoldable pub rising : ℕ → List ℕ → Bool
@@ -55,11 +62,11 @@ pub record Rises (ids : List ℕ) : Type 0 where
 unfoldable pub tableOk : {A : Type 0} → ℕ → (A → ℕ) → (A → Bool) → List A → Bool
 tableOk most idOf ok xs = leb (length xs) most && rising 0 (map idOf xs) && every ok xs
 
--- datapoints 0 to 1000, items 0 to 64, parameter bytes 0 to 255
+-- datapoints 0 to 1000, items 0 to 64, parameter bytes 0 to 255; the text lists in order and made of whole entries
 unfoldable pub wellFormed : Tables → Bool
 wellFormed t =
     tableOk 1000 datapointId datapointOk (t .datapoints) && tableOk 64 itemId itemOk (t .items)
-    && leb (length (t .parameters)) 255
+    && leb (length (t .parameters)) 255 && textListsOk (t .texts)
 
 -- What refusal 1 asks of the tables, with whether a frame is outstanding beside them. No record names a frame, so
 -- that nothing depends on it.

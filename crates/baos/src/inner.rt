@@ -39,3 +39,34 @@ pub struct EntryPlace {
     pub at: u16,
     pub place: u16,
 }
+
+// What the first pass over strings has found, and where it stands in the two text lists.
+pub struct Strings {
+    pub count: u16,
+    pub size: usize,
+    pub over: u16,
+    pub ended: bool,
+    pub site: usize,
+    pub defaults: usize,
+}
+
+// Where the second pass over strings stands: in the buffer, and in the two text lists.
+pub struct StringsEnd {
+    pub end: usize,
+    pub site: usize,
+    pub defaults: usize,
+}
+
+// A part of one of the two text lists.
+pub struct Stretch {
+    // Of the site list, as against the default list.
+    pub ofsite: bool,
+    pub from: usize,
+    pub size: usize,
+}
+
+// Where a search stands in the two text lists.
+pub struct Cursors {
+    pub site: usize,
+    pub defaults: usize,
+}

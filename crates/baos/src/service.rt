@@ -9,6 +9,8 @@ pub const SET_SERVER_ITEM: u8 = 0x02;
 
 pub const GET_DATAPOINT_DESCRIPTION: u8 = 0x03;
 
+pub const GET_DESCRIPTION_STRING: u8 = 0x04;
+
 pub const GET_DATAPOINT_VALUE: u8 = 0x05;
 
 pub const SET_DATAPOINT_VALUE: u8 = 0x06;

@@ -24,6 +24,8 @@ use Rattle.baos.proofs.item.Item as I
 use Rattle.baos.proofs.item.Item.Laws as I′
 use Rattle.calls.proofs.reply.Reply as R
 use Rattle.calls.proofs.reply.Reply.Laws as R′
+use Rattle.bench.proofs.bench.Lists as T
+use Rattle.bench.proofs.bench.Lists.Laws as T′
 use Rattle.bench.proofs.bench.Bench as B
 use Rattle.bench.proofs.bench.Bench.Laws as B′
 
@@ -47,6 +49,7 @@ members =
     ∷ count
     ∷ bytes 255
     ∷ count
+    ∷ record { row = Struct (SD.shape T.the-type); ty = T′.mir }
     ∷ bytes 14
     ∷ count
     ∷ bytes 262

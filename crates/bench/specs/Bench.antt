@@ -12,6 +12,7 @@ use Rattle.baos.specs.declared.item.Item.{Item}
 use Rattle.calls.specs.declared.reply.Reply.{Reply}
 use Rattle.calls.specs.declared.reply.Reply.the-variants.{Accepted}
 use Rattle.bench.specs.declared.bench.Bench.{Bench}
+use Rattle.bench.specs.declared.bench.Lists.{Lists}
 
 -- nothing received, nothing outstanding, and these bits
 unfoldable pub idleLink : ℕ → ℕ → Link
@@ -24,6 +25,9 @@ noDatapoint = record { id = 0; typecode = 0; flags = 0; dpt = 0; state = 0; valu
 unfoldable pub noItem : Item
 noItem = record { id = 0; size = 0; writable = 0; bytes = replicate 16 0 }
 
+unfoldable pub noLists : Lists
+noLists = record { site = replicate 264 0; sitesize = 0; defaults = replicate 264 0; defaultsize = 0 }
+
 -- "unless said, nothing is outstanding and both bits are odd"
 unfoldable pub emptyBench : Bench
 emptyBench =
@@ -35,13 +39,14 @@ emptyBench =
       itemcount = 0;
       parameters = replicate 255 0;
       parametercount = 0;
+      lists = noLists;
       value = replicate 14 0;
       valuesize = 0;
       out = replicate 262 0;
       reply = Accepted 0;
     }
 
--- the bench b with other count bits, other tables or another value
+-- the bench b with other count bits, other tables, other lists or another value
 unfoldable pub withBits : ℕ → ℕ → Bench → Bench
 withBits expected send b =
     record {
@@ -54,6 +59,7 @@ withBits expected send b =
       itemcount = b .itemcount;
       parameters = b .parameters;
       parametercount = b .parametercount;
+      lists = b .lists;
       value = b .value;
       valuesize = b .valuesize;
       out = b .out;
@@ -70,6 +76,7 @@ withDatapoints ds n b =
       itemcount = b .itemcount;
       parameters = b .parameters;
       parametercount = b .parametercount;
+      lists = b .lists;
       value = b .value;
       valuesize = b .valuesize;
       out = b .out;
@@ -86,6 +93,7 @@ withItems is n b =
       itemcount = n;
       parameters = b .parameters;
       parametercount = b .parametercount;
+      lists = b .lists;
       value = b .value;
       valuesize = b .valuesize;
       out = b .out;
@@ -102,6 +110,24 @@ withParameters ps n b =
       itemcount = b .itemcount;
       parameters = ps;
       parametercount = n;
+      lists = b .lists;
+      value = b .value;
+      valuesize = b .valuesize;
+      out = b .out;
+      reply = b .reply;
+    }
+
+unfoldable pub withLists : Lists → Bench → Bench
+withLists ls b =
+    record {
+      link = b .link;
+      datapoints = b .datapoints;
+      datapointcount = b .datapointcount;
+      items = b .items;
+      itemcount = b .itemcount;
+      parameters = b .parameters;
+      parametercount = b .parametercount;
+      lists = ls;
       value = b .value;
       valuesize = b .valuesize;
       out = b .out;
@@ -118,6 +144,7 @@ withValue v b =
       itemcount = b .itemcount;
       parameters = b .parameters;
       parametercount = b .parametercount;
+      lists = b .lists;
       value = v ∷ replicate 13 0;
       valuesize = 1;
       out = b .out;
@@ -140,6 +167,10 @@ pub record Within (b : Bench) : Type 0 where
   pub items : b .itemcount ≤ 4
   pub parameters : b .parametercount ≤ 255
   pub value : b .valuesize ≤ 14
+  pub site : b .lists .sitesize ≤ 264
+  pub defaults : b .lists .defaultsize ≤ 264
 
 unfoldable pub isWithin : Bench → Bool
-isWithin b = leb (b .datapointcount) 50 && leb (b .itemcount) 4 && leb (b .parametercount) 255 && leb (b .valuesize) 14
+isWithin b =
+    leb (b .datapointcount) 50 && leb (b .itemcount) 4 && leb (b .parametercount) 255 && leb (b .valuesize) 14
+    && leb (b .lists .sitesize) 264 && leb (b .lists .defaultsize) 264

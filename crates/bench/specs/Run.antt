@@ -13,11 +13,11 @@ use Rattle.calls.specs.declared.reply.Reply.the-variants.{Refused, Accepted}
 use Rattle.bench.specs.declared.bench.Bench.{Bench}
 use Rattle.bench.specs.declared.run.Stand.{Stand}
 use Rattle.bench.specs.Bench.{isWithin}
-use Rattle.bench.specs.Step.{stepped}
+use Rattle.bench.specs.Step.{listsOf, stepped}
 
 -- the bench after an event
 unfoldable pub happened : Event → Bench → Bench
-happened e b = if isWithin b then stepped b e else b
+happened e b = if isWithin b then stepped b (listsOf (b .lists)) e else b
 
 -- how many bytes of the output a call sends; where it was refused, more than the output has
 unfoldable pub countSent : Reply → ℕ

@@ -2,34 +2,41 @@
 use Prim.Native.Nat.{ℕ}
 use mathlib.Core.List.{List, _++_}
 use lib.ListN.{take, drop}
+use Rattle.baos.specs.Text.{TextLists, textLists}
 use Rattle.baos.specs.Table.{Tables, tablesOf}
 use Rattle.calls.specs.declared.event.Event.{Event}
 use Rattle.calls.specs.Call.{Called, call}
 use Rattle.bench.specs.declared.bench.Bench.{Bench}
+use Rattle.bench.specs.declared.bench.Lists.{Lists}
 
--- the tables as far as their counts go
-unfoldable pub tablesIn : Bench → Tables
-tablesIn b =
+-- the tables as far as their counts go, and these text lists
+unfoldable pub tablesIn : Bench → TextLists → Tables
+tablesIn b ts =
     tablesOf (take (b .datapointcount) (b .datapoints)) (take (b .itemcount) (b .items))
-    (take (b .parametercount) (b .parameters))
+    (take (b .parametercount) (b .parameters)) ts
+
+-- the text lists as far as their sizes go
+unfoldable pub listsOf : Lists → TextLists
+listsOf l = textLists (take (l .sitesize) (l .site)) (take (l .defaultsize) (l .defaults))
 
 -- what the server's call answers and leaves
-unfoldable pub called : Bench → Event → Called
-called b e = call e (take (b .valuesize) (b .value)) (tablesIn b) (b .link) (b .out)
+unfoldable pub called : Bench → TextLists → Event → Called
+called b ts e = call e (take (b .valuesize) (b .value)) (tablesIn b ts) (b .link) (b .out)
 
 -- the bench after it: what was not lent stays
-unfoldable pub stepped : Bench → Event → Bench
-stepped b e =
+unfoldable pub stepped : Bench → TextLists → Event → Bench
+stepped b ts e =
     record {
-      link = called b e .link;
-      datapoints = called b e .tables .datapoints ++ drop (b .datapointcount) (b .datapoints);
+      link = called b ts e .link;
+      datapoints = called b ts e .tables .datapoints ++ drop (b .datapointcount) (b .datapoints);
       datapointcount = b .datapointcount;
-      items = called b e .tables .items ++ drop (b .itemcount) (b .items);
+      items = called b ts e .tables .items ++ drop (b .itemcount) (b .items);
       itemcount = b .itemcount;
-      parameters = called b e .tables .parameters ++ drop (b .parametercount) (b .parameters);
+      parameters = called b ts e .tables .parameters ++ drop (b .parametercount) (b .parameters);
       parametercount = b .parametercount;
+      lists = b .lists;
       value = b .value;
       valuesize = b .valuesize;
-      out = called b e .output;
-      reply = called b e .reply;
+      out = called b ts e .output;
+      reply = called b ts e .reply;
     }

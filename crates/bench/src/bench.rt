@@ -7,6 +7,14 @@ use baos::item::Item;
 use calls::reply::Reply;
 use ft12::record::Link;
 
+// The text lists that are lent for reading.
+pub struct Lists {
+    pub site: [u8; 264],
+    pub sitesize: usize,
+    pub defaults: [u8; 264],
+    pub defaultsize: usize,
+}
+
 pub struct Bench {
     pub link: Link,
     pub datapoints: [Datapoint; 50],
@@ -15,6 +23,7 @@ pub struct Bench {
     pub itemcount: usize,
     pub parameters: [u8; 255],
     pub parametercount: usize,
+    pub lists: Lists,
     // The value that is lent beside a bus value event.
     pub value: [u8; 14],
     pub valuesize: usize,
@@ -53,6 +62,12 @@ pub fn empty() -> Bench
         writable: 0,
         bytes: [0; 16],
     };
+    let lists = Lists {
+        site: [0; 264],
+        sitesize: 0,
+        defaults: [0; 264],
+        defaultsize: 0,
+    };
     Bench {
         link: link,
         datapoints: [datapoint; 50],
@@ -61,6 +76,7 @@ pub fn empty() -> Bench
         itemcount: 0,
         parameters: [0; 255],
         parametercount: 0,
+        lists: lists,
         value: [0; 14],
         valuesize: 0,
         out: [0; 262],

@@ -1,8 +1,12 @@
 // Events on the bench, one after the other.
 ghost use mathlib.Core.Path.{_≡_};
+ghost use Prim.Native.Nat.{_≤_};
+ghost use Rattle.bench.specs.Bench.{Within};
+ghost use Rattle.bench.specs.Step.{listsOf, stepped};
 ghost use Rattle.bench.specs.Run.{happened, countSent, Sends, standAfter};
 ghost use Rattle.bench.specs.Same.{Decides};
 use crate::bench::Bench;
+use crate::bench::Lists;
 use crate::step::step;
 use calls::event::Event;
 use calls::reply::Reply;
@@ -13,6 +17,18 @@ pub struct Stand {
     pub bench: Bench,
     pub quiet: bool,
     pub place: usize,
+}
+
+// One call, with these text lists as far as their sizes go.
+fn step_with(lists: Lists, bench: Bench, event: Event) -> Bench
+    requires { ⌜ (lists .sitesize ≤ 264) × (lists .defaultsize ≤ 264) × Within bench ⌝ }
+    ensures { λ r. ⌜ r ≡ stepped bench (listsOf lists) event ⌝ }
+{
+    let s = lists.sitesize;
+    let d = lists.defaultsize;
+    let site = lists.site;
+    let defaults = lists.defaults;
+    step(bench, event, &site[..s], &defaults[..d])
 }
 
 // The bench after this event. One whose counts go beyond its widths makes no call and stays.
@@ -31,7 +47,13 @@ pub fn happens(bench: Bench, event: Event) -> Bench
     if 14 < bench.valuesize {
         return bench;
     }
-    step(bench, event)
+    if 264 < bench.lists.sitesize {
+        return bench;
+    }
+    if 264 < bench.lists.defaultsize {
+        return bench;
+    }
+    step_with(bench.lists, bench, event)
 }
 
 // How many bytes of the output the last call sends; where it was refused, more than the output has.

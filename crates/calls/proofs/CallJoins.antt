@@ -18,6 +18,7 @@ use Rattle.ft12.proofs.EventLaws.{range-stays}
 use Rattle.baos.specs.declared.datapoint.Datapoint.{Datapoint}
 use Rattle.baos.specs.declared.item.Item.{Item}
 use Rattle.baos.specs.Datapoint.{datapointId, datapointOk}
+use Rattle.baos.specs.Text.{TextLists}
 use Rattle.baos.specs.Table.{Tables, tablesOf, datapointsOnly, tableOk, wellFormed, found, changedAt}
 use Rattle.baos.specs.Indication.{indication}
 use Rattle.baos.proofs.KeepLaws
@@ -68,8 +69,8 @@ module _ (t : Tables) (k : Link) (room : ℕ) where
       go true true false p q s = record { tables = p; link = q; output = ltb-false room 262 s }
 
 -- the datapoints alone, for the callees that look at no other table
-pub lent-datapoints : (ds : List Datapoint) (is : List Item) (ps : List ℕ) → wellFormed (tablesOf ds is ps) ≡ true → tableOk 1000 datapointId datapointOk ds ≡ true
-lent-datapoints ds is ps w = T-true (tableOk 1000 datapointId datapointOk ds) (KeepLaws.parts (tablesOf ds is ps) (true-T w) .datapoints)
+pub lent-datapoints : (ds : List Datapoint) (is : List Item) (ps : List ℕ) (ts : TextLists) → wellFormed (tablesOf ds is ps ts) ≡ true → tableOk 1000 datapointId datapointOk ds ≡ true
+lent-datapoints ds is ps ts w = T-true (tableOk 1000 datapointId datapointOk ds) (KeepLaws.parts (tablesOf ds is ps ts) (true-T w) .datapoints)
 
 leaves-as : (c d : Called) → c ≡ d → (r : Reply) (t : Tables) (k : Link) (out : List ℕ) → Leaves d r t k out → Leaves c r t k out
 leaves-as c d e r t k out z = subst (λ (x : Called). Leaves x r t k out) (sym e) z
@@ -114,13 +115,13 @@ put-first out s =
     ap (λ (n : ℕ). s ++ drop n out) e
 
 -- a poll looks at the datapoints alone
-polled : (ds : List Datapoint) (is : List Item) (ps : List ℕ) (l : Line)
-    → onPoll (tablesOf ds is ps) l ≡ record { sent = onPoll (datapointsOnly ds) l .sent; tables = tablesOf (onPoll (datapointsOnly ds) l .tables .datapoints) is ps; line = onPoll (datapointsOnly ds) l .line }
+polled : (ds : List Datapoint) (is : List Item) (ps : List ℕ) (ts : TextLists) (l : Line)
+    → onPoll (tablesOf ds is ps ts) l ≡ record { sent = onPoll (datapointsOnly ds) l .sent; tables = tablesOf (onPoll (datapointsOnly ds) l .tables .datapoints) is ps ts; line = onPoll (datapointsOnly ds) l .line }
 unfolding onPoll saying indication
-polled ds is ps l = go (isEmpty (l .outstanding)) refl
+polled ds is ps ts l = go (isEmpty (l .outstanding)) refl
   where
     go : (u : Bool) → isEmpty (l .outstanding) ≡ u
-        → onPoll (tablesOf ds is ps) l ≡ record { sent = onPoll (datapointsOnly ds) l .sent; tables = tablesOf (onPoll (datapointsOnly ds) l .tables .datapoints) is ps; line = onPoll (datapointsOnly ds) l .line }
+        → onPoll (tablesOf ds is ps ts) l ≡ record { sent = onPoll (datapointsOnly ds) l .sent; tables = tablesOf (onPoll (datapointsOnly ds) l .tables .datapoints) is ps ts; line = onPoll (datapointsOnly ds) l .line }
     go true e = simp e
     go false e = simp e
 
@@ -141,31 +142,31 @@ module _ (v : List ℕ) (t : Tables) (k : Link) (out : List ℕ) (p : Lent t k (
       (record { reply = ap (λ (x : ℕ). replyNumbers (Accepted x)) (z .answer); tables = refl; link = z .link; output = z .buffer ∙ put-first out (onAckWaitOver (lineOf k) .sent) })
 
 -- the tables by the datapoints alone: a poll and the bus leave the others
-module _ (v : List ℕ) (ds : List Datapoint) (is : List Item) (ps : List ℕ) (k : Link) (out : List ℕ) (p : Lent (tablesOf ds is ps) k (length out)) where
+module _ (v : List ℕ) (ds : List Datapoint) (is : List Item) (ps : List ℕ) (ts : TextLists) (k : Link) (out : List ℕ) (p : Lent (tablesOf ds is ps ts) k (length out)) where
   pub leaves-poll : (r : Reply) (ds′ : List Datapoint) (k′ : Link) (out′ : List ℕ)
-      → Leaves (accepted out (onPoll (datapointsOnly ds) (lineOf k))) r (datapointsOnly ds′) k′ out′ → Leaves (call Poll v (tablesOf ds is ps) k out) r (tablesOf ds′ is ps) k′ out′
+      → Leaves (accepted out (onPoll (datapointsOnly ds) (lineOf k))) r (datapointsOnly ds′) k′ out′ → Leaves (call Poll v (tablesOf ds is ps ts) k out) r (tablesOf ds′ is ps ts) k′ out′
   unfolding busOk happens accepted
   leaves-poll r ds′ k′ out′ z =
-      leaves-as _ _ (takes-place Poll v (tablesOf ds is ps) k out p refl ∙ ap (accepted out) (polled ds is ps (lineOf k))) r (tablesOf ds′ is ps) k′ out′
-      (record { reply = z .reply; tables = ap (λ (y : Tables). tablesOf (y .datapoints) is ps) (z .tables); link = z .link; output = z .output })
+      leaves-as _ _ (takes-place Poll v (tablesOf ds is ps ts) k out p refl ∙ ap (accepted out) (polled ds is ps ts (lineOf k))) r (tablesOf ds′ is ps ts) k′ out′
+      (record { reply = z .reply; tables = ap (λ (y : Tables). tablesOf (y .datapoints) is ps ts) (z .tables); link = z .link; output = z .output })
 
-  bus-leaves : (e : Event) (b : BusEvent) (id : ℕ) → busOk e v (tablesOf ds is ps) ≡ foundTakes b v (found datapointId id ds) → happens e v (tablesOf ds is ps) (lineOf k) ≡ quiet (atDatapoint id (taken b v) (tablesOf ds is ps)) (lineOf k)
-      → (r : Reply) (ds′ : List Datapoint) → BusEventTaken b id v ds r ds′ → Leaves (call e v (tablesOf ds is ps) k out) r (tablesOf ds′ is ps) k out
+  bus-leaves : (e : Event) (b : BusEvent) (id : ℕ) → busOk e v (tablesOf ds is ps ts) ≡ foundTakes b v (found datapointId id ds) → happens e v (tablesOf ds is ps ts) (lineOf k) ≡ quiet (atDatapoint id (taken b v) (tablesOf ds is ps ts)) (lineOf k)
+      → (r : Reply) (ds′ : List Datapoint) → BusEventTaken b id v ds r ds′ → Leaves (call e v (tablesOf ds is ps ts) k out) r (tablesOf ds′ is ps ts) k out
   unfolding accepted atDatapoint
   bus-leaves e b id same does r ds′ z = go (foundTakes b v (found datapointId id ds)) refl
     where
-      go : (u : Bool) → foundTakes b v (found datapointId id ds) ≡ u → Leaves (call e v (tablesOf ds is ps) k out) r (tablesOf ds′ is ps) k out
+      go : (u : Bool) → foundTakes b v (found datapointId id ds) ≡ u → Leaves (call e v (tablesOf ds is ps ts) k out) r (tablesOf ds′ is ps ts) k out
       go true f =
-          leaves-as _ _ (takes-place e v (tablesOf ds is ps) k out p (same ∙ f) ∙ ap (accepted out) does) r (tablesOf ds′ is ps) k out
-          (record { reply = ap replyNumbers (simp f at (z .reply)); tables = ap (λ (y : List Datapoint). tablesOf y is ps) (simp f at (z .datapoints)); link = range-stays k (true-T (p .link)); output = refl })
+          leaves-as _ _ (takes-place e v (tablesOf ds is ps ts) k out p (same ∙ f) ∙ ap (accepted out) does) r (tablesOf ds′ is ps ts) k out
+          (record { reply = ap replyNumbers (simp f at (z .reply)); tables = ap (λ (y : List Datapoint). tablesOf y is ps ts) (simp f at (z .datapoints)); link = range-stays k (true-T (p .link)); output = refl })
       go false f =
-          let q = bus-refused e v (tablesOf ds is ps) k out p (same ∙ f) in
-          record { reply = ap replyNumbers (simp f at (z .reply)) ∙ q .reply; tables = ap (λ (y : List Datapoint). tablesOf y is ps) (simp f at (z .datapoints)) ∙ q .tables; link = q .link; output = q .output }
+          let q = bus-refused e v (tablesOf ds is ps ts) k out p (same ∙ f) in
+          record { reply = ap replyNumbers (simp f at (z .reply)) ∙ q .reply; tables = ap (λ (y : List Datapoint). tablesOf y is ps ts) (simp f at (z .datapoints)) ∙ q .tables; link = q .link; output = q .output }
 
-  pub leaves-bus-value : (id : ℕ) (r : Reply) (ds′ : List Datapoint) → BusEventTaken Value id v ds r ds′ → Leaves (call (BusValue id) v (tablesOf ds is ps) k out) r (tablesOf ds′ is ps) k out
+  pub leaves-bus-value : (id : ℕ) (r : Reply) (ds′ : List Datapoint) → BusEventTaken Value id v ds r ds′ → Leaves (call (BusValue id) v (tablesOf ds is ps ts) k out) r (tablesOf ds′ is ps ts) k out
   unfolding busOk happens atDatapoint changedAt taken
   leaves-bus-value id = bus-leaves (BusValue id) Value id refl refl
 
-  pub leaves-outcome : (id : ℕ) (o : Outcome) (r : Reply) (ds′ : List Datapoint) → BusEventTaken (Transmission o) id v ds r ds′ → Leaves (call (TransmissionOutcome id o) v (tablesOf ds is ps) k out) r (tablesOf ds′ is ps) k out
+  pub leaves-outcome : (id : ℕ) (o : Outcome) (r : Reply) (ds′ : List Datapoint) → BusEventTaken (Transmission o) id v ds r ds′ → Leaves (call (TransmissionOutcome id o) v (tablesOf ds is ps ts) k out) r (tablesOf ds′ is ps ts) k out
   unfolding busOk happens atDatapoint changedAt taken
   leaves-outcome id o = bus-leaves (TransmissionOutcome id o) (Transmission o) id refl refl

@@ -16,7 +16,8 @@ use Rattle.ft12.specs.Record.{Line, lineOf, linkOf, lineOk, receiverOk, outstan
 use Rattle.ft12.specs.Receiver.{gathers, isBeginning}
 use Rattle.ft12.specs.Rules.{atStart, cleared, expecting, onHeard}
 use Rattle.ft12.proofs.RecordLaws.{line-in-range}
-use Rattle.baos.specs.Table.{Tables, wellFormed}
+use Rattle.baos.specs.Table.{Tables, tablesOf, wellFormed}
+use Rattle.baos.proofs.TableLaws.{same-tables}
 use Rattle.calls.specs.declared.event.Event.{Event}
 use Rattle.calls.specs.Event.{busOk}
 use Rattle.calls.specs.Reply.{sentCount}
@@ -30,11 +31,13 @@ module _ (event byte id outcome : ℕ) (v : List ℕ) (t : Tables) (k : Link) (o
   unfolding calledBy
   no-event n = simp n (record { number = refl; tables = refl; link = refl; output = refl })
 
+  -- the texts are told as they were lent
   pub an-event : isEvent event outcome ≡ true
       → let c = call (eventNumbered event byte id outcome) v t k out in
-      Gives (calledBy event byte id outcome v t k out) (replyNumber (c .reply)) (c .tables) (c .link) (c .output)
+      t .texts ≡ c .tables .texts
+      → Gives (calledBy event byte id outcome v t k out) (replyNumber (c .reply)) (tablesOf (c .tables .datapoints) (c .tables .items) (c .tables .parameters) (t .texts)) (c .link) (c .output)
   unfolding calledBy answered
-  an-event n = simp n (record { number = refl; tables = refl; link = refl; output = refl })
+  an-event n same = simp n (record { number = refl; tables = same-tables refl refl refl same; link = refl; output = refl })
 
   -- the count of bytes sent is a number of 32 bits
   pub count-fits : sentCount (call (eventNumbered event byte id outcome) v t k out .reply) < 2 ^ 31

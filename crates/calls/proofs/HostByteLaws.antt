@@ -26,11 +26,13 @@ use Rattle.baos.specs.declared.datapoint.Datapoint.{Datapoint}
 use Rattle.baos.specs.declared.item.Item.{Item}
 use Rattle.baos.specs.Datapoint.{datapointId, datapointOk}
 use Rattle.baos.specs.Item.{itemId, itemOk}
+use Rattle.baos.specs.Text.{TextLists, textListsOk}
 use Rattle.baos.specs.Table.{Tables, tablesOf, tableOk, wellFormed}
 use Rattle.baos.specs.Message.{Served}
 use Rattle.baos.specs.Service.{carriedOut}
 use Rattle.baos.proofs.ServiceLaws
 use Rattle.baos.proofs.AnswerLaws
+use Rattle.baos.proofs.TableLaws.{same-tables}
 use Rattle.baos.proofs.KeepLaws
 use Rattle.calls.specs.declared.reply.Reply.the-variants.{Accepted}
 use Rattle.calls.specs.Reply.{replyNumbers}
@@ -125,7 +127,7 @@ unfolding onMessage
 taken-nothing m l e = rw e
 
 -- ---- what the walk of a request goes through: the record and the buffer after each of its calls
-module _ (b : ℕ) (k : Link) (out : List ℕ) (ds : List Datapoint) (is : List Item) (ps : List ℕ) where
+module _ (b : ℕ) (k : Link) (out : List ℕ) (ds : List Datapoint) (is : List Item) (ps : List ℕ) (ts : TextLists) where
   -- the request's L, and its message
   abbrev pub lAt : ℕ
   lAt = requestL (heardAt b (lineOf k))
@@ -135,7 +137,7 @@ module _ (b : ℕ) (k : Link) (out : List ℕ) (ds : List Datapoint) (is : List 
 
   -- what carrying it out comes to
   abbrev pub carries : Served
-  carries = carriedOut (tablesOf ds is ps) asks
+  carries = carriedOut (tablesOf ds is ps ts) asks
 
   -- the record cleared
   abbrev pub clearedLink : Link
@@ -173,7 +175,7 @@ module _ (b : ℕ) (k : Link) (out : List ℕ) (ds : List Datapoint) (is : List 
     acknowledged-room = omega (arith, w, acknowledged-length)
 
     says-short : length (carries .says) ≤ 254
-    says-short = AnswerLaws.sized-short (carries .says) (AnswerLaws.answer-sized (tablesOf ds is ps) asks)
+    says-short = AnswerLaws.sized-short (carries .says) (AnswerLaws.answer-sized (tablesOf ds is ps ts) asks)
 
     answered-length : length answeredOut ≡ length out
     answered-length = length-put acknowledgedOut 6 (carries .says) (omega (arith, acknowledged-room, says-short)) ∙ acknowledged-length
@@ -199,11 +201,11 @@ module _ (b : ℕ) (k : Link) (out : List ℕ) (ds : List Datapoint) (is : List 
       asks-short = omega (arith, length-take (lAt - 1) (drop 5 (afterHostByte b k .receiver)), q .l, at .small)
 
       -- what carrying out asks
-      pub carry-needs : T (wellFormed (tablesOf ds is ps))
-          → (tableOk 1000 datapointId datapointOk ds ≡ true) × (tableOk 64 itemId itemOk is ≡ true) × (length ps ≤ 255) × (6 + 254 ≤ length acknowledgedOut) × (length asks ≤ 254)
+      pub carry-needs : T (wellFormed (tablesOf ds is ps ts))
+          → (tableOk 1000 datapointId datapointOk ds ≡ true) × (tableOk 64 itemId itemOk is ≡ true) × (length ps ≤ 255) × (textListsOk ts ≡ true) × (6 + 254 ≤ length acknowledgedOut) × (length asks ≤ 254)
       carry-needs t =
-          let p = KeepLaws.parts (tablesOf ds is ps) t in
-          (T-true (tableOk 1000 datapointId datapointOk ds) (p .datapoints), T-true (tableOk 64 itemId itemOk is) (p .items), leb→le (length ps) 255 (p .parameters), omega (arith, acknowledged-room), asks-short)
+          let p = KeepLaws.parts (tablesOf ds is ps ts) t in
+          (T-true (tableOk 1000 datapointId datapointOk ds) (p .datapoints), T-true (tableOk 64 itemId itemOk is) (p .items), leb→le (length ps) 255 (p .parameters), T-true (textListsOk ts) (p .texts), omega (arith, acknowledged-room), asks-short)
 
       -- the message is the one that the link hands up
       handed : onHostByte b (lineOf k) .up ≡ message asks
@@ -225,7 +227,7 @@ module _ (b : ℕ) (k : Link) (out : List ℕ) (ds : List Datapoint) (is : List 
 
       -- the frame covers what was written of the answer
       frame-out : put answeredOut 1 (takenBack .sent) ≡ put out 0 (acknowledgement ++ takenBack .sent)
-      frame-out = go (AnswerLaws.answer-sized (tablesOf ds is ps) asks)
+      frame-out = go (AnswerLaws.answer-sized (tablesOf ds is ps ts) asks)
         where
           go : AnswerLaws.Sized (carries .says) → put answeredOut 1 (takenBack .sent) ≡ put out 0 (acknowledgement ++ takenBack .sent)
           go (AnswerLaws.none e) =
@@ -247,5 +249,14 @@ module _ (b : ℕ) (k : Link) (out : List ℕ) (ds : List Datapoint) (is : List 
             output = frame-out ∙ put-front out (acknowledgement ++ takenBack .sent) ∙ ap (λ (v : Moved). (acknowledgement ++ v .sent) ++ drop (length (acknowledgement ++ v .sent)) out) taken;
           }
 
-      pub request-answered : Leaves (accepted out (onMoved (onHostByte b (lineOf k)) (tablesOf ds is ps))) (Accepted (length (takenBack .sent) + 1)) (carries .after) (linkOf (takenBack .line)) (put answeredOut 1 (takenBack .sent))
-      request-answered = rw (asked-done b (q .size) (lineOf k) asks (tablesOf ds is ps) (q .is) handed) answered
+      -- the texts are as they were lent
+      abbrev pub tablesLeft : Tables
+      tablesLeft = tablesOf (carries .after .datapoints) (carries .after .items) (carries .after .parameters) ts
+
+      left-as-lent : tablesLeft ≡ carries .after
+      left-as-lent = same-tables refl refl refl (sym (KeepLaws.carried-texts (tablesOf ds is ps ts) asks))
+
+      pub request-answered : Leaves (accepted out (onMoved (onHostByte b (lineOf k)) (tablesOf ds is ps ts))) (Accepted (length (takenBack .sent) + 1)) tablesLeft (linkOf (takenBack .line)) (put answeredOut 1 (takenBack .sent))
+      request-answered =
+          rw (asked-done b (q .size) (lineOf k) asks (tablesOf ds is ps ts) (q .is) handed)
+          (record { reply = answered .reply; tables = left-as-lent ∙ answered .tables; link = answered .link; output = answered .output })

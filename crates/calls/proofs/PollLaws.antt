@@ -16,6 +16,7 @@ use Rattle.ft12.proofs.EventLaws.{range-stays}
 use Rattle.walks.proofs.Branches.{no-T, yes-T}
 use Rattle.baos.specs.declared.datapoint.Datapoint.{Datapoint}
 use Rattle.baos.specs.declared.item.Item.{Item}
+use Rattle.baos.specs.Text.{TextLists}
 use Rattle.baos.specs.Table.{Tables, tablesOf, datapointsOnly}
 use Rattle.baos.specs.Message.{Served}
 use Rattle.baos.specs.Indication.{indication}
@@ -89,14 +90,14 @@ module _ (ds : List Datapoint) (k : Link) (o : List ℕ) (t : T (inRange k)) (r 
       subst Framed (sym (poll-free (datapointsOnly ds) l e)) (framed e)
 
 -- the indication, for all tables
-indication-full : (ds : List Datapoint) (is : List Item) (ps : List ℕ) → indication (tablesOf ds is ps) ≡ record { says = indication (datapointsOnly ds) .says; after = tablesOf (indication (datapointsOnly ds) .after .datapoints) is ps }
+indication-full : (ds : List Datapoint) (is : List Item) (ps : List ℕ) (ts : TextLists) → indication (tablesOf ds is ps ts) ≡ record { says = indication (datapointsOnly ds) .says; after = tablesOf (indication (datapointsOnly ds) .after .datapoints) is ps ts }
 unfolding indication
-indication-full ds is ps = refl
+indication-full ds is ps ts = refl
 
 -- ---- all tables: a poll reads and changes the datapoints alone
-module _ (ds : List Datapoint) (is : List Item) (ps : List ℕ) (l : Line) where
+module _ (ds : List Datapoint) (is : List Item) (ps : List ℕ) (ts : TextLists) (l : Line) where
   abbrev full : Done
-  full = onPoll (tablesOf ds is ps) l
+  full = onPoll (tablesOf ds is ps ts) l
 
   abbrev only : Done
   only = onPoll (datapointsOnly ds) l
@@ -104,7 +105,7 @@ module _ (ds : List Datapoint) (is : List Item) (ps : List ℕ) (l : Line) where
   pub record PollFull : Type 0 where
     pub sent : full .sent ≡ only .sent
     pub line : full .line ≡ only .line
-    pub tables : full .tables ≡ tablesOf (only .tables .datapoints) is ps
+    pub tables : full .tables ≡ tablesOf (only .tables .datapoints) is ps ts
 
   pub poll-full : PollFull
   poll-full = go (isEmpty (l .outstanding)) refl
@@ -112,33 +113,33 @@ module _ (ds : List Datapoint) (is : List Item) (ps : List ℕ) (l : Line) where
       go : (u : Bool) → isEmpty (l .outstanding) ≡ u → PollFull
       go true e =
           let v : Served = indication (datapointsOnly ds) in
-          let w : Served = record { says = v .says; after = tablesOf (v .after .datapoints) is ps } in
-          let a : full ≡ saying [] w l = poll-free (tablesOf ds is ps) l e ∙ ap (λ (x : Served). saying [] x l) (indication-full ds is ps) in
+          let w : Served = record { says = v .says; after = tablesOf (v .after .datapoints) is ps ts } in
+          let a : full ≡ saying [] w l = poll-free (tablesOf ds is ps ts) l e ∙ ap (λ (x : Served). saying [] x l) (indication-full ds is ps ts) in
           let b : only ≡ saying [] v l = poll-free (datapointsOnly ds) l e in
           let said : saying [] w l .sent ≡ saying [] v l .sent = unfold saying in refl in
           let lined : saying [] w l .line ≡ saying [] v l .line = unfold saying in refl in
-          let left : saying [] w l .tables ≡ tablesOf (saying [] v l .tables .datapoints) is ps = unfold saying in refl in
+          let left : saying [] w l .tables ≡ tablesOf (saying [] v l .tables .datapoints) is ps ts = unfold saying in refl in
           record {
             sent = ap (λ (d : Done). d .sent) a ∙ said ∙ ap (λ (d : Done). d .sent) (sym b);
             line = ap (λ (d : Done). d .line) a ∙ lined ∙ ap (λ (d : Done). d .line) (sym b);
-            tables = ap (λ (d : Done). d .tables) a ∙ left ∙ ap (λ (d : Done). tablesOf (d .tables .datapoints) is ps) (sym b);
+            tables = ap (λ (d : Done). d .tables) a ∙ left ∙ ap (λ (d : Done). tablesOf (d .tables .datapoints) is ps ts) (sym b);
           }
       go false e =
-          let a = poll-held (tablesOf ds is ps) l e in
+          let a = poll-held (tablesOf ds is ps ts) l e in
           let b = poll-held (datapointsOnly ds) l e in
           record {
             sent = ap (λ (d : Done). d .sent) a ∙ ap (λ (d : Done). d .sent) (sym b);
             line = ap (λ (d : Done). d .line) a ∙ ap (λ (d : Done). d .line) (sym b);
-            tables = ap (λ (d : Done). d .tables) a ∙ ap (λ (d : Done). tablesOf (d .tables .datapoints) is ps) (sym b);
+            tables = ap (λ (d : Done). d .tables) a ∙ ap (λ (d : Done). tablesOf (d .tables .datapoints) is ps ts) (sym b);
           }
 
   -- what holds of the datapoints alone holds of all tables
-  pub poll-leaves : (o : List ℕ) (r : Reply) (ds′ : List Datapoint) (k′ : Link) (o′ : List ℕ) → Leaves (accepted o only) r (datapointsOnly ds′) k′ o′ → Leaves (accepted o full) r (tablesOf ds′ is ps) k′ o′
+  pub poll-leaves : (o : List ℕ) (r : Reply) (ds′ : List Datapoint) (k′ : Link) (o′ : List ℕ) → Leaves (accepted o only) r (datapointsOnly ds′) k′ o′ → Leaves (accepted o full) r (tablesOf ds′ is ps ts) k′ o′
   poll-leaves o r ds′ k′ o′ p =
       unfold accepted in
       record {
         reply = p .reply ∙ ap (λ (s : List ℕ). replyNumbers (Accepted (length s))) (sym (poll-full .sent));
-        tables = ap (λ (x : Tables). tablesOf (x .datapoints) is ps) (p .tables) ∙ sym (poll-full .tables);
+        tables = ap (λ (x : Tables). tablesOf (x .datapoints) is ps ts) (p .tables) ∙ sym (poll-full .tables);
         link = p .link ∙ ap linkOf (sym (poll-full .line));
         output = p .output ∙ ap {B = List ℕ} (λ (s : List ℕ). s ++ drop (length s) o) (sym (poll-full .sent));
       }

@@ -14,7 +14,7 @@ use Rattle.bench.specs.Bench.{emptyBench, withDatapoints, withItems, withParame
 use Rattle.bench.specs.Run.{happened}
 use Rattle.script.specs.declared.line.Line.{Line}
 use Rattle.script.specs.Record.{raised, risen, itemOf, datapointOf, parametersOf}
-use Rattle.cases.specs.Lent.{withItem, withDatapoint, filled, built, bussed}
+use Rattle.cases.specs.Lent.{withItem, withDatapoint, withSite, withDefaults, filled, built, bussed}
 
 pub item-full : (i : Item) (b : Bench) → 4 ≤ b .itemcount → withItem i b ≡ b
 unfolding withItem
@@ -67,6 +67,14 @@ module _ (l : Line) (b : Bench) where
   unfolding built
   told-parameters e = rw e refl
 
-  pub told-nothing : (l .letter ≡ 0x65 → ⊥) → (l .letter ≡ 0x69 → ⊥) → (l .letter ≡ 0x64 → ⊥) → (l .letter ≡ 0x70 → ⊥) → built l b ≡ b
+  pub told-site : l .letter ≡ 0x76 → built l b ≡ withSite l b
   unfolding built
-  told-nothing e i d p = rw (ne-eqb _ _ e, ne-eqb _ _ i, ne-eqb _ _ d, ne-eqb _ _ p) refl
+  told-site e = rw e refl
+
+  pub told-defaults : l .letter ≡ 0x77 → built l b ≡ withDefaults l b
+  unfolding built
+  told-defaults e = rw e refl
+
+  pub told-nothing : (l .letter ≡ 0x65 → ⊥) → (l .letter ≡ 0x69 → ⊥) → (l .letter ≡ 0x64 → ⊥) → (l .letter ≡ 0x70 → ⊥) → (l .letter ≡ 0x76 → ⊥) → (l .letter ≡ 0x77 → ⊥) → built l b ≡ b
+  unfolding built
+  told-nothing e i d p v w = rw (ne-eqb _ _ e, ne-eqb _ _ i, ne-eqb _ _ d, ne-eqb _ _ p, ne-eqb _ _ v, ne-eqb _ _ w) refl

@@ -2,7 +2,7 @@
 ghost use mathlib.Core.Path.{_≡_};
 ghost use Rattle.bench.specs.Bench.{withParameters, withValue};
 ghost use Rattle.script.specs.Record.{parametersOf};
-ghost use Rattle.cases.specs.Lent.{withItem, withDatapoint, filled, built, bussed};
+ghost use Rattle.cases.specs.Lent.{withItem, withDatapoint, withSite, withDefaults, filled, built, bussed};
 use baos::datapoint::Datapoint;
 use baos::item::Item;
 use bench::bench::Bench;
@@ -26,6 +26,10 @@ const ITEM: u8 = b'i';
 const DATAPOINTS: u8 = b'd';
 // The parameter bytes.
 const PARAMETERS: u8 = b'p';
+// The site's list of texts, and the default list: their bytes.
+const SITE: u8 = b'v';
+
+const DEFAULTS: u8 = b'w';
 
 // One record more, behind the others; a full table stays.
 fn with_item(bench: Bench, item: Item) -> Bench
@@ -76,6 +80,30 @@ fn with_parameters(bench: Bench, line: Line) -> Bench
     b
 }
 
+fn with_site(bench: Bench, line: Line) -> Bench
+    ensures { λ r. ⌜ r ≡ withSite line bench ⌝ }
+{
+    let a = line.bytes;
+    let mut lists = bench.lists;
+    lists.site = a;
+    lists.sitesize = line.size;
+    let mut b = bench;
+    b.lists = lists;
+    b
+}
+
+fn with_defaults(bench: Bench, line: Line) -> Bench
+    ensures { λ r. ⌜ r ≡ withDefaults line bench ⌝ }
+{
+    let a = line.bytes;
+    let mut lists = bench.lists;
+    lists.defaults = a;
+    lists.defaultsize = line.size;
+    let mut b = bench;
+    b.lists = lists;
+    b
+}
+
 // The tables that are wanted, after this line.
 pub fn told(wanted: Bench, line: Line) -> Bench
     ensures { λ r. ⌜ r ≡ built line wanted ⌝ }
@@ -91,6 +119,12 @@ pub fn told(wanted: Bench, line: Line) -> Bench
     }
     if line.letter == PARAMETERS {
         return with_parameters(wanted, line);
+    }
+    if line.letter == SITE {
+        return with_site(wanted, line);
+    }
+    if line.letter == DEFAULTS {
+        return with_defaults(wanted, line);
     }
     wanted
 }

@@ -18,7 +18,7 @@ use Rattle.ft12.specs.Rules.{heardAt, onHeard, onHostByte, onIdleMark, onMessag
 use Rattle.ft12.proofs.FrameLaws.{frame-message}
 use Rattle.baos.specs.Table.{Tables}
 use Rattle.baos.specs.Message.{subService, startOf, numberOf, filterOf, coded, Finding, fine, bad, Served, answerOf, afterOf, served}
-use Rattle.baos.specs.Get.{AnswerEntry, listing, getFinding, getting, getServerItem, getDatapointDescription, getDatapointValue, getParameterByte}
+use Rattle.baos.specs.Get.{AnswerEntry, listing, getFinding, getting, getServerItem, getDatapointDescription, getDescriptionString, getDatapointValue, getParameterByte}
 use Rattle.baos.specs.Set.{SetEntry, setFinding, setting, setServerItem, setDatapointValue, setParameterFinding, setParameterByte}
 use Rattle.baos.specs.Service.{service, carriedOut}
 use Rattle.baos.specs.Indication.{indication}
@@ -71,11 +71,12 @@ set-leaves h first judge done t m a = served-leaves (setFinding h first judge m)
 
 -- ---- every message
 service-leaves : (t : Tables) (m : List ℕ) → ErrorAnswer (service t m .says) → service t m .after ≡ t
-unfolding getServerItem setServerItem getDatapointDescription getDatapointValue setDatapointValue getParameterByte setParameterByte
+unfolding getServerItem setServerItem getDatapointDescription getDescriptionString getDatapointValue setDatapointValue getParameterByte setParameterByte
 service-leaves t m =
     by-service (λ (s : Served). ErrorAnswer (s .says) → s .after ≡ t) t m
     (λ e. get-leaves 6 false _ t t m)
     (λ e. set-leaves 3 _ _ _ t m)
+    (λ e. get-leaves 6 false _ t t m)
     (λ e. get-leaves 6 false _ t t m)
     (λ e. get-leaves 7 (ltb 2 (filterOf m)) _ t _ m)
     (λ e. set-leaves 4 _ _ _ t m)

@@ -22,7 +22,7 @@ use Rattle.baos.specs.declared.datapoint.Datapoint.{Datapoint}
 use Rattle.baos.specs.Datapoint.{datapointId, datapointOk, sizeOf, valueOf, isUpdated, withValid, withoutUpdated, withRequest, withStatus, withState, withValue, withMark, handedOut, busValue, outcome, commanded}
 use Rattle.baos.specs.Table.{Tables, rising, changedAt, wellFormed}
 use Rattle.baos.specs.Message.{subService, startOf, numberOf, filterOf, coded, Finding, fine, bad, Served, answerOf, afterOf, served}
-use Rattle.baos.specs.Get.{AnswerEntry, listing, getFinding, getting, getServerItem, getDatapointDescription, valueEntry, asked, handingOut, getDatapointValue, getParameterByte}
+use Rattle.baos.specs.Get.{AnswerEntry, listing, getFinding, getting, getServerItem, getDatapointDescription, getDescriptionString, valueEntry, asked, handingOut, getDatapointValue, getParameterByte}
 use Rattle.baos.specs.Set.{SetEntry, setFinding, applied, setting, setServerItem, setDatapoint, setDatapointValue, setParameterFinding, setParameterByte}
 use Rattle.baos.specs.Service.{unanswered, carriedOut}
 use Rattle.baos.specs.Get.{roomForEntries}
@@ -334,13 +334,14 @@ module _ (id : ℕ) (t : Tables) (m : List ℕ) (w : T (wellFormed t)) where
 
   -- every message
   message-spends : Spends id t (carriedOut t m .after) (carriedOut t m .says)
-  unfolding getServerItem setServerItem getDatapointDescription getDatapointValue setDatapointValue getParameterByte setParameterByte
+  unfolding getServerItem setServerItem getDatapointDescription getDescriptionString getDatapointValue setDatapointValue getParameterByte setParameterByte
   message-spends =
       by-message (λ (s : Served). Spends id t (s .after) (s .says)) t m (no-message id t)
       (by-service (λ (s : Served). Spends id t (s .after) (s .says)) t m
       (λ s. other-get id t m 6 0x01 false _ s refl refl)
       (λ s. a-set id t m 3 _ _ _ (λ es f. f))
       (λ s. other-get id t m 6 0x03 false _ s refl refl)
+      (λ s. other-get id t m 6 0x04 false _ s refl refl)
       (λ s. unfold getting served in by-finding id t m (getFinding 7 (ltb 2 (filterOf m)) m _) _ (handingOut m t) (λ e. values-spend s))
       (λ s. a-set id t m 4 _ _ _ (λ es f. applied-fresh id es table f))
       (λ s. other-get id t m 6 0x07 false _ s refl refl)

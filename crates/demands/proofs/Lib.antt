@@ -13,3 +13,4 @@ pub mod EntryErrorLaws
 pub mod StatusLaws
 pub mod ClosedLaws
 pub mod ParametersLaws
+pub mod StringsLaws

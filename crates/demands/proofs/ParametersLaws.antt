@@ -220,6 +220,7 @@ module _ (t : Tables) (m : List ℕ) (a : T (asksToSetParameters m)) where
           others = λ i l n. ap (λ (x : List ℕ). getD x (i - 1) 0) set ∙ other i l n (ltb i (startOf m)) refl;
           datapoints = ap (λ (x : Tables). x .datapoints) set-so;
           items = ap (λ (x : Tables). x .items) set-so;
+          texts = ap (λ (x : Tables). x .texts) set-so;
         }
       where
         other : (i : ℕ) → 1 ≤ i → T (not (inRequest m i)) → (u : Bool) → ltb i (startOf m) ≡ u → getD (put (t .parameters) (startOf m - 1) (drop 6 m)) (i - 1) 0 ≡ getD (t .parameters) (i - 1) 0

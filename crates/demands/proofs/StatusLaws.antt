@@ -21,7 +21,7 @@ use Rattle.baos.specs.Bus.{statusOf}
 use Rattle.baos.specs.Lookup.{lookupOf, isPresent}
 use Rattle.baos.specs.Table.{Tables, withItems, withParameters, found, changedAt}
 use Rattle.baos.specs.Message.{subService, startOf, coded, Finding, fine, bad, Served, afterOf, served}
-use Rattle.baos.specs.Get.{roomForEntries, getting, getServerItem, getDatapointDescription, asked, handingOut, getDatapointValue, getParameterByte}
+use Rattle.baos.specs.Get.{roomForEntries, getting, getServerItem, getDatapointDescription, getDescriptionString, asked, handingOut, getDatapointValue, getParameterByte}
 use Rattle.baos.specs.Set.{SetEntry, firstDatapointEntry, judgedDatapoint, applied, setting, setServerItem, setDatapoint, setDatapointValue, setParameterByte}
 use Rattle.baos.specs.Service.{service, carriedOut}
 use Rattle.baos.specs.Indication.{choices, goes, roomAfter, afterReport, indication}
@@ -204,13 +204,14 @@ module _ (id : ℕ) (t : Tables) (m : List ℕ) where
       (λ z. statuses-applied id (entriesOf m) (t .datapoints) ∙ ap (λ (u : Bool). replaced (if u then 3 ∷ [] else []) (statusAt id t)) (sym (with-code _ ∙ holds-six (isSendFor id) e)))
 
   request-leaves : Leaves (carriedOut t m)
-  unfolding getServerItem setServerItem getDatapointDescription getDatapointValue getParameterByte setParameterByte getting setting
+  unfolding getServerItem setServerItem getDatapointDescription getDescriptionString getDatapointValue getParameterByte setParameterByte getting setting
   request-leaves =
       by-message Leaves t m (kept (record { says = []; after = t }) refl (no-code _ refl))
       (by-service Leaves t m
       (λ e. keeps-as 0x01 _ _ t e refl refl)
       (λ e. keeps-as 0x02 _ _ (withItems _ t) e refl (unfold statusAt in refl))
       (λ e. keeps-as 0x03 _ _ t e refl refl)
+      (λ e. keeps-as 0x04 _ _ t e refl refl)
       (λ e. keeps-as 0x05 _ _ (handingOut m t) e refl (statuses-out id m t))
       set-leaves
       (λ e. keeps-as 0x07 _ _ t e refl refl)

@@ -66,7 +66,7 @@ ErrorCallsChangeNothing =
     → call e v t k out .tables ≡ t
 
 -- To read it: a call that sends an acknowledgement and, in a data frame, an error answer leaves datapoints, items and
--- parameter bytes as they were, in every record and field.
+-- parameter bytes as they were, in every record and field. No call at all changes a text (Strings.antt).
 
 -- ---- the three sentences together
 pub record Demand2 : Type 0 where

@@ -10,3 +10,4 @@ pub mod Status
 pub mod Exchange
 pub mod Closed
 pub mod Parameters
+pub mod Strings

@@ -89,6 +89,7 @@ pub record BytesSet (t : Tables) (m : List ℕ) (t′ : Tables) : Type 0 where
   pub others : (i : ℕ) → 1 ≤ i → T (not (inRequest m i)) → parameterAt t′ i ≡ parameterAt t i
   pub datapoints : t′ .datapoints ≡ t .datapoints
   pub items : t′ .items ≡ t .items
+  pub texts : t′ .texts ≡ t .texts
 
 -- "All or nothing as with items": all where the answer's code is 0, nothing where it is not; the 1 would stand for no
 -- answer
@@ -152,7 +153,7 @@ ParametersStand = (hs : List Happening) (t : Tables) (k : Link) → T (noneSets 
     → tablesAfterAll hs t k .parameters ≡ t .parameters
 
 -- ---- "Demands 2 and 3 read "tables" with the parameters among them"
--- The tables of both texts are a record of three, of which the parameters are one. So demand 2 says of the parameter
+-- The tables of both demands are one record, of which the parameters are a field. So demand 2 says of the parameter
 -- bytes that no second outcome keeps the call's promise, and that an error answer changes none of them.
 pub record OfParameters2 : Type 0 where
   pub one-outcome : (e : Event) (v : List ℕ) (t : Tables) (k : Link) (out : List ℕ) (r₁ r₂ : Reply) (t₁ t₂ : Tables)
@@ -191,5 +192,6 @@ pub record SettingParameters : Type 0 where
 
 -- To read it: an answered message with sub 08 is answered by exactly one of the codes 10, 6, 7 and 0, by what it states
 -- and by which of its indices are in the table. With code 0 each index of its range has the request's byte and every
--- other parameter byte, datapoint and item is as it was; with any other code nothing has changed. No other message, and
--- no call that ends no such message, changes a parameter byte, so that what was set stands until it is set again.
+-- other parameter byte, datapoint, item and text is as it was; with any other code nothing has changed. No other
+-- message, and no call that ends no such message, changes a parameter byte, so that what was set stands until it is set
+-- again.

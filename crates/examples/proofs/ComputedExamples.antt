@@ -15,7 +15,7 @@ use Rattle.baos.specs.declared.item.Item.{Item}
 use Rattle.baos.specs.Table.{Tables}
 use Rattle.baos.proofs.TableLaws.{same-tables}
 use Rattle.demands.specs.Run.{Ran}
-use Rattle.examples.specs.Example.{Case, runOf, stated, lineAt, exchange, item1, ask1, answer1, case1, case2, ask1even, case2even, datapoint, datapoint5, answer3, set5, case3, case4, oneByteFrom, oneBytes, entriesFrom, case5, case5more, parameterBytes, case6, case6more, case9, case9one, cases}
+use Rattle.examples.specs.Example.{Case, runOf, stated, lineAt, exchange, item1, ask1, answer1, case1, case2, ask1even, case2even, datapoint, datapoint5, answer3, set5, case3, case4, oneByteFrom, oneBytes, entriesFrom, case5, case5more, parameterBytes, case6, case6more, case9, case9one, listEntry, listOf, lampTexts, caseTexts, longTextsFrom, longTexts, stringsOf, caseLongTexts, caseLongTextsMore, cases}
 use Rattle.examples.proofs.Opened.{opened}
 
 -- ---- the tests
@@ -45,6 +45,8 @@ tablesTests a b =
     sameBy sameDatapoint (a .datapoints) (b .datapoints)
     ∷ sameBy sameItem (a .items) (b .items)
     ∷ same (a .parameters) (b .parameters)
+    ∷ same (a .texts .site) (b .texts .site)
+    ∷ same (a .texts .defaults) (b .texts .defaults)
     ∷ []
 
 unfoldable pub sameTables : Tables → Tables → Bool
@@ -58,7 +60,7 @@ agrees c = all-pass (ranTests (runOf c) (stated c))
 
 -- ---- computed
 tested : T (every agrees cases)
-unfolding cases opened runOf stated sameDatapoint sameItem sameTables sameLink agrees lineAt exchange item1 ask1 answer1 case1 case2 ask1even case2even datapoint datapoint5 answer3 set5 case3 case4 oneByteFrom oneBytes entriesFrom case5 case5more parameterBytes case6 case6more case9 case9one
+unfolding cases opened runOf stated sameDatapoint sameItem sameTables sameLink agrees lineAt exchange item1 ask1 answer1 case1 case2 ask1even case2even datapoint datapoint5 answer3 set5 case3 case4 oneByteFrom oneBytes entriesFrom case5 case5more parameterBytes case6 case6more case9 case9one listEntry listOf lampTexts caseTexts longTextsFrom longTexts stringsOf caseLongTexts caseLongTextsMore
 tested = tt
 
 -- ---- what the tests mean
@@ -108,6 +110,7 @@ tables-eq a b t =
     let g : (k : ℕ) → T (getD (tablesTests a b) k true) = nth (tablesTests a b) t in
     same-tables (sameBy→eq sameDatapoint datapoint-eq (a .datapoints) (b .datapoints) (g 0))
     (sameBy→eq sameItem item-eq (a .items) (b .items) (g 1)) (same→eq (a .parameters) (b .parameters) (g 2))
+    (λ i. record { site = same→eq (a .texts .site) (b .texts .site) (g 3) i; defaults = same→eq (a .texts .defaults) (b .texts .defaults) (g 4) i })
 
 ran-eq : (a b : Ran) → T (all-pass (ranTests a b)) → a ≡ b
 ran-eq a b t =

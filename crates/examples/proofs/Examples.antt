@@ -1,4 +1,4 @@
--- The examples of document 01 that are marked P, proved together: one statement over the list.
+-- The examples of document 01 that are marked P, and two for item 1 of document 02, proved together: one statement over the list.
 use mathlib.Core.Path.{_≡_, refl, sym, subst}
 use mathlib.Core.List.{List, [], _∷_, map, List·Memᴰ, List·Memᴰ·head, List·Memᴰ·tail, List·Memᴰ·not-nil, List·Memᴰ·cases-cons, List·Memᴰ·append-cases}
 use mathlib.Core.Logic.{_⊎_, inl, inr}

@@ -15,7 +15,7 @@ use Rattle.baos.specs.Datapoint.{datapointId, datapointOk, sizeOf, valueOf}
 use Rattle.baos.specs.Item.{itemId, itemOk, bytesOf}
 use Rattle.baos.specs.Table.{Tables, wellFormed, found}
 use Rattle.baos.specs.Message.{mainService, subService, startOf, numberOf, filterOf, coded, Served, answerOf, afterOf, served}
-use Rattle.baos.specs.Get.{AnswerEntry, inRequest, overflow, listing, getFinding, getting, itemEntry, getServerItem, descriptionEntry, getDatapointDescription, valueEntry, passes, asked, handingOut, getDatapointValue, parameterEntries, getParameterByte}
+use Rattle.baos.specs.Get.{AnswerEntry, inRequest, overflow, listing, getFinding, getting, itemEntry, getServerItem, descriptionEntry, getDatapointDescription, stringEntry, getDescriptionString, valueEntry, passes, asked, handingOut, getDatapointValue, parameterEntries, getParameterByte}
 use Rattle.baos.specs.Lookup.{lookupOf, isPresent}
 use Rattle.baos.specs.Set.{fills, setEntries, firstDatapointEntry, datapointCode, judgedDatapoint, firstBad, setFinding, setting, setDatapointValue}
 use Rattle.baos.specs.Service.{service, unanswered, carriedOut}
@@ -24,7 +24,8 @@ use Rattle.baos.proofs.DatapointLaws.{size-fits}
 use Rattle.baos.proofs.TableLaws.{ids-rise, entries-ok}
 use Rattle.baos.proofs.KeepLaws.{parts}
 use Rattle.baos.proofs.LastLaws.{last-in-request, keep-same, keep-both, keep-found}
-use Rattle.baos.proofs.ServiceLaws.{is-get-item, is-get-description, is-get-value, is-get-parameter}
+use Rattle.baos.proofs.ServiceLaws.{is-get-item, is-get-description, is-get-string, is-get-value, is-get-parameter}
+use Rattle.demands.proofs.StringsLaws.{string-short}
 use Rattle.examples.specs.Example.{TwoByteIds, AnsweredWith, LastId, RefusedWith, EmptyTable}
 
 -- ---- 7
@@ -113,6 +114,13 @@ module _ (t : Tables) (m : List ℕ) (w : T (wellFormed t)) (two : TwoByteIds t)
       ∙ ap (λ (xs : List Datapoint). getting 6 false (map descriptionEntry xs) t t m .says) datapoints-found
       ∙ got-few descriptionEntry datapointOk description-short 6 false t t m l k refl s _ (few-found datapointId 0xFFFF datapointOk (t .datapoints) datapoints-ok)
 
+  last-string : subService m ≡ 0x04 → length m ≡ 6 → AnsweredWith t m (map (stringEntry (t .texts)) (found datapointId 0xFFFF (t .datapoints)))
+  unfolding getDescriptionString
+  last-string e l =
+      ap (λ (v : Served). v .says) (is-get-string t m (answered 0x04 6 e l tt tt) e)
+      ∙ ap (λ (xs : List Datapoint). getting 6 false (map (stringEntry (t .texts)) xs) t t m .says) datapoints-found
+      ∙ got-few (stringEntry (t .texts)) datapointOk (λ d o. omega (arith, string-short (t .texts) d)) 6 false t t m l k refl s _ (few-found datapointId 0xFFFF datapointOk (t .datapoints) datapoints-ok)
+
   last-value : subService m ≡ 0x05 → length m ≡ 7 → filterOf m ≤ 2
       → AnsweredWith t m (map valueEntry (keep (passes (filterOf m)) (found datapointId 0xFFFF (t .datapoints))))
   unfolding getDatapoints getDatapointValue
@@ -135,13 +143,17 @@ module _ (t : Tables) (m : List ℕ) (w : T (wellFormed t)) (two : TwoByteIds t)
       ∙ simp (s, none-kept 1 (t .parameters) (omega (arith, leb→le (length (t .parameters)) 255 (parts t w .parameters))), l, ne-eqb (numberOf m) 0 (λ z. omega (arith, z, k)))
 
   pub last-id-holds : LastId t m
-  last-id-holds = record { item = last-item; description = last-description; value = last-value; parameter = last-parameter }
+  last-id-holds = record { item = last-item; description = last-description; string = last-string; value = last-value; parameter = last-parameter }
 
 -- ---- 8
 module _ (t : Tables) (m : List ℕ) (none : t .datapoints ≡ []) (main : mainService m ≡ 0xF0) where
   empty-descriptions : subService m ≡ 0x03 → length m ≡ 6 → 1 ≤ numberOf m → RefusedWith t m (startOf m) 2
   unfolding carriedOut unanswered service getDatapointDescription getting getFinding served answerOf afterOf
   empty-descriptions k l h = simp (none, main, k, l, ne-eqb (numberOf m) 0 (omega arith))
+
+  empty-strings : subService m ≡ 0x04 → length m ≡ 6 → 1 ≤ numberOf m → RefusedWith t m (startOf m) 2
+  unfolding carriedOut unanswered service getDescriptionString getting getFinding served answerOf afterOf
+  empty-strings k l h = simp (none, main, k, l, ne-eqb (numberOf m) 0 (omega arith))
 
   empty-values : subService m ≡ 0x05 → length m ≡ 7 → 1 ≤ numberOf m → filterOf m ≤ 2 → RefusedWith t m (startOf m) 2
   unfolding carriedOut unanswered service getDatapointValue getting getFinding served answerOf afterOf
@@ -158,4 +170,4 @@ module _ (t : Tables) (m : List ℕ) (none : t .datapoints ≡ []) (main : mainS
           simp (none, main, k, le-ltb (length m) 6 l, e, T-true (fills 4 (suc n) (drop 6 m)) (rw e at f), ne-eqb (suc n) 0 (omega arith))
 
   pub empty-table : EmptyTable t m
-  empty-table = record { descriptions = empty-descriptions; values = empty-values; set = empty-set }
+  empty-table = record { descriptions = empty-descriptions; strings = empty-strings; values = empty-values; set = empty-set }

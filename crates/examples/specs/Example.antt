@@ -1,8 +1,9 @@
--- The examples of document 01 that are marked P: one list, and what it means that one of them holds.
+-- The examples of document 01 that are marked P, and two for item 1 of document 02: one list, and what it means that
+-- one of them holds.
 use Prim.Native.Nat.{ℕ, zero, suc, _+_, _≤_}
 use mathlib.Core.Path.{_≡_}
 use mathlib.Core.Bool.{Bool, true, false}
-use mathlib.Core.List.{List, [], _∷_, _++_, map}
+use mathlib.Core.List.{List, [], _∷_, _++_, map, flatten}
 use lib.ListN.{length, drop, replicate}
 use lib.Dec.{T, ltb}
 use Rattle.words.specs.Words.{if_then_else_, isEmpty, pad, keep, every}
@@ -12,9 +13,11 @@ use Rattle.baos.specs.declared.datapoint.Datapoint.{Datapoint}
 use Rattle.baos.specs.declared.item.Item.{Item}
 use Rattle.baos.specs.Datapoint.{datapointId}
 use Rattle.baos.specs.Item.{itemId}
-use Rattle.baos.specs.Table.{Tables, datapointsOnly, itemsOnly, parametersOnly, wellFormed, found}
+use Rattle.baos.specs.TextList.{ListEntry, listEntryBytes}
+use Rattle.baos.specs.Text.{textLists}
+use Rattle.baos.specs.Table.{Tables, datapointsOnly, itemsOnly, parametersOnly, datapointsWithTexts, wellFormed, found}
 use Rattle.baos.specs.Message.{mainService, subService, startOf, numberOf, filterOf, coded}
-use Rattle.baos.specs.Get.{AnswerEntry, listing, itemEntry, descriptionEntry, valueEntry, passes}
+use Rattle.baos.specs.Get.{AnswerEntry, listing, itemEntry, descriptionEntry, stringEntry, valueEntry, passes}
 use Rattle.baos.specs.Set.{fills, firstDatapointEntry}
 use Rattle.baos.specs.Service.{carriedOut}
 use Rattle.calls.specs.declared.event.Event.the-variants.{HostByte}
@@ -209,8 +212,56 @@ case9one =
       lineAfter = lineAt false true [];
     }
 
--- ---- 7: "start FFFF, number FFFF: only ID 65535 can answer", for any number from 1 on, any tables that no call refuses
--- and each of the four gets
+-- Document 02, item 1: text lists, by their entries
+unfoldable pub listEntry : ℕ → List ℕ → ListEntry
+listEntry id text = record { id = id; text = text }
+
+unfoldable pub listOf : List ListEntry → List ℕ
+listOf es = flatten (map listEntryBytes es)
+
+-- "the text comes from the site list, failing that the default list, where that has a non-empty entry for the ID, else
+-- it is the empty start of the default list": datapoint 1 is "Lamp" in the site list and "Light" in the default list,
+-- and the site's text answers; datapoint 2 has an empty entry in the site list, which does not hide the default's
+-- "Blind"; datapoint 3 has none, and its string is a length of 0
+unfoldable pub lampTexts : Tables
+lampTexts =
+    datapointsWithTexts (oneByteFrom 1 3)
+    (textLists (listOf (listEntry 1 (0x4C ∷ 0x61 ∷ 0x6D ∷ 0x70 ∷ []) ∷ listEntry 2 [] ∷ []))
+    (listOf
+    (listEntry 1 (0x4C ∷ 0x69 ∷ 0x67 ∷ 0x68 ∷ 0x74 ∷ [])
+    ∷ listEntry 2 (0x42 ∷ 0x6C ∷ 0x69 ∷ 0x6E ∷ 0x64 ∷ [])
+    ∷ [])))
+
+unfoldable pub caseTexts : Case
+caseTexts =
+    exchange lampTexts (0xF0 ∷ 0x04 ∷ 0x00 ∷ 0x01 ∷ 0x00 ∷ 0x03 ∷ [])
+    (0xF0 ∷ 0x84 ∷ 0x00 ∷ 0x01 ∷ 0x00 ∷ 0x03 ∷ 0x00 ∷ 0x04 ∷ 0x4C ∷ 0x61 ∷ 0x6D ∷ 0x70
+    ∷ 0x00 ∷ 0x05 ∷ 0x42 ∷ 0x6C ∷ 0x69 ∷ 0x6E ∷ 0x64
+    ∷ 0x00 ∷ 0x00
+    ∷ []) lampTexts
+
+-- The longest texts: seven of 30 bytes answer (230 bytes); eight give code 3 with the eighth's ID.
+unfoldable pub longTextsFrom : ℕ → ℕ → List ListEntry
+longTextsFrom id zero = []
+longTextsFrom id (suc n) = listEntry id (replicate 30 0x61) ∷ longTextsFrom (suc id) n
+
+unfoldable pub longTexts : ℕ → Tables
+longTexts n = datapointsWithTexts (oneByteFrom 1 n) (textLists [] (listOf (longTextsFrom 1 n)))
+
+unfoldable pub stringsOf : ℕ → List ℕ
+stringsOf zero = []
+stringsOf (suc n) = 0x00 ∷ 30 ∷ replicate 30 0x61 ++ stringsOf n
+
+unfoldable pub caseLongTexts : Case
+caseLongTexts = exchange (longTexts 7) (0xF0 ∷ 0x04 ∷ 0x00 ∷ 0x01 ∷ 0x00 ∷ 7 ∷ [])
+    (0xF0 ∷ 0x84 ∷ 0x00 ∷ 0x01 ∷ 0x00 ∷ 7 ∷ stringsOf 7) (longTexts 7)
+
+unfoldable pub caseLongTextsMore : Case
+caseLongTextsMore = exchange (longTexts 8) (0xF0 ∷ 0x04 ∷ 0x00 ∷ 0x01 ∷ 0x00 ∷ 8 ∷ [])
+    (0xF0 ∷ 0x84 ∷ 0x00 ∷ 8 ∷ 0x00 ∷ 0x00 ∷ 0x03 ∷ []) (longTexts 8)
+
+-- ---- 7: "start FFFF, number FFFF: only ID 65535 can answer", for any number from 1 on, any tables that no call
+-- refuses and each of the five gets
 -- IDs of two bytes
 pub record TwoByteIds (t : Tables) : Type 0 where
   pub datapoints : T (every (λ (d : Datapoint). ltb (d .id) 0x1_0000) (t .datapoints))
@@ -225,6 +276,8 @@ pub record LastId (t : Tables) (m : List ℕ) : Type 0 where
   pub item : subService m ≡ 0x01 → length m ≡ 6 → AnsweredWith t m (map itemEntry (found itemId 0xFFFF (t .items)))
   pub description : subService m ≡ 0x03 → length m ≡ 6
       → AnsweredWith t m (map descriptionEntry (found datapointId 0xFFFF (t .datapoints)))
+  pub string : subService m ≡ 0x04 → length m ≡ 6
+      → AnsweredWith t m (map (stringEntry (t .texts)) (found datapointId 0xFFFF (t .datapoints)))
   pub value : subService m ≡ 0x05 → length m ≡ 7 → filterOf m ≤ 2
       → AnsweredWith t m (map valueEntry (keep (passes (filterOf m)) (found datapointId 0xFFFF (t .datapoints))))
   -- there is no parameter byte of that index
@@ -243,6 +296,7 @@ RefusedWith t m id code = carriedOut t m ≡ record { says = coded m id code; af
 pub record EmptyTable (t : Tables) (m : List ℕ) : Type 0 where
   -- "a datapoint get of the right size, number 1 or more and filter at most 2 gives 2"
   pub descriptions : subService m ≡ 0x03 → length m ≡ 6 → 1 ≤ numberOf m → RefusedWith t m (startOf m) 2
+  pub strings : subService m ≡ 0x04 → length m ≡ 6 → 1 ≤ numberOf m → RefusedWith t m (startOf m) 2
   pub values : subService m ≡ 0x05 → length m ≡ 7 → 1 ≤ numberOf m → filterOf m ≤ 2 → RefusedWith t m (startOf m) 2
   -- "a datapoint set whose one or more entries fill the message gives 7"
   pub set : subService m ≡ 0x06 → 6 ≤ length m → 1 ≤ numberOf m → T (fills 4 (numberOf m) (drop 6 m))
@@ -263,7 +317,8 @@ Holds last-id-only = LastIdOnly
 Holds empty-tables = EmptyTables
 
 unfoldable pub cases : List Case
-cases = case1 ∷ case2 ∷ case2even ∷ case3 ∷ case4 ∷ case5 ∷ case5more ∷ case6 ∷ case6more ∷ case9 ∷ case9one ∷ []
+cases = case1 ∷ case2 ∷ case2even ∷ case3 ∷ case4 ∷ case5 ∷ case5more ∷ case6 ∷ case6more ∷ case9 ∷ case9one ∷ caseTexts
+    ∷ caseLongTexts ∷ caseLongTextsMore ∷ []
 
 unfoldable pub examples : List Example
 examples = map computed cases ++ last-id-only ∷ empty-tables ∷ []

@@ -27,7 +27,7 @@ use records::datapoint::passes_filter;
 use values::value::size_of;
 
 // Whether the ID is behind the range.
-fn is_behind(w: Wanted, id: u16) -> bool
+pub fn is_behind(w: Wanted, id: u16) -> bool
     ensures { λ r. ⌜ r ≡ isBehind w id ⌝ }
 {
     w.end <= id as u32
@@ -95,8 +95,8 @@ fn ended(g: Gathered) -> Gathered
 }
 
 // An entry of so many bytes is counted, or is the first that does not fit.
-fn with_entry(g: Gathered, id: u16, n: usize) -> Gathered
-    requires { ⌜ (g .count ≤ g .size) × (g .size ≤ 248) × (n ≤ 19) ⌝ }
+pub fn with_entry(g: Gathered, id: u16, n: usize) -> Gathered
+    requires { ⌜ (g .count ≤ g .size) × (g .size ≤ 248) × (n ≤ 32) ⌝ }
     ensures { λ r. ⌜ r ≡ withEntry id n g ⌝ }
 {
     let size = g.size + n;

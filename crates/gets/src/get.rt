@@ -61,7 +61,7 @@ fn size_asked(values: bool) -> usize
 }
 
 // What the request asks for: values, or anything else.
-fn wanted(m: &[u8], values: bool) -> Wanted
+pub fn wanted(m: &[u8], values: bool) -> Wanted
     requires { ⌜ 6 ≤ length (now m) ⌝ }
     ensures { λ r. ⌜ r ≡ wantedOf values (now (m .entry)) ⌝ }
 {
@@ -77,7 +77,7 @@ fn wanted(m: &[u8], values: bool) -> Wanted
 }
 
 // Rows 10 and 6.
-fn request_verdict(m: &[u8], values: bool) -> Verdict
+pub fn request_verdict(m: &[u8], values: bool) -> Verdict
     requires { ⌜ 6 ≤ length (now m) ⌝ }
     ensures { λ r. ⌜ r ≡ verdictOf (requestFinding values (now (m .entry))) ⌝ }
 {
@@ -107,7 +107,7 @@ fn request_verdict(m: &[u8], values: bool) -> Verdict
 }
 
 // Rows 2 and 3.
-fn gathered_verdict(start: u16, g: Gathered) -> Verdict
+pub fn gathered_verdict(start: u16, g: Gathered) -> Verdict
     ensures { λ r. ⌜ r ≡ gatheredVerdict start g ⌝ }
 {
     if g.over != 0 {

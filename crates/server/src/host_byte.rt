@@ -6,6 +6,7 @@ ghost use lib.Dec.{T};
 ghost use Rattle.words.specs.Words.{put};
 ghost use Rattle.ft12.specs.Record.{lineOf, inRange};
 ghost use Rattle.ft12.specs.Rules.{onHostByte};
+ghost use Rattle.baos.specs.Text.{textLists};
 ghost use Rattle.baos.specs.Table.{tablesOf, wellFormed};
 ghost use Rattle.calls.specs.Call.{accepted, onMoved};
 ghost use Rattle.calls.specs.Promise.{Leaves, acknowledgementOf, requestL};
@@ -66,20 +67,23 @@ fn request_l(heard: Heard) -> u8
 
 // A host byte. A request's message is carried out where it stands in the receiver, and its answer is framed in the
 // output right after the acknowledgement.
-pub fn on_host_byte(
+pub fn on_host_byte<'a>(
     b: u8,
     datapoints: &mut [Datapoint],
     items: &mut [Item],
     parameters: &mut [u8],
+    site: &'a [u8],
+    defaults: &'a [u8],
     link: &mut Link,
     out: &mut [u8],
 ) -> Reply
-    requires { ⌜ T (wellFormed (tablesOf (now datapoints) (now items) (now parameters))) × T (inRange (now link))
-        × (262 ≤ length (now out)) ⌝ }
+    requires { ⌜ T (wellFormed (tablesOf (now datapoints) (now items) (now parameters)
+        (textLists (now site) (now defaults)))) × T (inRange (now link)) × (262 ≤ length (now out)) ⌝ }
     ensures { λ r. ⌜ Leaves (accepted (now (out .entry)) (onMoved (onHostByte b (lineOf (now (link .entry))))
-        (tablesOf (now (datapoints .entry)) (now (items .entry)) (now (parameters .entry))))) r
-        (tablesOf (now (datapoints .exit)) (now (items .exit)) (now (parameters .exit))) (now (link .exit))
-        (now (out .exit)) ⌝ }
+        (tablesOf (now (datapoints .entry)) (now (items .entry)) (now (parameters .entry))
+        (textLists (now (site .entry)) (now (defaults .entry)))))) r
+        (tablesOf (now (datapoints .exit)) (now (items .exit)) (now (parameters .exit))
+        (textLists (now (site .entry)) (now (defaults .entry)))) (now (link .exit)) (now (out .exit)) ⌝ }
 {
     let heard = host_byte(link, b);
     let sent = acknowledge(heard, out);
@@ -88,7 +92,16 @@ pub fn on_host_byte(
         return Reply::Accepted(sent);
     }
     let message = request_message(&link.receiver, l);
-    let answered = carry_out(datapoints, items, parameters, message, out, ANSWER_AT);
+    let answered = carry_out(
+        datapoints,
+        items,
+        parameters,
+        site,
+        defaults,
+        message,
+        out,
+        ANSWER_AT,
+    );
     clear_request(link);
     let framed = take_message(link, out, ANSWER_FRAME_AT, answered - ANSWER_AT);
     Reply::Accepted(framed + ANSWER_FRAME_AT)

@@ -5,6 +5,7 @@ ghost use Prim.Native.Nat.{_+_, _≤_};
 ghost use lib.ListN.{length};
 ghost use Rattle.baos.specs.Datapoint.{datapointId, datapointOk};
 ghost use Rattle.baos.specs.Item.{itemId, itemOk};
+ghost use Rattle.baos.specs.Text.{textLists, textListsOk};
 ghost use Rattle.baos.specs.Table.{tablesOf, tableOk};
 ghost use Rattle.baos.specs.Service.{unanswered, carriedOut};
 ghost use Rattle.baos.specs.Inner.Promise.{Carried};
@@ -14,6 +15,7 @@ use baos::item::Item;
 use baos::service::ANSWER;
 use baos::service::GET_DATAPOINT_DESCRIPTION;
 use baos::service::GET_DATAPOINT_VALUE;
+use baos::service::GET_DESCRIPTION_STRING;
 use baos::service::GET_PARAMETER_BYTE;
 use baos::service::GET_SERVER_ITEM;
 use baos::service::MAIN_SERVICE;
@@ -30,6 +32,7 @@ use messages::message::sub_service_of;
 use parameters::parameter::set_parameters;
 use sets::set::set_datapoints;
 use sets::set::set_items;
+use strings::get::get_strings;
 
 // Whether the message gets no answer.
 fn is_unanswered(m: &[u8]) -> bool
@@ -45,19 +48,22 @@ fn is_unanswered(m: &[u8]) -> bool
 }
 
 // A message carried out: the answer, into the buffer at `at`, or nothing where none is due; answers where it ends.
-pub fn carry_out(
+pub fn carry_out<'a>(
     datapoints: &mut [Datapoint],
     items: &mut [Item],
     parameters: &mut [u8],
+    site: &'a [u8],
+    defaults: &'a [u8],
     m: &[u8],
     out: &mut [u8],
     at: usize,
 ) -> usize
     requires { ⌜ (tableOk 1000 datapointId datapointOk (now datapoints) ≡ true)
         × (tableOk 64 itemId itemOk (now items) ≡ true) × (length (now parameters) ≤ 255)
-        × (at + 254 ≤ length (now out)) × (length (now m) ≤ 254) ⌝ }
-    ensures { λ r. ⌜ Carried (carriedOut
-        (tablesOf (now (datapoints .entry)) (now (items .entry)) (now (parameters .entry))) (now (m .entry)))
+        × (textListsOk (textLists (now site) (now defaults)) ≡ true) × (at + 254 ≤ length (now out))
+        × (length (now m) ≤ 254) ⌝ }
+    ensures { λ r. ⌜ Carried (carriedOut (tablesOf (now (datapoints .entry)) (now (items .entry))
+        (now (parameters .entry)) (textLists (now (site .entry)) (now (defaults .entry)))) (now (m .entry)))
         (now (out .entry)) at r (now (out .exit)) (now (datapoints .exit)) (now (items .exit))
         (now (parameters .exit)) ⌝ }
 {
@@ -73,6 +79,9 @@ pub fn carry_out(
     }
     if sub == GET_DATAPOINT_DESCRIPTION {
         return get_datapoints(datapoints, m, false, out, at);
+    }
+    if sub == GET_DESCRIPTION_STRING {
+        return get_strings(datapoints, site, defaults, m, out, at);
     }
     if sub == GET_DATAPOINT_VALUE {
         return get_datapoints(datapoints, m, true, out, at);

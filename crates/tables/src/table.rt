@@ -7,6 +7,7 @@ ghost use lib.ListN.{length, getD, set};
 ghost use lib.Dec.{eqb};
 ghost use Rattle.baos.specs.Datapoint.{datapointId, datapointOk, zeroDatapoint};
 ghost use Rattle.baos.specs.Item.{itemId, itemOk, zeroItem};
+ghost use Rattle.baos.specs.Text.{textLists};
 ghost use Rattle.baos.specs.Table.{tablesOf, tableOk, tablesOk, place, rising};
 use baos::datapoint::Datapoint;
 use baos::item::Item;
@@ -17,6 +18,7 @@ use masks::datapoint::fits_after;
 use masks::datapoint::four_fit_after;
 use masks::item::four_items_fit_after;
 use masks::item::item_fits_after;
+use texts::text_list::text_lists_ok;
 
 // Whether the table of datapoints is well formed, in one pass.
 fn datapoints_well_formed(table: &[Datapoint]) -> bool
@@ -84,11 +86,18 @@ fn items_well_formed(table: &[Item]) -> bool
     true
 }
 
-// Whether refusal 1 is not given: each table is well formed. How many bytes are outstanding, 0 where nothing is, is
+// Whether refusal 1 is not given: each table and both text lists are well formed. How many bytes are outstanding, 0 where nothing is, is
 // told beside them; no record names a frame.
-pub fn tables_ok(datapoints: &[Datapoint], items: &[Item], parameters: &[u8], held: u16) -> bool
-    ensures { λ r. ⌜ r ≡ tablesOk (not (eqb held 0))
-        (tablesOf (now (datapoints .entry)) (now (items .entry)) (now (parameters .entry))) ⌝ }
+pub fn tables_ok<'a>(
+    datapoints: &[Datapoint],
+    items: &[Item],
+    parameters: &[u8],
+    site: &'a [u8],
+    defaults: &'a [u8],
+    held: u16,
+) -> bool
+    ensures { λ r. ⌜ r ≡ tablesOk (not (eqb held 0)) (tablesOf (now (datapoints .entry)) (now (items .entry))
+        (now (parameters .entry)) (textLists (now (site .entry)) (now (defaults .entry)))) ⌝ }
 {
     if !datapoints_well_formed(datapoints) {
         return false;
@@ -96,7 +105,10 @@ pub fn tables_ok(datapoints: &[Datapoint], items: &[Item], parameters: &[u8], he
     if !items_well_formed(items) {
         return false;
     }
-    parameters.len() <= MOST_PARAMETERS
+    if MOST_PARAMETERS < parameters.len() {
+        return false;
+    }
+    text_lists_ok(site, defaults)
 }
 
 // How many datapoints have a lower ID: where the datapoint of this ID stands if there is one. The width falls 1023,

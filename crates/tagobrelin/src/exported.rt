@@ -1,6 +1,7 @@
 // What firmware links.
 ghost use mathlib.Core.Path.{_≡_};
 ghost use Rattle.ft12.specs.Record.{linkOf};
+ghost use Rattle.baos.specs.Text.{textLists};
 ghost use Rattle.baos.specs.Table.{tablesOf};
 ghost use Rattle.calls.specs.Exported.{calledBy, Gives, freshLine};
 use baos::datapoint::Datapoint;
@@ -14,7 +15,7 @@ use server::call::call;
 // One event, by numbers. Answers how many bytes of the output are to be sent, or a number below 0, with nothing
 // altered.
 #[no_mangle]
-pub extern "C" fn tagobrelin_call(
+pub extern "C" fn tagobrelin_call<'a>(
     event: u8,
     byte: u8,
     id: u16,
@@ -23,20 +24,32 @@ pub extern "C" fn tagobrelin_call(
     datapoints: &mut [Datapoint],
     items: &mut [Item],
     parameters: &mut [u8],
+    site: &'a [u8],
+    defaults: &'a [u8],
     link: &mut Link,
     out: &mut [u8],
 ) -> i32
     ensures { λ r. ⌜ Gives (calledBy event byte id outcome (now (value .entry))
-        (tablesOf (now (datapoints .entry)) (now (items .entry)) (now (parameters .entry))) (now (link .entry))
-        (now (out .entry))) r
-        (tablesOf (now (datapoints .exit)) (now (items .exit)) (now (parameters .exit))) (now (link .exit))
-        (now (out .exit)) ⌝ }
+        (tablesOf (now (datapoints .entry)) (now (items .entry)) (now (parameters .entry))
+        (textLists (now (site .entry)) (now (defaults .entry)))) (now (link .entry)) (now (out .entry))) r
+        (tablesOf (now (datapoints .exit)) (now (items .exit)) (now (parameters .exit))
+        (textLists (now (site .entry)) (now (defaults .entry)))) (now (link .exit)) (now (out .exit)) ⌝ }
 {
     if !is_event(event, outcome) {
         return -100;
     }
     let happened = event_numbered(event, byte, id, outcome);
-    let reply = call(happened, value, datapoints, items, parameters, link, out);
+    let reply = call(
+        happened,
+        value,
+        datapoints,
+        items,
+        parameters,
+        site,
+        defaults,
+        link,
+        out,
+    );
     reply_number(reply)
 }
 

@@ -1,10 +1,10 @@
 use borrow.Author.Needs.{needs}
-use Rattle.bench.specs.Bench.{idleLink, noDatapoint, noItem, emptyBench}
+use Rattle.bench.specs.Bench.{idleLink, noDatapoint, noItem, noLists, emptyBench}
 use Rattle.bench.proofs.bench.empty.Statement.{statement}
 use Rattle.bench.proofs.bench.empty.Tie as tie
 
 returns : tie.Need-returns
-unfolding emptyBench idleLink noDatapoint noItem
+unfolding emptyBench idleLink noDatapoint noItem noLists
 returns c = search needs
 
 pub empty-spec : {M : Type 1} → statement M

@@ -11,11 +11,11 @@ enum-known-reply c = search needs
 
 returns : tie.Need-returns
 unfolding countSent
-returns c = search needs
+returns c = rw (c .enum-told .given .1)
 
 returns-2 : tie.Need-returns-2
 unfolding countSent
-returns-2 c = search needs
+returns-2 c = rw (c .before .reply .given .1)
 
 pub sent-count-spec : {M : Type 1} → statement M
 sent-count-spec = tie.close (tie.spec enum-told enum-known-reply returns returns-2)

@@ -1,6 +1,6 @@
 -- A walk: the byte is heard and acknowledged; where it ends a request, its message is handed up where it stands and carried out, and the answer is taken back. Each exit is one law of HostByteLaws. Assumes nothing.
 use Rattle.walks.proofs.Data.{unitD, Good, typed, pinned}
-use Rattle.walks.proofs.Walk.{allocs-all, frees-all, Param, dataP, mutP, mutSliceP, Ends, ends-in, Walk, meets-by, behind, starts, cell, room}
+use Rattle.walks.proofs.Walk.{allocs-all, frees-all, Param, dataP, mutP, mutSliceP, shrSliceP, Ends, ends-in, Walk, meets-by, behind, starts, cell, room}
 use Rattle.walks.proofs.Branches.{leaves-early, no-T}
 use Rattle.walks.proofs.Fields.{lends, backs}
 use Rattle.walks.proofs.Slices.{lendsS, backsS}
@@ -47,6 +47,7 @@ use Rattle.ft12.proofs.Types.{byteD, sizeD, linkD, heardD}
 use Rattle.ft12.proofs.RequestLaws.{host-byte-range}
 use Rattle.baos.specs.declared.datapoint.Datapoint.{Datapoint}
 use Rattle.baos.specs.declared.item.Item.{Item}
+use Rattle.baos.specs.Text.{TextLists, textLists}
 use Rattle.baos.specs.Table.{wellFormed, tablesOf as tablesWith}
 use Rattle.baos.specs.Message.{Served}
 use Rattle.baos.proofs.Types.{datapointD, itemD}
@@ -90,8 +91,8 @@ use Rattle.server.proofs.host_byte.on_host_byte as f
 use Rattle.server.proofs.host_byte.on_host_byte.Statement as stated
 use Rattle.server.proofs.host_byte.on_host_byte.Code as code
 
-abbrev ps : List (Param 5)
-ps = dataP 5 byteD ∷ mutSliceP 5 0 tt datapointD ∷ mutSliceP 5 1 tt itemD ∷ mutSliceP 5 2 tt byteD ∷ mutP 5 3 tt linkD ∷ mutSliceP 5 4 tt byteD ∷ []
+abbrev ps : List (Param 6)
+ps = dataP 6 byteD ∷ mutSliceP 6 0 tt datapointD ∷ mutSliceP 6 1 tt itemD ∷ mutSliceP 6 2 tt byteD ∷ shrSliceP 6 3 tt byteD ∷ shrSliceP 6 3 tt byteD ∷ mutP 6 4 tt linkD ∷ mutSliceP 6 5 tt byteD ∷ []
 
 less : (a c : ℕ) → a < 2 ^ 64 → a - c < 2 ^ 64
 less a c h = omega (arith, h)
@@ -134,9 +135,9 @@ C-carry-out 𝓤 H A mem run = tripleOf 𝓤 H A carry-out.signature (carry-out.
 
 module _ {M : Type 1} (𝓤 : URA M) (H : Heap 𝓤) (A : Atoms 𝓤) (W : Given 𝓤 H A) (mem : Memory → SProp 𝓤) (run : Routine → Fun 𝓤) (𝓣 : Tables 𝓤 H)
     (known-clear-request : Triple 𝓤 (𝓣 .C #link·events·clear-request) (C-clear-request 𝓤 H A mem run)) (known-host-byte : Triple 𝓤 (𝓣 .C #link·events·host-byte) (C-host-byte 𝓤 H A mem run)) (known-take-message : Triple 𝓤 (𝓣 .C #link·events·take-message) (C-take-message 𝓤 H A mem run)) (known-request-message : Triple 𝓤 (𝓣 .C #hearing·request·request-message) (C-request-message 𝓤 H A mem run)) (known-acknowledge : Triple 𝓤 (𝓣 .C #server·host-byte·acknowledge) (C-acknowledge 𝓤 H A mem run)) (known-request-l : Triple 𝓤 (𝓣 .C #server·host-byte·request-l) (C-request-l 𝓤 H A mem run)) (known-carry-out : Triple 𝓤 (𝓣 .C #services·service·carry-out) (C-carry-out 𝓤 H A mem run))
-    (κ0 κ1 κ2 κ3 κ4 : Lft) (q0 q1 q2 q3 q4 : Share) (b : ℕ) (datapoints : RefT (List Datapoint)) (items : RefT (List Item)) (parameters : RefT (List ℕ)) (link : RefT Link) (out : RefT (List ℕ)) (b-ok : Good byteD b) (datapoints-room : Room (datapointD .row) (length (datapoints .now))) (items-room : Room (itemD .row) (length (items .now))) (parameters-room : Room (byteD .row) (length (parameters .now))) (out-room : Room (byteD .row) (length (out .now))) (lt : T (wellFormed (tablesWith (datapoints .now) (items .now) (parameters .now))) × T (inRange (link .now)) × (262 ≤ length (out .now))) where
-  abbrev x : ℕ × (RefT (List Datapoint) × (RefT (List Item) × (RefT (List ℕ) × (RefT Link × (RefT (List ℕ) × Unit {0})))))
-  x = (b, (datapoints, (items, (parameters, (link, (out, tt))))))
+    (κ0 κ1 κ2 κt κ3 κ4 : Lft) (q0 q1 q2 qt q3 q4 : Share) (b : ℕ) (datapoints : RefT (List Datapoint)) (items : RefT (List Item)) (parameters : RefT (List ℕ)) (site : RefT (List ℕ)) (defaults : RefT (List ℕ)) (link : RefT Link) (out : RefT (List ℕ)) (b-ok : Good byteD b) (datapoints-room : Room (datapointD .row) (length (datapoints .now))) (items-room : Room (itemD .row) (length (items .now))) (parameters-room : Room (byteD .row) (length (parameters .now))) (site-room : Room (byteD .row) (length (site .now))) (defaults-room : Room (byteD .row) (length (defaults .now))) (out-room : Room (byteD .row) (length (out .now))) (lt : T (wellFormed (tablesWith (datapoints .now) (items .now) (parameters .now) (textLists (site .now) (defaults .now)))) × T (inRange (link .now)) × (262 ≤ length (out .now))) where
+  abbrev x : ℕ × (RefT (List Datapoint) × (RefT (List Item) × (RefT (List ℕ) × (RefT (List ℕ) × (RefT (List ℕ) × (RefT Link × (RefT (List ℕ) × Unit {0})))))))
+  x = (b, (datapoints, (items, (parameters, (site, (defaults, (link, (out, tt))))))))
 
   abbrev h : Link
   h = link .now
@@ -149,6 +150,9 @@ module _ {M : Type 1} (𝓤 : URA M) (H : Heap 𝓤) (A : Atoms 𝓤) (W : Given
 
   abbrev ps′ : List ℕ
   ps′ = parameters .now
+
+  abbrev ts : TextLists
+  ts = textLists (site .now) (defaults .now)
 
   abbrev m : ℕ
   m = length (out .now)
@@ -169,16 +173,16 @@ module _ {M : Type 1} (𝓤 : URA M) (H : Heap 𝓤) (A : Atoms 𝓤) (W : Given
   sent = length (acknowledgementOf heard)
 
   abbrev out₁ : List ℕ
-  out₁ = acknowledgedOut b h (out .now) ds is ps′
+  out₁ = acknowledgedOut b h (out .now) ds is ps′ ts
 
   abbrev n : ℕ
-  n = lAt b h (out .now) ds is ps′
+  n = lAt b h (out .now) ds is ps′ ts
 
   abbrev ms : List ℕ
-  ms = asks b h (out .now) ds is ps′
+  ms = asks b h (out .now) ds is ps′ ts
 
   abbrev s : Served
-  s = carries b h (out .now) ds is ps′
+  s = carries b h (out .now) ds is ps′ ts
 
   abbrev ds′ : List Datapoint
   ds′ = s .after .datapoints
@@ -190,16 +194,16 @@ module _ {M : Type 1} (𝓤 : URA M) (H : Heap 𝓤) (A : Atoms 𝓤) (W : Given
   ps″ = s .after .parameters
 
   abbrev out₂ : List ℕ
-  out₂ = answeredOut b h (out .now) ds is ps′
+  out₂ = answeredOut b h (out .now) ds is ps′ ts
 
   abbrev answered : ℕ
   answered = 6 + length (s .says)
 
   abbrev h₂ : Link
-  h₂ = clearedLink b h (out .now) ds is ps′
+  h₂ = clearedLink b h (out .now) ds is ps′ ts
 
   abbrev taken : Moved
-  taken = takenBack b h (out .now) ds is ps′
+  taken = takenBack b h (out .now) ds is ps′ ts
 
   abbrev framed : ℕ
   framed = length (taken .sent)
@@ -214,68 +218,70 @@ module _ {M : Type 1} (𝓤 : URA M) (H : Heap 𝓤) (A : Atoms 𝓤) (W : Given
   asked some = eqb-false n 0 (no-T (eqb n 0) some)
 
   one-more : framed + 1 < 2 ^ 64
-  one-more = omega (arith, taken-short (readBack b h (out .now) ds is ps′) (lineOf h₂))
+  one-more = omega (arith, taken-short (readBack b h (out .now) ds is ps′ ts) (lineOf h₂))
 
   abbrev Done : Val → SProp 𝓤
-  Done = Ends 5 𝓤 H A W ps replyD (f.clauses 𝓤 H A mem run) (κ0, (κ1, (κ2, (κ3, (κ4, tt))))) (q0, (q1, (q2, (q3, (q4, tt))))) x tt
+  Done = Ends 6 𝓤 H A W ps replyD (f.clauses 𝓤 H A mem run) (κ0, (κ1, (κ2, (κt, (κ3, (κ4, tt)))))) (q0, (q1, (q2, (qt, (q3, (q4, tt)))))) x tt
 
-  walk : Walk 5 𝓤 H A W ps replyD (f.clauses 𝓤 H A mem run) 𝓣 code.function (κ0, (κ1, (κ2, (κ3, (κ4, tt))))) (q0, (q1, (q2, (q3, (q4, tt))))) x tt
+  walk : Walk 6 𝓤 H A W ps replyD (f.clauses 𝓤 H A mem run) 𝓣 code.function (κ0, (κ1, (κ2, (κt, (κ3, (κ4, tt)))))) (q0, (q1, (q2, (qt, (q3, (q4, tt)))))) x tt
   walk =
-      starts 𝓤 H A W 5 ps (κ0, (κ1, (κ2, (κ3, (κ4, tt))))) (q0, (q1, (q2, (q3, (q4, tt))))) x ∵ enter ! (𝓣 .C) (𝓣 .Λ) code.function _ _ $ allocs-all ! (code.function .locals) (λ l. params1 ! $
-      pass1 ! (init ! 60 refl (typed 𝓤 H A byteD W b b-ok .0)) $
-      pass1 ! (init ! 58 refl (tt, (tt, (record { fits = datapoints-room .0 }, tt)))) $
-      pass1 ! (init ! 56 refl (tt, (tt, (record { fits = items-room .0 }, tt)))) $
-      pass1 ! (init ! 54 refl (tt, (tt, (record { fits = parameters-room .0 }, tt)))) $
+      starts 𝓤 H A W 6 ps (κ0, (κ1, (κ2, (κt, (κ3, (κ4, tt)))))) (q0, (q1, (q2, (qt, (q3, (q4, tt)))))) x ∵ enter ! (𝓣 .C) (𝓣 .Λ) code.function _ _ $ allocs-all ! (code.function .locals) (λ l. params1 ! $
+      pass1 ! (init ! 64 refl (typed 𝓤 H A byteD W b b-ok .0)) $
+      pass1 ! (init ! 62 refl (tt, (tt, (record { fits = datapoints-room .0 }, tt)))) $
+      pass1 ! (init ! 60 refl (tt, (tt, (record { fits = items-room .0 }, tt)))) $
+      pass1 ! (init ! 58 refl (tt, (tt, (record { fits = parameters-room .0 }, tt)))) $
+      pass1 ! (init ! 56 refl (tt, (tt, (record { fits = site-room .0 }, tt)))) $
+      pass1 ! (init ! 54 refl (tt, (tt, (record { fits = defaults-room .0 }, tt)))) $
       pass1 ! (init ! 52 refl (tt, tt)) $
       pass1 ! (init ! 50 refl (tt, (tt, (record { fits = out-room .0 }, tt)))) $
       pass0 ! $
-      move ! (73 ∷ 67 ∷ 70 ∷ 64 ∷ 71 ∷ 65 ∷ 72 ∷ 66 ∷ 74 ∷ 68 ∷ []) $
+      move ! (80 ∷ 72 ∷ 75 ∷ 68 ∷ 76 ∷ 69 ∷ 77 ∷ 70 ∷ 78 ∷ 79 ∷ 71 ∷ 81 ∷ 73 ∷ []) $
       -- the byte is heard
-      assigns ! (addr ! (from ! (hop ! (look ! 62 refl) (stop !)))) (from ! (stop !)) (init ! 46 refl (tt, tt)) $
+      assigns ! (addr ! (from ! (hop ! (look ! 65 refl) (stop !)))) (from ! (stop !)) (init ! 49 refl (tt, tt)) $
       calls-mut ! (fmOf 𝓤 H (W .laws) 𝓣) linkD (byteD ∷ []) heardD (host-byte.clauses 𝓤 H A mem run) known-host-byte (λ _. (b, tt)) (λ _ _. tt) (λ _. (b-ok, tt)) (λ _ _. factI 𝓤 _ (emp 𝓤) (lt .1)) h₁ heard (λ _ _ _ _. fact-use 𝓤 _ (id⊢ 𝓤 _) (λ z. factI 𝓤 _ _ (z .link, z .answer)))
-      (λ _ _ _. (and-then ! (load ! (from ! (stop !)) (look ! 46 refl)) (and-then ! (load ! (from ! (stop !)) (look ! 70 refl)) (no-more !)))) (λ is₁.
-      land ! (from ! (stop !)) (init ! 58 refl (typed 𝓤 H A heardD W heard is₁ .0)) $
+      (λ _ _ _. (and-then ! (load ! (from ! (stop !)) (look ! 49 refl)) (and-then ! (load ! (from ! (stop !)) (look ! 77 refl)) (no-more !)))) (λ is₁.
+      land ! (from ! (stop !)) (init ! 61 refl (typed 𝓤 H A heardD W heard is₁ .0)) $
       -- it is acknowledged
-      assigns ! (addr ! (from ! (fld ! refl (hop ! (look-in ! 60 (sub ! 0 refl (whole !))) (stop !))))) (from ! (stop !)) (init ! 44 refl (tt, tt)) $
-      assigns ! (agg ! (and-then ! (load ! (from ! (stop !)) (look ! 44 refl)) (and-then ! (load ! (from ! (fld ! refl (stop !))) (look-in ! 60 (sub ! 1 refl (whole !)))) (no-more !)))) (from ! (stop !)) (init ! 42 refl (tt, (tt, (record { fits = out-room .0 }, tt)))) $
-      move ! (8 ∷ 9 ∷ []) $
+      assigns ! (addr ! (from ! (fld ! refl (hop ! (look-in ! 63 (sub ! 0 refl (whole !))) (stop !))))) (from ! (stop !)) (init ! 47 refl (tt, tt)) $
+      assigns ! (agg ! (and-then ! (load ! (from ! (stop !)) (look ! 47 refl)) (and-then ! (load ! (from ! (fld ! refl (stop !))) (look-in ! 63 (sub ! 1 refl (whole !)))) (no-more !)))) (from ! (stop !)) (init ! 45 refl (tt, (tt, (record { fits = out-room .0 }, tt)))) $
+      move ! (11 ∷ 12 ∷ []) $
       lendsS ! tt byteD m (out .now) refl (λ ν₀ δ₀ rm₀.
       use0 W (‵ (heardD .row .own heard (heardD .val heard ∷ []))) (heardD .made 𝓤 H A W heard (heardD .val heard ∷ []) is₁) $
       move ! (1 ∷ 0 ∷ 2 ∷ []) $
       calls-any ! (fmOf 𝓤 H (W .laws) 𝓣) acknowledge.ended (acknowledge.clauses 𝓤 H A mem run) known-acknowledge (((ν₀ ∷ [], tt), (fullShare, tt), tt, (heard, (record { ptr = out .ptr; name = δ₀; now = out .now }, tt)), (heardD .val heard ∷ [], (sliceVal (out .ptr) m ∷ [], tt))), tt) (factI 𝓤 _ (emp 𝓤) (lt .2)) sizeD sent (λ ws. ws .1 .0 ≡ out₁)
       (λ v r ws is. fact-use 𝓤 _ (id⊢ 𝓤 _) (λ z. factI 𝓤 _ _ (z .0, pinned sizeD r sent v is (z .1))))
-      (and-then ! (load ! (from ! (stop !)) (look ! 58 refl)) (and-then ! (load ! (from ! (stop !)) (look ! 42 refl)) (no-more !))) (λ ws z isacknowledge.
+      (and-then ! (load ! (from ! (stop !)) (look ! 61 refl)) (and-then ! (load ! (from ! (stop !)) (look ! 45 refl)) (no-more !))) (λ ws z isacknowledge.
       move ! (0 ∷ 2 ∷ 3 ∷ []) $
       backsS ! tt byteD m (out .now) refl rm₀ (ws .1 .0) out₁ z (λ long₁.
       move ! (2 ∷ []) $
       toss ! $
-      land ! (from ! (stop !)) (init ! 56 refl (typed 𝓤 H A sizeD W sent isacknowledge .0)) $
+      land ! (from ! (stop !)) (init ! 59 refl (typed 𝓤 H A sizeD W sent isacknowledge .0)) $
       -- whether it ended a request
       calls-plain ! (fmOf 𝓤 H (W .laws) 𝓣) (heardD ∷ []) byteD (request-l.clauses 𝓤 H A mem run) known-request-l (heard, tt) tt (is₁, tt) (id⊢ 𝓤 _) n (λ _ _. id⊢ 𝓤 _)
-      (λ _. (and-then ! (load ! (from ! (stop !)) (look ! 59 refl)) (no-more !))) (λ is₃.
-      land ! (from ! (stop !)) (init ! 54 refl (typed 𝓤 H A byteD W n is₃ .0)) $
-      assigns ! (bin ! (load ! (from ! (stop !)) (look ! 54 refl)) (lit ! tt) tt) (from ! (stop !)) (init ! 40 refl (tt, tt)) $
-      leaves-early ! (load ! (from ! (stop !)) (look ! 40 refl)) (λ none.
-      assigns ! (agg ! (and-then ! (lit ! tt) (and-then ! (load ! (from ! (stop !)) (look ! 56 refl)) (no-more !)))) (from ! (stop !)) (init ! 72 refl (typed 𝓤 H A replyD W (Accepted sent) (reply-good sent (isacknowledge .1)) .0)) $
-      returns-within ! Done refl (look ! 72 refl) $ behind ! 10 $ frees-all ! (room ∷ room ∷ room ∷ room ∷ room ∷ room ∷ room ∷ room ∷ room ∷ room ∷ room ∷ room ∷ room ∷ room ∷ room ∷ cell ∷ cell ∷ cell ∷ cell ∷ room ∷ room ∷ room ∷ cell ∷ cell ∷ cell ∷ cell ∷ cell ∷ cell ∷ cell ∷ cell ∷ cell ∷ cell ∷ []) _ $
-      suffices ! _ (ends-in 5 𝓤 H A W ps replyD (f.clauses 𝓤 H A mem run) (κ0, (κ1, (κ2, (κ3, (κ4, tt))))) (q0, (q1, (q2, (q3, (q4, tt))))) x tt (Accepted sent) (tt, (ds, (is, (ps′, (h₁, (out₁, tt)))))) (tt, (refl, (refl, (refl, (tt, (sym long₁, tt)))))) (reply-good sent (isacknowledge .1)) (factI 𝓤 _ (emp 𝓤) (no-request b h (out .now) (tablesWith ds is ps′) (lt .1) (eqb→eq n 0 none)))) $
-      nothing ! $ nothing ! $ nothing ! $ keep ! (9 ∷ 11 ∷ 13 ∷ 7 ∷ 5 ∷ 0 ∷ 1 ∷ 8 ∷ 10 ∷ 12 ∷ 6 ∷ 4 ∷ 2 ∷ []) $ group ! 6 $ frame ! $ done !
+      (λ _. (and-then ! (load ! (from ! (stop !)) (look ! 62 refl)) (no-more !))) (λ is₃.
+      land ! (from ! (stop !)) (init ! 57 refl (typed 𝓤 H A byteD W n is₃ .0)) $
+      assigns ! (bin ! (load ! (from ! (stop !)) (look ! 57 refl)) (lit ! tt) tt) (from ! (stop !)) (init ! 43 refl (tt, tt)) $
+      leaves-early ! (load ! (from ! (stop !)) (look ! 43 refl)) (λ none.
+      assigns ! (agg ! (and-then ! (lit ! tt) (and-then ! (load ! (from ! (stop !)) (look ! 59 refl)) (no-more !)))) (from ! (stop !)) (init ! 79 refl (typed 𝓤 H A replyD W (Accepted sent) (reply-good sent (isacknowledge .1)) .0)) $
+      returns-within ! Done refl (look ! 79 refl) $ behind ! 13 $ frees-all ! (room ∷ room ∷ room ∷ room ∷ room ∷ room ∷ room ∷ room ∷ room ∷ room ∷ room ∷ room ∷ room ∷ room ∷ room ∷ cell ∷ cell ∷ cell ∷ cell ∷ room ∷ room ∷ room ∷ cell ∷ cell ∷ cell ∷ cell ∷ cell ∷ cell ∷ cell ∷ cell ∷ cell ∷ cell ∷ cell ∷ cell ∷ []) _ $
+      suffices ! _ (ends-in 6 𝓤 H A W ps replyD (f.clauses 𝓤 H A mem run) (κ0, (κ1, (κ2, (κt, (κ3, (κ4, tt)))))) (q0, (q1, (q2, (qt, (q3, (q4, tt)))))) x tt (Accepted sent) (tt, (ds, (is, (ps′, (tt, (tt, (h₁, (out₁, tt)))))))) (tt, (refl, (refl, (refl, (tt, (tt, (tt, (sym long₁, tt)))))))) (reply-good sent (isacknowledge .1)) (factI 𝓤 _ (emp 𝓤) (no-request b h (out .now) (tablesWith ds is ps′ ts) (lt .1) (eqb→eq n 0 none)))) $
+      nothing ! $ nothing ! $ nothing ! $ nothing ! $ nothing ! $ keep ! (11 ∷ 13 ∷ 15 ∷ 18 ∷ 9 ∷ 7 ∷ 0 ∷ 1 ∷ 10 ∷ 12 ∷ 14 ∷ 2 ∷ 3 ∷ 8 ∷ 6 ∷ 4 ∷ []) $ group ! 7 $ frame ! $ done !
       ) (λ some.
       -- its message is handed up
-      assigns ! (addr ! (from ! (hop ! (look ! 62 refl) (fld ! refl (stop !))))) (from ! (stop !)) (init ! 38 refl (tt, tt)) $
+      assigns ! (addr ! (from ! (hop ! (look ! 65 refl) (fld ! refl (stop !))))) (from ! (stop !)) (init ! 41 refl (tt, tt)) $
       move ! (2 ∷ 3 ∷ []) $
-      hands-message ! (fmOf 𝓤 H (W .laws) 𝓣) (request-message.clauses 𝓤 H A mem run) known-request-message h₁ lb lo n (λ _ _. tt) is₃ (λ _ _. factI 𝓤 _ (emp 𝓤) (some-l b h (out .now) ds is ps′ (lt .2) (lt .1) (asked some))) ms (λ _ _ _ _. id⊢ 𝓤 _)
-      (λ _ _. (and-then ! (load ! (from ! (stop !)) (look ! 38 refl)) (and-then ! (load ! (from ! (stop !)) (look ! 54 refl)) (no-more !)))) (λ ν₃ p₃ δ₃ fits.
-      land ! (from ! (stop !)) (init ! 53 refl (tt, (tt, (record { fits = fits .0 .1 .0 }, tt)))) $
+      hands-message ! (fmOf 𝓤 H (W .laws) 𝓣) (request-message.clauses 𝓤 H A mem run) known-request-message h₁ lb lo n (λ _ _. tt) is₃ (λ _ _. factI 𝓤 _ (emp 𝓤) (some-l b h (out .now) ds is ps′ ts (lt .2) (lt .1) (asked some))) ms (λ _ _ _ _. id⊢ 𝓤 _)
+      (λ _ _. (and-then ! (load ! (from ! (stop !)) (look ! 41 refl)) (and-then ! (load ! (from ! (stop !)) (look ! 57 refl)) (no-more !)))) (λ ν₃ p₃ δ₃ fits.
+      land ! (from ! (stop !)) (init ! 56 refl (tt, (tt, (record { fits = fits .0 .1 .0 }, tt)))) $
       -- and carried out where it stands
-      assigns ! (addr ! (from ! (fld ! refl (hop ! (look-in ! 69 (sub ! 0 refl (whole !))) (stop !))))) (from ! (stop !)) (init ! 37 refl (tt, tt)) $
-      assigns ! (agg ! (and-then ! (load ! (from ! (stop !)) (look ! 37 refl)) (and-then ! (load ! (from ! (fld ! refl (stop !))) (look-in ! 69 (sub ! 1 refl (whole !)))) (no-more !)))) (from ! (stop !)) (init ! 35 refl (tt, (tt, (record { fits = datapoints-room .0 }, tt)))) $
-      assigns ! (addr ! (from ! (fld ! refl (hop ! (look-in ! 67 (sub ! 0 refl (whole !))) (stop !))))) (from ! (stop !)) (init ! 33 refl (tt, tt)) $
-      assigns ! (agg ! (and-then ! (load ! (from ! (stop !)) (look ! 33 refl)) (and-then ! (load ! (from ! (fld ! refl (stop !))) (look-in ! 67 (sub ! 1 refl (whole !)))) (no-more !)))) (from ! (stop !)) (init ! 31 refl (tt, (tt, (record { fits = items-room .0 }, tt)))) $
-      assigns ! (addr ! (from ! (fld ! refl (hop ! (look-in ! 65 (sub ! 0 refl (whole !))) (stop !))))) (from ! (stop !)) (init ! 29 refl (tt, tt)) $
-      assigns ! (agg ! (and-then ! (load ! (from ! (stop !)) (look ! 29 refl)) (and-then ! (load ! (from ! (fld ! refl (stop !))) (look-in ! 65 (sub ! 1 refl (whole !)))) (no-more !)))) (from ! (stop !)) (init ! 27 refl (tt, (tt, (record { fits = parameters-room .0 }, tt)))) $
-      assigns ! (addr ! (from ! (fld ! refl (hop ! (look-in ! 61 (sub ! 0 refl (whole !))) (stop !))))) (from ! (stop !)) (init ! 25 refl (tt, tt)) $
-      assigns ! (agg ! (and-then ! (load ! (from ! (stop !)) (look ! 25 refl)) (and-then ! (load ! (from ! (fld ! refl (stop !))) (look-in ! 61 (sub ! 1 refl (whole !)))) (no-more !)))) (from ! (stop !)) (init ! 23 refl (tt, (tt, (record { fits = out-room .0 }, tt)))) $
+      assigns ! (addr ! (from ! (fld ! refl (hop ! (look-in ! 76 (sub ! 0 refl (whole !))) (stop !))))) (from ! (stop !)) (init ! 40 refl (tt, tt)) $
+      assigns ! (agg ! (and-then ! (load ! (from ! (stop !)) (look ! 40 refl)) (and-then ! (load ! (from ! (fld ! refl (stop !))) (look-in ! 76 (sub ! 1 refl (whole !)))) (no-more !)))) (from ! (stop !)) (init ! 38 refl (tt, (tt, (record { fits = datapoints-room .0 }, tt)))) $
+      assigns ! (addr ! (from ! (fld ! refl (hop ! (look-in ! 74 (sub ! 0 refl (whole !))) (stop !))))) (from ! (stop !)) (init ! 36 refl (tt, tt)) $
+      assigns ! (agg ! (and-then ! (load ! (from ! (stop !)) (look ! 36 refl)) (and-then ! (load ! (from ! (fld ! refl (stop !))) (look-in ! 74 (sub ! 1 refl (whole !)))) (no-more !)))) (from ! (stop !)) (init ! 34 refl (tt, (tt, (record { fits = items-room .0 }, tt)))) $
+      assigns ! (addr ! (from ! (fld ! refl (hop ! (look-in ! 72 (sub ! 0 refl (whole !))) (stop !))))) (from ! (stop !)) (init ! 32 refl (tt, tt)) $
+      assigns ! (agg ! (and-then ! (load ! (from ! (stop !)) (look ! 32 refl)) (and-then ! (load ! (from ! (fld ! refl (stop !))) (look-in ! 72 (sub ! 1 refl (whole !)))) (no-more !)))) (from ! (stop !)) (init ! 30 refl (tt, (tt, (record { fits = parameters-room .0 }, tt)))) $
+      assigns ! (addr ! (from ! (fld ! refl (hop ! (look-in ! 64 (sub ! 0 refl (whole !))) (stop !))))) (from ! (stop !)) (init ! 28 refl (tt, tt)) $
+      assigns ! (agg ! (and-then ! (load ! (from ! (stop !)) (look ! 28 refl)) (and-then ! (load ! (from ! (fld ! refl (stop !))) (look-in ! 64 (sub ! 1 refl (whole !)))) (no-more !)))) (from ! (stop !)) (init ! 26 refl (tt, (tt, (record { fits = out-room .0 }, tt)))) $
       move ! (5 ∷ 6 ∷ []) $
       lendsS ! tt datapointD (length ds) ds refl (λ ν₁ δ₁ rm₁.
       move ! (8 ∷ 9 ∷ []) $
@@ -285,44 +291,44 @@ module _ {M : Type 1} (𝓤 : URA M) (H : Heap 𝓤) (A : Atoms 𝓤) (W : Given
       move ! (12 ∷ 13 ∷ []) $
       lendsS ! tt byteD m out₁ long₁ (λ ν₄ δ₄ rm₄.
       use0 W (‵ (sizeD .row .own 6 (sizeD .val 6 ∷ []))) (sizeD .made 𝓤 H A W 6 (sizeD .val 6 ∷ []) six-ok) $
-      move ! (10 ∷ 7 ∷ 4 ∷ 13 ∷ 1 ∷ 11 ∷ 8 ∷ 5 ∷ 14 ∷ 2 ∷ 0 ∷ []) $
-      calls-any ! (fmOf 𝓤 H (W .laws) 𝓣) carry-out.ended (carry-out.clauses 𝓤 H A mem run) known-carry-out (((ν₁ ∷ [], (ν₂ ∷ [], (ν₇ ∷ [], (ν₃ ∷ [], (ν₄ ∷ [], tt))))), (fullShare, (fullShare, (fullShare, (fullShare, (fullShare, tt))))), tt, (record { ptr = datapoints .ptr; name = δ₁; now = ds }, (record { ptr = items .ptr; name = δ₂; now = is }, (record { ptr = parameters .ptr; name = δ₇; now = ps′ }, (record { ptr = p₃; name = δ₃; now = ms }, (record { ptr = out .ptr; name = δ₄; now = out₁ }, (6, tt)))))), (sliceVal (datapoints .ptr) (length ds) ∷ [], (sliceVal (items .ptr) (length is) ∷ [], (sliceVal (parameters .ptr) (length ps′) ∷ [], (sliceVal p₃ (length ms) ∷ [], (sliceVal (out .ptr) m ∷ [], (sizeD .val 6 ∷ [], tt))))))), tt) (factI 𝓤 _ (emp 𝓤) (carry-needs b h (out .now) ds is ps′ (lt .2) (lt .1) (asked some) (lt .0))) sizeD answered (λ ws. (ws .0 ≡ ds′) × (ws .1 .0 ≡ is′) × (ws .1 .1 .0 ≡ ps″) × (ws .1 .1 .1 .1 .0 ≡ out₂))
+      move ! (10 ∷ 7 ∷ 4 ∷ 18 ∷ 13 ∷ 1 ∷ 11 ∷ 8 ∷ 5 ∷ 16 ∷ 17 ∷ 14 ∷ 2 ∷ 0 ∷ []) $
+      calls-any ! (fmOf 𝓤 H (W .laws) 𝓣) carry-out.ended (carry-out.clauses 𝓤 H A mem run) known-carry-out (((ν₁ ∷ [], (ν₂ ∷ [], (ν₇ ∷ [], (κt, (ν₃ ∷ [], (ν₄ ∷ [], tt)))))), (fullShare, (fullShare, (fullShare, (qt, (fullShare, (fullShare, tt)))))), tt, (record { ptr = datapoints .ptr; name = δ₁; now = ds }, (record { ptr = items .ptr; name = δ₂; now = is }, (record { ptr = parameters .ptr; name = δ₇; now = ps′ }, (site, (defaults, (record { ptr = p₃; name = δ₃; now = ms }, (record { ptr = out .ptr; name = δ₄; now = out₁ }, (6, tt)))))))), (sliceVal (datapoints .ptr) (length ds) ∷ [], (sliceVal (items .ptr) (length is) ∷ [], (sliceVal (parameters .ptr) (length ps′) ∷ [], (sliceVal (site .ptr) (length (site .now)) ∷ [], (sliceVal (defaults .ptr) (length (defaults .now)) ∷ [], (sliceVal p₃ (length ms) ∷ [], (sliceVal (out .ptr) m ∷ [], (sizeD .val 6 ∷ [], tt))))))))), tt) (factI 𝓤 _ (emp 𝓤) (carry-needs b h (out .now) ds is ps′ ts (lt .2) (lt .1) (asked some) (lt .0))) sizeD answered (λ ws. (ws .0 ≡ ds′) × (ws .1 .0 ≡ is′) × (ws .1 .1 .0 ≡ ps″) × (ws .1 .1 .1 .1 .1 .1 .0 ≡ out₂))
       (λ v r ws is. fact-use 𝓤 _ (id⊢ 𝓤 _) (λ z. factI 𝓤 _ _ ((z .datapoints, z .items, z .parameters, z .buffer), pinned sizeD r answered v is (z .ends))))
-      (and-then ! (load ! (from ! (stop !)) (look ! 30 refl)) (and-then ! (load ! (from ! (stop !)) (look ! 26 refl)) (and-then ! (load ! (from ! (stop !)) (look ! 22 refl)) (and-then ! (load ! (from ! (stop !)) (look ! 48 refl)) (and-then ! (load ! (from ! (stop !)) (look ! 18 refl)) (and-then ! (lit ! tt) (no-more !))))))) (λ ws z iscarryout.
-      move ! (0 ∷ 5 ∷ 14 ∷ []) $
+      (and-then ! (load ! (from ! (stop !)) (look ! 30 refl)) (and-then ! (load ! (from ! (stop !)) (look ! 26 refl)) (and-then ! (load ! (from ! (stop !)) (look ! 22 refl)) (and-then ! (load ! (from ! (stop !)) (look ! 62 refl)) (and-then ! (load ! (from ! (stop !)) (look ! 60 refl)) (and-then ! (load ! (from ! (stop !)) (look ! 48 refl)) (and-then ! (load ! (from ! (stop !)) (look ! 18 refl)) (and-then ! (lit ! tt) (no-more !))))))))) (λ ws z iscarryout.
+      move ! (0 ∷ 6 ∷ 17 ∷ []) $
       backsS ! tt datapointD (length ds) ds refl rm₁ (ws .0) ds′ (z .0) (λ longD.
-      move ! (2 ∷ 6 ∷ 13 ∷ []) $
+      move ! (2 ∷ 7 ∷ 16 ∷ []) $
       backsS ! tt itemD (length is) is refl rm₂ (ws .1 .0) is′ (z .1) (λ longI.
-      move ! (4 ∷ 7 ∷ 12 ∷ []) $
+      move ! (4 ∷ 8 ∷ 15 ∷ []) $
       backsS ! tt byteD (length ps′) ps′ refl rm₇ (ws .1 .1 .0) ps″ (z .2) (λ longP.
-      move ! (7 ∷ 9 ∷ 11 ∷ []) $
-      backsS ! tt byteD m out₁ long₁ rm₄ (ws .1 .1 .1 .1 .0) out₂ (z .3) (λ long₂.
-      move ! (9 ∷ []) $
+      move ! (8 ∷ 12 ∷ 14 ∷ []) $
+      backsS ! tt byteD m out₁ long₁ rm₄ (ws .1 .1 .1 .1 .1 .1 .0) out₂ (z .3) (λ long₂.
+      move ! (12 ∷ []) $
       toss ! $
-      move ! (9 ∷ []) $
+      move ! (12 ∷ []) $
       toss ! $
-      move ! (8 ∷ 9 ∷ []) $
+      move ! (9 ∷ 12 ∷ []) $
       message-back ! tt h₁ lb lo $
-      land ! (from ! (stop !)) (init ! 50 refl (typed 𝓤 H A sizeD W answered iscarryout .0)) $
+      land ! (from ! (stop !)) (init ! 53 refl (typed 𝓤 H A sizeD W answered iscarryout .0)) $
       -- the request is cleared
-      assigns ! (addr ! (from ! (hop ! (look ! 62 refl) (stop !)))) (from ! (stop !)) (init ! 18 refl (tt, tt)) $
+      assigns ! (addr ! (from ! (hop ! (look ! 65 refl) (stop !)))) (from ! (stop !)) (init ! 21 refl (tt, tt)) $
       calls-mut ! (fmOf 𝓤 H (W .laws) 𝓣) linkD [] unitD (clear-request.clauses 𝓤 H A mem run) known-clear-request (λ _. tt) (λ _ _. tt) (λ _. tt) (λ _ _. factI 𝓤 _ (emp 𝓤) (host-byte-range h (lt .1) b)) h₂ tt (λ _ _ _ _. fact-use 𝓤 _ (id⊢ 𝓤 _) (λ z. factI 𝓤 _ _ (z, refl)))
-      (λ _ _ _. (and-then ! (load ! (from ! (stop !)) (look ! 18 refl)) (no-more !))) (λ _.
-      land ! (from ! (stop !)) (init ! 20 refl (tt, tt)) $
+      (λ _ _ _. (and-then ! (load ! (from ! (stop !)) (look ! 21 refl)) (no-more !))) (λ _.
+      land ! (from ! (stop !)) (init ! 23 refl (tt, tt)) $
       -- the answer is taken back
-      assigns ! (addr ! (from ! (hop ! (look ! 62 refl) (stop !)))) (from ! (stop !)) (init ! 16 refl (tt, tt)) $
-      assigns ! (addr ! (from ! (fld ! refl (hop ! (look-in ! 60 (sub ! 0 refl (whole !))) (stop !))))) (from ! (stop !)) (init ! 14 refl (tt, tt)) $
-      assigns ! (agg ! (and-then ! (load ! (from ! (stop !)) (look ! 14 refl)) (and-then ! (load ! (from ! (fld ! refl (stop !))) (look-in ! 60 (sub ! 1 refl (whole !)))) (no-more !)))) (from ! (stop !)) (init ! 12 refl (tt, (tt, (record { fits = out-room .0 }, tt)))) $
-      assigns ! (bin ! (load ! (from ! (stop !)) (look ! 50 refl)) (lit ! tt) (le-add 6 (length (s .says)))) (from ! (stop !)) (init ! 10 refl (tt, record { fits = less answered 6 (iscarryout .1) })) $
+      assigns ! (addr ! (from ! (hop ! (look ! 65 refl) (stop !)))) (from ! (stop !)) (init ! 19 refl (tt, tt)) $
+      assigns ! (addr ! (from ! (fld ! refl (hop ! (look-in ! 63 (sub ! 0 refl (whole !))) (stop !))))) (from ! (stop !)) (init ! 17 refl (tt, tt)) $
+      assigns ! (agg ! (and-then ! (load ! (from ! (stop !)) (look ! 17 refl)) (and-then ! (load ! (from ! (fld ! refl (stop !))) (look-in ! 63 (sub ! 1 refl (whole !)))) (no-more !)))) (from ! (stop !)) (init ! 15 refl (tt, (tt, (record { fits = out-room .0 }, tt)))) $
+      assigns ! (bin ! (load ! (from ! (stop !)) (look ! 53 refl)) (lit ! tt) (le-add 6 (length (s .says)))) (from ! (stop !)) (init ! 13 refl (tt, record { fits = less answered 6 (iscarryout .1) })) $
       lends ! tt linkD h₂ (λ ν₅ δ₅.
       move ! (3 ∷ 4 ∷ []) $
       lendsS ! tt byteD m out₂ long₂ (λ ν₆ δ₆ rm₆.
       use0 W (‵ (sizeD .row .own (answered - 6) (sizeD .val (answered - 6) ∷ []))) (sizeD .made 𝓤 H A W (answered - 6) (sizeD .val (answered - 6) ∷ []) (refl, less answered 6 (iscarryout .1))) $
       use0 W (‵ (sizeD .row .own 1 (sizeD .val 1 ∷ []))) (sizeD .made 𝓤 H A W 1 (sizeD .val 1 ∷ []) one-ok) $
       move ! (5 ∷ 2 ∷ 6 ∷ 3 ∷ 0 ∷ 1 ∷ []) $
-      calls-any ! (fmOf 𝓤 H (W .laws) 𝓣) take-message.ended (take-message.clauses 𝓤 H A mem run) known-take-message (((ν₅ ∷ [], (ν₆ ∷ [], tt)), (fullShare, (fullShare, tt)), tt, (record { ptr = link .ptr; name = δ₅; now = h₂ }, (record { ptr = out .ptr; name = δ₆; now = out₂ }, (1, (answered - 6, tt)))), (vptr lb lo ∷ [], (sliceVal (out .ptr) m ∷ [], (sizeD .val 1 ∷ [], (sizeD .val (answered - 6) ∷ [], tt))))), tt) (factI 𝓤 _ (emp 𝓤) (cleared-range h₁ (host-byte-range h (lt .1) b), one-le, answered-room b h (out .now) ds is ps′ (lt .2))) sizeD framed (λ ws. (ws .0 ≡ h₃) × (ws .1 .0 ≡ out₃))
+      calls-any ! (fmOf 𝓤 H (W .laws) 𝓣) take-message.ended (take-message.clauses 𝓤 H A mem run) known-take-message (((ν₅ ∷ [], (ν₆ ∷ [], tt)), (fullShare, (fullShare, tt)), tt, (record { ptr = link .ptr; name = δ₅; now = h₂ }, (record { ptr = out .ptr; name = δ₆; now = out₂ }, (1, (answered - 6, tt)))), (vptr lb lo ∷ [], (sliceVal (out .ptr) m ∷ [], (sizeD .val 1 ∷ [], (sizeD .val (answered - 6) ∷ [], tt))))), tt) (factI 𝓤 _ (emp 𝓤) (cleared-range h₁ (host-byte-range h (lt .1) b), one-le, answered-room b h (out .now) ds is ps′ ts (lt .2))) sizeD framed (λ ws. (ws .0 ≡ h₃) × (ws .1 .0 ≡ out₃))
       (λ v r ws is. fact-use 𝓤 _ (id⊢ 𝓤 _) (λ z. factI 𝓤 _ _ ((z .link, z .buffer), pinned sizeD r framed v is (z .answer))))
-      (and-then ! (load ! (from ! (stop !)) (look ! 15 refl)) (and-then ! (load ! (from ! (stop !)) (look ! 11 refl)) (and-then ! (lit ! tt) (and-then ! (load ! (from ! (stop !)) (look ! 9 refl)) (no-more !))))) (λ ws z istakemessage.
+      (and-then ! (load ! (from ! (stop !)) (look ! 18 refl)) (and-then ! (load ! (from ! (stop !)) (look ! 14 refl)) (and-then ! (lit ! tt) (and-then ! (load ! (from ! (stop !)) (look ! 12 refl)) (no-more !))))) (λ ws z istakemessage.
       move ! (0 ∷ 2 ∷ 7 ∷ []) $
       rewrite ! 1 (λ (y : Link). ‵ (fres δ₅ (linkD .row .coded .code y))) (z .0) refl $ backs ! tt linkD h₂ h₃ $
       move ! (2 ∷ 3 ∷ 6 ∷ []) $
@@ -331,12 +337,12 @@ module _ {M : Type 1} (𝓤 : URA M) (H : Heap 𝓤) (A : Atoms 𝓤) (W : Given
       toss ! $
       move ! (4 ∷ []) $
       toss ! $
-      land ! (from ! (stop !)) (init ! 48 refl (typed 𝓤 H A sizeD W framed istakemessage .0)) $
-      assigns ! (bin ! (load ! (from ! (stop !)) (look ! 48 refl)) (lit ! tt) (record { fits = one-more })) (from ! (stop !)) (store ! 10 refl (tt, record { fits = one-more })) $
-      assigns ! (agg ! (and-then ! (lit ! tt) (and-then ! (load ! (from ! (stop !)) (look ! 10 refl)) (no-more !)))) (from ! (stop !)) (init ! 72 refl (typed 𝓤 H A replyD W (Accepted (framed + 1)) (reply-good (framed + 1) one-more) .0)) $
-      returns ! (look ! 72 refl) $ behind ! 10 $ frees-all ! (cell ∷ cell ∷ cell ∷ cell ∷ cell ∷ cell ∷ cell ∷ cell ∷ cell ∷ cell ∷ cell ∷ cell ∷ cell ∷ cell ∷ cell ∷ cell ∷ cell ∷ cell ∷ cell ∷ cell ∷ cell ∷ cell ∷ cell ∷ cell ∷ cell ∷ cell ∷ cell ∷ cell ∷ cell ∷ cell ∷ cell ∷ cell ∷ []) _ $
-      suffices ! _ (ends-in 5 𝓤 H A W ps replyD (f.clauses 𝓤 H A mem run) (κ0, (κ1, (κ2, (κ3, (κ4, tt))))) (q0, (q1, (q2, (q3, (q4, tt))))) x tt (Accepted (framed + 1)) (tt, (ds′, (is′, (ps″, (h₃, (out₃, tt)))))) (tt, (sym longD, (sym longI, (sym longP, (tt, (sym long₃, tt)))))) (reply-good (framed + 1) one-more) (factI 𝓤 _ (emp 𝓤) (request-answered b h (out .now) ds is ps′ (lt .2) (lt .1) (asked some)))) $
-      nothing ! $ nothing ! $ nothing ! $ keep ! (13 ∷ 11 ∷ 9 ∷ 7 ∷ 5 ∷ 0 ∷ 1 ∷ 12 ∷ 10 ∷ 8 ∷ 6 ∷ 4 ∷ 2 ∷ []) $ group ! 6 $ frame ! $ done !))))))))))))))))))))))
+      land ! (from ! (stop !)) (init ! 51 refl (typed 𝓤 H A sizeD W framed istakemessage .0)) $
+      assigns ! (bin ! (load ! (from ! (stop !)) (look ! 51 refl)) (lit ! tt) (record { fits = one-more })) (from ! (stop !)) (store ! 13 refl (tt, record { fits = one-more })) $
+      assigns ! (agg ! (and-then ! (lit ! tt) (and-then ! (load ! (from ! (stop !)) (look ! 13 refl)) (no-more !)))) (from ! (stop !)) (init ! 79 refl (typed 𝓤 H A replyD W (Accepted (framed + 1)) (reply-good (framed + 1) one-more) .0)) $
+      returns ! (look ! 79 refl) $ behind ! 13 $ frees-all ! (cell ∷ cell ∷ cell ∷ cell ∷ cell ∷ cell ∷ cell ∷ cell ∷ cell ∷ cell ∷ cell ∷ cell ∷ cell ∷ cell ∷ cell ∷ cell ∷ cell ∷ cell ∷ cell ∷ cell ∷ cell ∷ cell ∷ cell ∷ cell ∷ cell ∷ cell ∷ cell ∷ cell ∷ cell ∷ cell ∷ cell ∷ cell ∷ cell ∷ cell ∷ []) _ $
+      suffices ! _ (ends-in 6 𝓤 H A W ps replyD (f.clauses 𝓤 H A mem run) (κ0, (κ1, (κ2, (κt, (κ3, (κ4, tt)))))) (q0, (q1, (q2, (qt, (q3, (q4, tt)))))) x tt (Accepted (framed + 1)) (tt, (ds′, (is′, (ps″, (tt, (tt, (h₃, (out₃, tt)))))))) (tt, (sym longD, (sym longI, (sym longP, (tt, (tt, (tt, (sym long₃, tt)))))))) (reply-good (framed + 1) one-more) (factI 𝓤 _ (emp 𝓤) (request-answered b h (out .now) ds is ps′ ts (lt .2) (lt .1) (asked some)))) $
+      nothing ! $ nothing ! $ nothing ! $ nothing ! $ nothing ! $ keep ! (15 ∷ 13 ∷ 11 ∷ 16 ∷ 9 ∷ 7 ∷ 0 ∷ 1 ∷ 14 ∷ 12 ∷ 10 ∷ 2 ∷ 3 ∷ 8 ∷ 6 ∷ 4 ∷ []) $ group ! 7 $ frame ! $ done !))))))))))))))))))))))
 
 pub on-host-byte-spec : {M : Type 1} → stated.statement M
 unfolding code.routine tablesOf
@@ -345,7 +351,7 @@ on-host-byte-spec 𝓤 H 𝓜 𝓖 𝓡 =
     let 𝓣 : Tables 𝓤 H = tablesOf 𝓤 H 𝓜 (tables 𝓤 H 𝓜 𝓡 code.env) in
     entered 𝓤 H (tripleOf 𝓤 H (𝓖 .A) f.signature (f.spec 𝓤 H (𝓖 .A) (𝓜 .mem) (𝓡 .run)))
     (tables 𝓤 H 𝓜 𝓡 code.env .C) (tables 𝓤 H 𝓜 𝓡 code.env .Λ) #server·host-byte·on-host-byte code.function (code.unfolded 𝓤 H 𝓜 𝓡)
-    (meets-by 5 𝓤 H (𝓖 .A) W ps replyD (f.clauses 𝓤 H (𝓖 .A) (𝓜 .mem) (𝓡 .run)) 𝓣 code.function (λ κs qs a _ are. needs 𝓤 _ _ (λ lt. walk 𝓤 H (𝓖 .A) W (𝓜 .mem) (𝓡 .run) 𝓣
+    (meets-by 6 𝓤 H (𝓖 .A) W ps replyD (f.clauses 𝓤 H (𝓖 .A) (𝓜 .mem) (𝓡 .run)) 𝓣 code.function (λ κs qs a _ are. needs 𝓤 _ _ (λ lt. walk 𝓤 H (𝓖 .A) W (𝓜 .mem) (𝓡 .run) 𝓣
     (cited 𝓤 H (C-clear-request 𝓤 H (𝓖 .A) (𝓜 .mem) (𝓡 .run)) 𝓜 𝓡 code.env #link·events·clear-request clear-request-def.routine code.calls-link·events·clear-request (clear-request-thm.met 𝓤 H 𝓜 𝓖 𝓡))
     (cited 𝓤 H (C-host-byte 𝓤 H (𝓖 .A) (𝓜 .mem) (𝓡 .run)) 𝓜 𝓡 code.env #link·events·host-byte host-byte-def.routine code.calls-link·events·host-byte (host-byte-thm.met 𝓤 H 𝓜 𝓖 𝓡))
     (cited 𝓤 H (C-take-message 𝓤 H (𝓖 .A) (𝓜 .mem) (𝓡 .run)) 𝓜 𝓡 code.env #link·events·take-message take-message-def.routine code.calls-link·events·take-message (take-message-thm.met 𝓤 H 𝓜 𝓖 𝓡))
@@ -353,4 +359,4 @@ on-host-byte-spec 𝓤 H 𝓜 𝓖 𝓡 =
     (cited 𝓤 H (C-acknowledge 𝓤 H (𝓖 .A) (𝓜 .mem) (𝓡 .run)) 𝓜 𝓡 code.env #server·host-byte·acknowledge acknowledge-def.routine code.calls-server·host-byte·acknowledge (acknowledge-thm.met 𝓤 H 𝓜 𝓖 𝓡))
     (cited 𝓤 H (C-request-l 𝓤 H (𝓖 .A) (𝓜 .mem) (𝓡 .run)) 𝓜 𝓡 code.env #server·host-byte·request-l request-l-def.routine code.calls-server·host-byte·request-l (request-l-thm.met 𝓤 H 𝓜 𝓖 𝓡))
     (cited 𝓤 H (C-carry-out 𝓤 H (𝓖 .A) (𝓜 .mem) (𝓡 .run)) 𝓜 𝓡 code.env #services·service·carry-out carry-out-def.routine code.calls-services·service·carry-out (carry-out-thm.met 𝓤 H 𝓜 𝓖 𝓡))
-    (κs .0) (κs .1 .0) (κs .1 .1 .0) (κs .1 .1 .1 .0) (κs .1 .1 .1 .1 .0) (qs .0) (qs .1 .0) (qs .1 .1 .0) (qs .1 .1 .1 .0) (qs .1 .1 .1 .1 .0) (a .0) (a .1 .0) (a .1 .1 .0) (a .1 .1 .1 .0) (a .1 .1 .1 .1 .0) (a .1 .1 .1 .1 .1 .0) (are .0) (are .1 .0 .0 .1) (are .1 .1 .0 .0 .1) (are .1 .1 .1 .0 .0 .1) (are .1 .1 .1 .1 .1 .0 .0 .1) lt)))
+    (κs .0) (κs .1 .0) (κs .1 .1 .0) (κs .1 .1 .1 .0) (κs .1 .1 .1 .1 .0) (κs .1 .1 .1 .1 .1 .0) (qs .0) (qs .1 .0) (qs .1 .1 .0) (qs .1 .1 .1 .0) (qs .1 .1 .1 .1 .0) (qs .1 .1 .1 .1 .1 .0) (a .0) (a .1 .0) (a .1 .1 .0) (a .1 .1 .1 .0) (a .1 .1 .1 .1 .0) (a .1 .1 .1 .1 .1 .0) (a .1 .1 .1 .1 .1 .1 .0) (a .1 .1 .1 .1 .1 .1 .1 .0) (are .0) (are .1 .0 .0 .1) (are .1 .1 .0 .0 .1) (are .1 .1 .1 .0 .0 .1) (are .1 .1 .1 .1 .0 .0 .1) (are .1 .1 .1 .1 .1 .0 .0 .1) (are .1 .1 .1 .1 .1 .1 .1 .0 .0 .1) lt)))

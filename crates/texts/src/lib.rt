@@ -1,0 +1,3 @@
+// Text lists, and the text that an ID has in them.
+pub mod text;
+pub mod text_list;
