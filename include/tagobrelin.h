@@ -56,9 +56,11 @@ struct tagobrelin_item {
 
 /* A list of texts is bytes, entry behind entry: the datapoint's ID in two bytes, the higher first, as in a message; a
  * length byte of 0 to 30; and as many bytes of text, any bytes, without a 0 behind them. IDs strictly rise, the first
- * may be 0, and they need not be datapoints of the table. A list has any number of entries; one of 0 bytes has none.
- * Texts for the datapoints 5 and 258, 17 bytes without the 0 that C puts behind a string:
- *     "\x00\x05\x07Kitchen" "\x01\x02\x04Hall"
+ * may be 0, and they need not be datapoints of the table. A list has as many entries as there are IDs, or fewer; one of
+ * 0 bytes has none. Texts for the datapoints 5 and 258:
+ *     static const uint8_t texts[] = "\x00\x05\x05" "Attic" "\x01\x02\x04" "Hall";
+ * Each text begins a literal of its own, since \x takes every hexadecimal digit behind it; and the list's size is
+ * sizeof texts - 1, without the 0 that C puts behind a string. Each call looks through both lists to their ends.
  *
  * There are two. A host that asks for a datapoint's description string is given its text of the site's list, where that
  * has one of 1 byte or more, else that of the default list, else an empty one. */

@@ -12,23 +12,20 @@ use lib.Dec.{T, ltb, eqb, ltb→lt}
 use borrow.Author.Tests.{lt-ltb, le-ltb, le-leb, eq-eqb, eqb-true}
 use Rattle.words.specs.Words.{if_then_else_, ofTwoBytes, keep, every, areBytes}
 use Rattle.words.proofs.WordLaws.{left, right, both, T-true, true-T, every-suffix}
-use Rattle.baos.specs.TextList.{ListEntry, listEntryBytes, MadeOf, EntryAt, spanOf, isEntry, firstEntry, entriesFrom, entriesAt, entriesIn, bytesTaken, riseFrom, textListOk}
+use Rattle.baos.specs.TextList.{ListEntry, listEntryBytes, listBytes, MadeOf, EntryAt, spanOf, isEntry, firstEntry, entriesFrom, entriesAt, entriesIn, bytesTaken, riseFrom, textListOk}
 use Rattle.baos.specs.Text.{entriesFor}
 use Rattle.baos.proofs.TextListLaws.{is-entry, entry-short, entry-whole, from-none, from-one, no-bytes, kept-other, kept-none, rise-first, rise-least, isFor}
 
 -- ---- the entries of a list, one after the other
-abbrev listed : List ListEntry → List ℕ
-listed es = flatten (map listEntryBytes es)
-
 -- an entry, and the bytes r behind it
 abbrev entryThen : ListEntry → List ℕ → List ℕ
 entryThen e r = e .id / 256 ∷ e .id % 256 ∷ length (e .text) ∷ (e .text ++ r)
 
-listed-first : (e : ListEntry) (es : List ListEntry) → listed (e ∷ es) ≡ entryThen e (listed es)
+listed-first : (e : ListEntry) (es : List ListEntry) → listBytes (e ∷ es) ≡ entryThen e (listBytes es)
 unfolding listEntryBytes flatten
 listed-first e es = refl
 
-listed-none : listed [] ≡ []
+listed-none : listBytes [] ≡ []
 unfolding flatten
 listed-none = refl
 
@@ -70,7 +67,7 @@ listed-rising : (es : List ListEntry) (s : List ℕ) → MadeOf es s → Rising 
 listed-rising es s l =
     rising-of 0 es (λ i e h. record { low = omega arith; fits = l .ids i e h; short = l .lengths i e h }) (l .strictly)
 
-rising-listed : (es : List ListEntry) (s : List ℕ) → s ≡ listed es → Rising 0 es → MadeOf es s
+rising-listed : (es : List ListEntry) (s : List ℕ) → s ≡ listBytes es → Rising 0 es → MadeOf es s
 rising-listed es s w r =
     record {
       whole = w;
@@ -88,10 +85,10 @@ foundIn at (e ∷ es) = record { id = e .id; from = at + 3; size = length (e .te
 behind : (e : ListEntry) (r : List ℕ) → drop (3 + length (e .text)) (entryThen e r) ≡ r
 behind e r = sym (drop-drop (length (e .text)) 3 (entryThen e r)) ∙ drop-append-seam (e .text) r
 
-found-listed : (n at least : ℕ) (es : List ListEntry) → Rising least es → length (listed es) ≤ n → entriesFrom n at (listed es) ≡ foundIn at es
+found-listed : (n at least : ℕ) (es : List ListEntry) → Rising least es → length (listBytes es) ≤ n → entriesFrom n at (listBytes es) ≡ foundIn at es
 found-listed n at least [] r h = ap (entriesFrom n at) listed-none ∙ from-none n at [] (no-bytes [] (omega arith))
 found-listed n at least (e ∷ es) r h =
-    let k : List ℕ = listed es in
+    let k : List ℕ = listBytes es in
     let s : List ℕ = entryThen e k in
     let next : ℕ = at + (3 + length (e .text)) in
     let long : length s ≤ n = omega (arith, h, ap length (listed-first e es)) in
@@ -107,17 +104,17 @@ unfolding riseFrom
 rise-found least at [] r = refl
 rise-found least at (e ∷ es) r = λ i. le-leb least (e .id) (r .0 .low) i && rise-found (suc (e .id)) (at + (3 + length (e .text))) es (r .1) i
 
-taken-found : (at : ℕ) (es : List ListEntry) → bytesTaken (foundIn at es) ≡ length (listed es)
+taken-found : (at : ℕ) (es : List ListEntry) → bytesTaken (foundIn at es) ≡ length (listBytes es)
 unfolding bytesTaken
 taken-found at [] = sym (ap length listed-none)
 taken-found at (e ∷ es) =
-    let r : bytesTaken (foundIn (at + (3 + length (e .text))) es) ≡ length (listed es) = taken-found (at + (3 + length (e .text))) es in
-    omega (arith, r, ap length (listed-first e es), length-append (e .text) (listed es))
+    let r : bytesTaken (foundIn (at + (3 + length (e .text))) es) ≡ length (listBytes es) = taken-found (at + (3 + length (e .text))) es in
+    omega (arith, r, ap length (listed-first e es), length-append (e .text) (listBytes es))
 
 -- all that is found in a list
 found-in : (es : List ListEntry) (s : List ℕ) → MadeOf es s → entriesIn s ≡ foundIn 0 es
 unfolding entriesAt
-found-in es s l = ap (λ (t : List ℕ). entriesFrom (length t) 0 t) (l .whole) ∙ found-listed (length (listed es)) 0 0 es (listed-rising es s l) (omega arith)
+found-in es s l = ap (λ (t : List ℕ). entriesFrom (length t) 0 t) (l .whole) ∙ found-listed (length (listBytes es)) 0 0 es (listed-rising es s l) (omega arith)
 
 -- ---- the test decides it
 passes : (es : List ListEntry) (s : List ℕ) → MadeOf es s → T (textListOk s)
@@ -160,7 +157,7 @@ no-length (x ∷ s) e = absurd (omega (arith, e))
 -- bytes that pass are a list of the entries found
 record Spelt (least : ℕ) (s : List ℕ) : Type 0 where
   names : List ListEntry
-  whole : s ≡ listed names
+  whole : s ≡ listBytes names
   rising : Rising least names
 
 spells : (n at least : ℕ) (s : List ℕ) → T (areBytes s) → riseFrom least (entriesFrom n at s) ≡ true → bytesTaken (entriesFrom n at s) ≡ length s → Spelt least s
@@ -187,9 +184,9 @@ spells (suc n) at least s t u v = go (isEntry s) refl (λ k p q. spells n (at + 
         }
     go false e r u v = record { names = []; whole = no-length s (sym v) ∙ sym listed-none; rising = tt }
 
-pub texts-decided : (s : List ℕ) → T (areBytes s) → T (textListOk s) ↔ ((es : List ListEntry) × MadeOf es s)
+pub text-list-decided : (s : List ℕ) → T (areBytes s) → T (textListOk s) ↔ ((es : List ListEntry) × MadeOf es s)
 unfolding textListOk entriesAt
-texts-decided s t = (to, λ l. passes (l .0) s (l .1))
+text-list-decided s t = (to, λ l. passes (l .0) s (l .1))
   where
     to : T (textListOk s) → (es : List ListEntry) × MadeOf es s
     to o =
@@ -199,43 +196,56 @@ texts-decided s t = (to, λ l. passes (l .0) s (l .1))
         (p .names, rising-listed (p .names) s (p .whole) (p .rising))
 
 -- ---- what a list names an ID is what is found for it
--- the entry found, and that its text is the one named
-pub record Found (text : List ℕ) (es : List EntryAt) (s : List ℕ) : Type 0 where
-  pub entry : EntryAt
-  pub one : es ≡ entry ∷ []
-  pub spelt : take (entry .size) (drop (entry .from) s) ≡ text
+-- at which byte the text of entry i begins: behind the entries in front, its ID and its length byte
+abbrev pub beginsAt : ℕ → List ListEntry → ℕ
+beginsAt i es = length (listBytes (take i es)) + 3
 
-named-from : (least at : ℕ) (es : List ListEntry) (s : List ℕ) → Rising least es → drop at s ≡ listed es → (i : ℕ) (e : ListEntry) → i < length es
-    → 0 < length (getD es i e .text) → Found (getD es i e .text) (keep (isFor (getD es i e .id)) (foundIn at es)) s
+-- one entry is found, with this text, which begins there
+pub record Found (id : ℕ) (text : List ℕ) (from : ℕ) (es : List EntryAt) (s : List ℕ) : Type 0 where
+  pub one : es ≡ record { id = id; from = from; size = length text } ∷ []
+  pub spelt : take (length text) (drop from s) ≡ text
+
+named-from : (least at : ℕ) (es : List ListEntry) (s : List ℕ) → Rising least es → drop at s ≡ listBytes es → (i : ℕ) (e : ListEntry) → i < length es
+    → 0 < length (getD es i e .text) → Found (getD es i e .id) (getD es i e .text) (at + beginsAt i es) (keep (isFor (getD es i e .id)) (foundIn at es)) s
 named-from least at [] s r w i e h k = absurd (omega (arith, h))
 named-from least at (x ∷ es) s r w zero e h k =
     let t : EntryAt = record { id = x .id; from = at + 3; size = length (x .text) } in
     let more : List EntryAt = foundIn (at + (3 + length (x .text))) es in
     let kept : List EntryAt = keep (isFor (x .id)) more in
+    let front : at + 3 ≡ at + (length (listBytes []) + 3) = omega (arith, ap length listed-none) in
     record {
-      entry = t;
       one = ap (λ (b : Bool). if b && ltb 0 (length (x .text)) then t ∷ kept else kept) (eq-eqb (x .id) (x .id) refl)
           ∙ ap (λ (b : Bool). if b then t ∷ kept else kept) (lt-ltb 0 (length (x .text)) k)
-          ∙ ap (λ (ts : List EntryAt). t ∷ ts) (kept-none (x .id) (suc (x .id)) more (omega arith) (rise-found (suc (x .id)) (at + (3 + length (x .text))) es (r .1)));
-      spelt = ap (take (length (x .text))) (sym (drop-drop 3 at s) ∙ ap (drop 3) (w ∙ listed-first x es)) ∙ take-append-seam (x .text) (listed es);
+          ∙ ap (λ (ts : List EntryAt). t ∷ ts) (kept-none (x .id) (suc (x .id)) more (omega arith) (rise-found (suc (x .id)) (at + (3 + length (x .text))) es (r .1)))
+          ∙ (λ j. record { id = x .id; from = front j; size = length (x .text) } ∷ []);
+      spelt = ap (λ (n : ℕ). take (length (x .text)) (drop n s)) (sym front)
+          ∙ ap (take (length (x .text))) (sym (drop-drop 3 at s) ∙ ap (drop 3) (w ∙ listed-first x es))
+          ∙ take-append-seam (x .text) (listBytes es);
     }
 named-from least at (x ∷ es) s r w (suc i) e h k =
     let next : ℕ = at + (3 + length (x .text)) in
     let id : ℕ = getD es i e .id in
-    let f = named-from (suc (x .id)) next es s (r .1) (sym (drop-drop (3 + length (x .text)) at s) ∙ ap (drop (3 + length (x .text))) (w ∙ listed-first x es) ∙ behind x (listed es)) i e (omega (arith, h)) k in
+    let size : ℕ = length (getD es i e .text) in
+    let f = named-from (suc (x .id)) next es s (r .1) (sym (drop-drop (3 + length (x .text)) at s) ∙ ap (drop (3 + length (x .text))) (w ∙ listed-first x es) ∙ behind x (listBytes es)) i e (omega (arith, h)) k in
+    let place : next + beginsAt i es ≡ at + beginsAt (suc i) (x ∷ es) = omega (arith, ap length (listed-first x (take i es)), length-append (x .text) (listBytes (take i es))) in
     record {
-      entry = f .entry;
-      one = kept-other id (record { id = x .id; from = at + 3; size = length (x .text) }) (foundIn next es) (λ q. omega (arith, q, rising-at (suc (x .id)) es (r .1) i e (omega (arith, h)) .low)) ∙ f .one;
-      spelt = f .spelt;
+      one = kept-other id (record { id = x .id; from = at + 3; size = length (x .text) }) (foundIn next es) (λ q. omega (arith, q, rising-at (suc (x .id)) es (r .1) i e (omega (arith, h)) .low))
+          ∙ f .one
+          ∙ (λ j. record { id = id; from = place j; size = size } ∷ []);
+      spelt = ap (λ (n : ℕ). take size (drop n s)) (sym place) ∙ f .spelt;
     }
 
 -- an ID that is named a non-empty text: one entry is found, and it has that text
 pub text-named : (es : List ListEntry) (s : List ℕ) → MadeOf es s → (i : ℕ) (e : ListEntry) → i < length es → 0 < length (getD es i e .text)
-    → Found (getD es i e .text) (entriesFor (getD es i e .id) s) s
+    → Found (getD es i e .id) (getD es i e .text) (beginsAt i es) (entriesFor (getD es i e .id) s) s
 unfolding entriesFor
 text-named es s l i e h k =
     let f = named-from 0 0 es s (listed-rising es s l) (l .whole) i e h k in
-    record { entry = f .entry; one = ap (keep (isFor (getD es i e .id))) (found-in es s l) ∙ f .one; spelt = f .spelt }
+    let here : 0 + beginsAt i es ≡ beginsAt i es = omega arith in
+    record {
+      one = ap (keep (isFor (getD es i e .id))) (found-in es s l) ∙ f .one ∙ (λ j. record { id = getD es i e .id; from = here j; size = length (getD es i e .text) } ∷ []);
+      spelt = ap (λ (n : ℕ). take (length (getD es i e .text)) (drop n s)) (sym here) ∙ f .spelt;
+    }
 
 unnamed-from : (id at : ℕ) (es : List ListEntry) → ((i : ℕ) (e : ListEntry) → i < length es → getD es i e .id ≡ id → length (getD es i e .text) ≡ 0) → keep (isFor id) (foundIn at es) ≡ []
 unnamed-from id at [] n = refl

@@ -7,10 +7,9 @@ use native.Mathlib.Omega.{arith}
 use lib.ListN.{length, getD, drop}
 use lib.Seq.{sets}
 use lib.Dec.{T, ltb, ltb→lt, lt→ltb}
-use borrow.Author.Tests.{le-ltb}
 use denote.Ref.{RefT}
 use Rattle.words.specs.Words.{if_then_else_, keep, put}
-use Rattle.words.proofs.WordLaws.{left, right, both, true-T}
+use Rattle.words.proofs.WordLaws.{left, right, both}
 use Rattle.words.proofs.ByteLaws.{put-sets, put-put}
 use Rattle.baos.specs.declared.datapoint.Datapoint.{Datapoint}
 use Rattle.baos.specs.declared.inner.Wanted.{Wanted}
@@ -18,20 +17,20 @@ use Rattle.baos.specs.declared.inner.Gathered.{Gathered}
 use Rattle.baos.specs.declared.inner.Strings.{Strings}
 use Rattle.baos.specs.declared.inner.Cursors.{Cursors}
 use Rattle.baos.specs.Datapoint.{datapointId}
-use Rattle.baos.specs.TextList.{EntryAt, entriesIn}
-use Rattle.baos.specs.Text.{TextLists, textLists, textListsOk, stretchOf, textOf, HandedOn}
+use Rattle.baos.specs.Text.{TextLists, textLists, stretchOf, textOf, HandedOn}
 use Rattle.baos.specs.Table.{rising, place, datapointsWithTexts}
-use Rattle.baos.specs.Message.{startOf, Served}
+use Rattle.baos.specs.Message.{startOf}
 use Rattle.baos.specs.Get.{AnswerEntry, inRequest, roomForEntries, stringOf, stringEntry, getDescriptionString}
-use Rattle.baos.specs.Inner.Cursors.{placeIn, cursorsOf, Reached, BothReached}
+use Rattle.baos.specs.Inner.Cursors.{cursorsOf, BothReached}
 use Rattle.baos.specs.Inner.Gather.{filterAsked, sizeAsked, wantedOf, isBehind, isWithin, ended, withEntry, measured, walked, nothingGathered}
 use Rattle.baos.specs.Inner.Strings.{gatheredOf, cursorsIn, stringsOf, stringStep, stringsBuilt, stringMeasured}
 use Rattle.baos.proofs.GetLaws.{gets}
 use Rattle.baos.proofs.GatherLaws.{Passed, gathered-passes, within-from, within-below, walked-keeps}
 use Rattle.baos.proofs.AnsweredLaws.{place-front, datapointsFrom}
 use Rattle.baos.proofs.PassLaws.{drop-next}
+use Rattle.baos.proofs.TableLaws.{rising-lower}
 use Rattle.baos.proofs.MeasureLaws.{not-behind, in-range, measured-wanted}
-use Rattle.baos.proofs.TextLaws.{text-size, text-short}
+use Rattle.baos.proofs.TextLaws.{cursors-start, text-size, text-short}
 
 -- ---- the entries to return
 abbrev pub stringEntries : TextLists → List ℕ → List Datapoint → List AnswerEntry
@@ -76,24 +75,12 @@ pub record Following (ts : TextLists) (c : Cursors) (ds : List Datapoint) : Type
   pub place : c ≡ cursorsOf low ts
   pub rest : T (rising low (map datapointId ds))
 
--- no ID is below 0
-none-below : (es : List EntryAt) → placeIn 0 es ≡ 0
-unfolding placeIn
-none-below [] = refl
-none-below (e ∷ es) = simp (le-ltb (e .id) 0 (omega arith))
-
-rising-from : (low last : ℕ) (xs : List ℕ) → low ≤ last → T (rising last xs) → T (rising low xs)
-unfolding rising
-rising-from low last [] l t = tt
-rising-from low last (x ∷ xs) l t =
-    both (ltb low x) (rising x xs) (lt→ltb low x (omega (arith, l, ltb→lt last x (left (ltb last x) (rising x xs) t)))) (right (ltb last x) (rising x xs) t)
-
 rising-drop : (last : ℕ) (ds : List Datapoint) (k : ℕ) → T (rising last (map datapointId ds)) → T (rising last (map datapointId (drop k ds)))
 unfolding rising
 rising-drop last ds zero t = t
 rising-drop last [] (suc k) t = tt
 rising-drop last (d ∷ ds) (suc k) t =
-    rising-from last (d .id) (map datapointId (drop k ds)) (omega (arith, ltb→lt last (d .id) (left (ltb last (d .id)) (rising (d .id) (map datapointId ds)) t)))
+    rising-lower last (d .id) (map datapointId (drop k ds)) (omega (arith, ltb→lt last (d .id) (left (ltb last (d .id)) (rising (d .id) (map datapointId ds)) t)))
     (rising-drop (d .id) ds k (right (ltb last (d .id)) (rising (d .id) (map datapointId ds)) t))
 
 abbrev pub atStart : Cursors
@@ -104,12 +91,9 @@ unfolding cursorsOf
 following-start ts ds k t =
     record {
       low = 0;
-      place = sym begins;
+      place = sym (cursors-start ts);
       rest = rising-drop 0 ds k t;
     }
-  where
-    begins : cursorsOf 0 ts ≡ atStart
-    begins = λ i. record { site = none-below (entriesIn (ts .site)) i; defaults = none-below (entriesIn (ts .defaults)) i }
 
 module _ (ts : TextLists) (c : Cursors) (ds : List Datapoint) (i : ℕ) (blank : Datapoint) (l : i < length ds) (f : Following ts c (drop i ds)) where
   abbrev d : Datapoint
@@ -141,16 +125,21 @@ module _ (ts : TextLists) (c : Cursors) (ds : List Datapoint) (i : ℕ) (blank :
 
 -- ---- one string
 -- how long it is: the length of two bytes, and the text
-pub string-length : (id : ℕ) (ts : TextLists) → textListsOk ts ≡ true → length (stringOf id ts) ≡ 2 + stretchOf id ts .size
+pub string-length : (id : ℕ) (ts : TextLists) → length (stringOf id ts) ≡ 2 + stretchOf id ts .size
 unfolding stringOf
-string-length id ts e = omega (arith, text-size id ts (true-T e))
+string-length id ts = omega (arith, text-size id ts)
+
+-- so 32 bytes at most
+pub string-short : (ts : TextLists) (d : Datapoint) → length (stringEntry ts d .bytes) ≤ 32
+unfolding stringEntry
+string-short ts d = omega (arith, string-length (d .id) ts, text-short (d .id) ts)
 
 -- its length's first byte is 0
-pub string-bytes : (id : ℕ) (ts : TextLists) → textListsOk ts ≡ true → stringOf id ts ≡ 0 ∷ length (textOf id ts) ∷ textOf id ts
+string-bytes : (id : ℕ) (ts : TextLists) → stringOf id ts ≡ 0 ∷ length (textOf id ts) ∷ textOf id ts
 unfolding stringOf
-string-bytes id ts e =
+string-bytes id ts =
     let t : List ℕ = textOf id ts in
-    let h : length t ≤ 30 = omega (arith, text-size id ts (true-T e), text-short id ts (true-T e)) in
+    let h : length t ≤ 30 = omega (arith, text-size id ts, text-short id ts) in
     let p : length t / 256 ≡ 0 = omega (arith, h) in
     let q : length t % 256 ≡ length t = omega (arith, h) in
     λ i. p i ∷ q i ∷ t
@@ -161,20 +150,20 @@ module _ (ts : TextLists) (w : Wanted) (d : Datapoint) (s : Strings) where
   unfolding stringMeasured measured
   string-behind b = sym (ap (λ (x : Bool). stringsOf (measured x (isWithin w (d .id)) (stringEntry ts d) (gatheredOf s)) (if x then cursorsIn s else cursorsOf (d .id) ts)) b)
 
-  pub string-ahead : (g : Gathered) (c : Cursors) → textListsOk ts ≡ true → w .start ≤ d .id → isBehind w (d .id) ≡ false
+  pub string-ahead : (g : Gathered) (c : Cursors) → w .start ≤ d .id → isBehind w (d .id) ≡ false
       → g ≡ withEntry (d .id) (2 + stretchOf (d .id) ts .size) (gatheredOf s) → c ≡ cursorsOf (d .id) ts → stringsOf g c ≡ stringMeasured ts w d s
   unfolding stringMeasured stringEntry
-  string-ahead g c ok l b p q =
+  string-ahead g c l b p q =
       let m : g ≡ stringStep ts w d (gatheredOf s) =
-      p ∙ ap (λ (n : ℕ). withEntry (d .id) n (gatheredOf s)) (sym (string-length (d .id) ts ok))
+      p ∙ ap (λ (n : ℕ). withEntry (d .id) n (gatheredOf s)) (sym (string-length (d .id) ts))
       ∙ sym (measured-wanted _ _ (stringEntry ts d) (gatheredOf s) b (in-range w (d .id) l (not-behind w (d .id) b))) in
       (λ i. stringsOf (m i) (q i)) ∙ ap (λ (x : Bool). stringsOf (stringStep ts w d (gatheredOf s)) (if x then cursorsIn s else cursorsOf (d .id) ts)) (sym b)
 
 -- written: the length's bytes stored one by one, and the text behind them
-pub string-put : (l : List ℕ) (at k n id : ℕ) (ts : TextLists) (text : List ℕ) → textListsOk ts ≡ true → k ≡ at + 2 → n ≡ length text → text ≡ textOf id ts
+pub string-put : (l : List ℕ) (at k n id : ℕ) (ts : TextLists) (text : List ℕ) → k ≡ at + 2 → n ≡ length text → text ≡ textOf id ts
     → at + length (stringOf id ts) ≤ length l → put (sets l at (0 ∷ n ∷ [])) k text ≡ put l at (stringOf id ts)
-string-put l at k n id ts text ok e m t h =
-    let b : 0 ∷ n ∷ text ≡ stringOf id ts = (λ i. 0 ∷ (m ∙ ap length t) i ∷ t i) ∙ sym (string-bytes id ts ok) in
+string-put l at k n id ts text e m t h =
+    let b : 0 ∷ n ∷ text ≡ stringOf id ts = (λ i. 0 ∷ (m ∙ ap length t) i ∷ t i) ∙ sym (string-bytes id ts) in
     let long : at + 2 + length text ≤ length l = omega (arith, h, ap length b) in
     ap (λ (r : List ℕ). put r k text) (put-sets (0 ∷ n ∷ []) l at (omega (arith, long))) ∙ put-put l at k (0 ∷ n ∷ []) text e (omega (arith, long)) ∙ ap (put l at) b
 
@@ -184,5 +173,5 @@ module _ (id : ℕ) (site defaults r : RefT (List ℕ)) (h : HandedOn (stretchOf
   unfolding textOf
   handed-text = h .bytes
 
-  pub handed-size : textListsOk (textLists (site .now) (defaults .now)) ≡ true → length (r .now) ≡ stretchOf id (textLists (site .now) (defaults .now)) .size
-  handed-size e = ap length handed-text ∙ text-size id (textLists (site .now) (defaults .now)) (true-T e)
+  pub handed-size : length (r .now) ≡ stretchOf id (textLists (site .now) (defaults .now)) .size
+  handed-size = ap length handed-text ∙ text-size id (textLists (site .now) (defaults .now))

@@ -31,6 +31,13 @@ rises-strictly last (x ∷ xs) t i zero p h = absurd (not-suc-le-zero p)
 rises-strictly last (x ∷ xs) t zero (suc j) p h = above-last x xs (right (ltb last x) (rising x xs) t) j (le-of-suc-le-suc h)
 rises-strictly last (x ∷ xs) t (suc i) (suc j) p h = rises-strictly x xs (right (ltb last x) (rising x xs) t) i j (le-of-suc-le-suc p) (le-of-suc-le-suc h)
 
+-- what rises from above a number rises from above a lower one
+pub rising-lower : (low last : ℕ) (xs : List ℕ) → low ≤ last → T (rising last xs) → T (rising low xs)
+unfolding rising
+rising-lower low last [] l t = tt
+rising-lower low last (x ∷ xs) l t =
+    both (ltb low x) (rising x xs) (lt→ltb low x (omega (arith, l, ltb→lt last x (left (ltb last x) (rising x xs) t)))) (right (ltb last x) (rising x xs) t)
+
 rising-from : (last : ℕ) (xs : List ℕ) → ((j : ℕ) → j < length xs → last < getD xs j 0) → ((i j : ℕ) → i < j → j < length xs → getD xs i 0 < getD xs j 0) → T (rising last xs)
 unfolding rising
 rising-from last [] p q = tt

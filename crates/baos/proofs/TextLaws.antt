@@ -11,11 +11,11 @@ use borrow.Author.Tests.{ne-eqb}
 use denote.Ref.{RefT}
 use Rattle.words.specs.Words.{if_then_else_, every}
 use Rattle.words.proofs.WordLaws.{left, right, both, T-true, true-T, every-keep}
-use Rattle.baos.specs.declared.inner.Stretch.{Stretch}
+use Rattle.baos.specs.declared.text.Stretch.{Stretch}
 use Rattle.baos.specs.declared.inner.Cursors.{Cursors}
 use Rattle.baos.specs.TextList.{EntryAt, spanOf, isEntry, firstEntry, entriesFrom, entriesAt, entriesIn, textListOk}
 use Rattle.baos.specs.Text.{TextLists, textListsOk, entriesFor, chosen, stretchOf, holder, stretchBytes, textOf, HandedOn}
-use Rattle.baos.specs.Inner.Cursors.{placeOf, cursorsOf, Reached, entryHere}
+use Rattle.baos.specs.Inner.Cursors.{placeOf, cursorsOf, entryHere}
 use Rattle.baos.proofs.TextListLaws.{entry-short, entry-whole, place-start, isFor}
 
 -- ---- both lists
@@ -45,11 +45,6 @@ pub cursors-start : (ts : TextLists) → cursorsOf 0 ts ≡ record { site = 0; d
 unfolding cursorsOf
 cursors-start ts = λ i. record { site = place-start (entriesIn (ts .site)) i; defaults = place-start (entriesIn (ts .defaults)) i }
 
--- and it goes on from where one for a lower ID, or for the same, has ended
-pub cursors-reach : (low id : ℕ) (ts : TextLists) → low ≤ id → Reached id (ts .site) (cursorsOf low ts .site) × Reached id (ts .defaults) (cursorsOf low ts .defaults)
-unfolding cursorsOf
-cursors-reach low id ts h = (record { low = low; below = h; place = refl }, record { low = low; below = h; place = refl })
-
 -- ---- the stretch that is chosen, by what the two lists have for the ID
 here-none : (id at size : ℕ) → size ≡ 0 → entryHere id at size ≡ []
 unfolding entryHere
@@ -78,10 +73,10 @@ module _ (id : ℕ) (ts : TextLists) (own : ℕ) (at : ℕ) (e : entriesFor id (
 abbrev inside : ℕ → EntryAt → Bool
 inside k e = leb (e .from + e .size) k && leb (e .size) 30
 
-texts-inside : (n at k : ℕ) (s : List ℕ) → at + length s ≤ k → T (every (inside k) (entriesFrom n at s))
+entries-inside : (n at k : ℕ) (s : List ℕ) → at + length s ≤ k → T (every (inside k) (entriesFrom n at s))
 unfolding entriesFrom
-texts-inside zero at k s h = tt
-texts-inside (suc n) at k s h = go (isEntry s) refl (λ e. texts-inside n (at + spanOf s) k (drop (spanOf s) s) (omega (arith, h, length-drop (spanOf s) s, entry-whole s e)))
+entries-inside zero at k s h = tt
+entries-inside (suc n) at k s h = go (isEntry s) refl (λ e. entries-inside n (at + spanOf s) k (drop (spanOf s) s) (omega (arith, h, length-drop (spanOf s) s, entry-whole s e)))
   where
     go : (b : Bool) → isEntry s ≡ b → (isEntry s ≡ true → T (every (inside k) (entriesFrom n (at + spanOf s) (drop (spanOf s) s))))
         → T (every (inside k) (elim b [ true ↦ firstEntry at s ∷ entriesFrom n (at + spanOf s) (drop (spanOf s) s) | false ↦ [] ]))
@@ -93,7 +88,7 @@ texts-inside (suc n) at k s h = go (isEntry s) refl (λ e. texts-inside n (at + 
 
 for-inside : (id : ℕ) (s : List ℕ) → T (every (inside (length s)) (entriesFor id s))
 unfolding entriesFor entriesAt
-for-inside id s = every-keep (isFor id) (inside (length s)) (entriesIn s) (texts-inside (length s) 0 (length s) s (omega arith))
+for-inside id s = every-keep (isFor id) (inside (length s)) (entriesIn s) (entries-inside (length s) 0 (length s) s (omega arith))
 
 -- so is the stretch chosen
 pub record Within (t : Stretch) (ts : TextLists) : Type 0 where
@@ -117,15 +112,15 @@ unfolding stretchOf
 within id ts = chosen-within ts (entriesFor id (ts .site)) (entriesFor id (ts .defaults)) (for-inside id (ts .site)) (for-inside id (ts .defaults))
 
 -- the text is as long as its stretch says, and has 30 bytes at most
-pub text-size : (id : ℕ) (ts : TextLists) → T (textListsOk ts) → length (textOf id ts) ≡ stretchOf id ts .size
+pub text-size : (id : ℕ) (ts : TextLists) → length (textOf id ts) ≡ stretchOf id ts .size
 unfolding textOf stretchBytes
-text-size id ts t =
+text-size id ts =
     let s : Stretch = stretchOf id ts in
     let l : List ℕ = holder s (ts .site) (ts .defaults) in
     length-take-le (s .size) (drop (s .from) l) (omega (arith, length-drop (s .from) l, within id ts .ends))
 
-pub text-short : (id : ℕ) (ts : TextLists) → T (textListsOk ts) → stretchOf id ts .size ≤ 30
-text-short id ts t = within id ts .short
+pub text-short : (id : ℕ) (ts : TextLists) → stretchOf id ts .size ≤ 30
+text-short id ts = within id ts .short
 
 -- ---- the part of a list that is handed on
 -- the list of a stretch, by the list that it says it is of

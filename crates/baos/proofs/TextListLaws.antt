@@ -76,8 +76,8 @@ spanAt at s = 3 + getD s (at + 2) 0
 abbrev pub idAt : ℕ → List ℕ → ℕ
 idAt at s = ofTwoBytes (getD s at 0) (getD s (at + 1) 0)
 
-abbrev pub textAt : ℕ → List ℕ → EntryAt
-textAt at s = record { id = idAt at s; from = at + 3; size = getD s (at + 2) 0 }
+abbrev pub entryAt : ℕ → List ℕ → EntryAt
+entryAt at s = record { id = idAt at s; from = at + 3; size = getD s (at + 2) 0 }
 
 -- an entry begins there
 pub record Begins (at : ℕ) (s : List ℕ) : Type 0 where
@@ -88,7 +88,7 @@ module _ (at : ℕ) (s : List ℕ) where
   size-is : getD (drop at s) 2 0 ≡ getD s (at + 2) 0
   size-is = getD-drop at s 2 0
 
-  first-is : firstEntry at (drop at s) ≡ textAt at s
+  first-is : firstEntry at (drop at s) ≡ entryAt at s
   first-is =
       let p : getD (drop at s) 0 0 ≡ getD s at 0 = getD-drop at s 0 0 ∙ ap (λ (k : ℕ). getD s k 0) {x = at + 0} {y = at} (omega arith) in
       let q : getD (drop at s) 1 0 ≡ getD s (at + 1) 0 = getD-drop at s 1 0 in
@@ -104,9 +104,9 @@ module _ (at : ℕ) (s : List ℕ) where
         short = omega (arith, size-is, entry-short (drop at s) e);
       }
 
-  pub texts-next : Begins at s → entriesAt at s ≡ textAt at s ∷ entriesAt (at + spanAt at s) s
+  entries-next : Begins at s → entriesAt at s ≡ entryAt at s ∷ entriesAt (at + spanAt at s) s
   unfolding entriesAt
-  texts-next b =
+  entries-next b =
       let r : drop (spanOf (drop at s)) (drop at s) ≡ drop (at + spanAt at s) s = drop-drop (spanOf (drop at s)) at s ∙ ap (λ (k : ℕ). drop (at + (3 + k)) s) size-is in
       from-one (length (drop at s)) at (drop at s) (begins-entry b) (omega arith)
       ∙ (λ i. first-is i ∷ entriesFrom (length (r i)) (at + (3 + size-is i)) (r i))
@@ -115,15 +115,15 @@ module _ (at : ℕ) (s : List ℕ) where
   unfolding entriesAt
   is-none e = from-none (length (drop at s)) at (drop at s) e
 
-  pub texts-none : (Begins at s → ⊥) → entriesAt at s ≡ []
-  texts-none n = go (isEntry (drop at s)) refl
+  entries-none : (Begins at s → ⊥) → entriesAt at s ≡ []
+  entries-none n = go (isEntry (drop at s)) refl
     where
       go : (b : Bool) → isEntry (drop at s) ≡ b → entriesAt at s ≡ []
       go true e = absurd (n (entry-begins e))
       go false e = is-none e
 
-  pub texts-end : length s ≤ at → entriesAt at s ≡ []
-  texts-end h = texts-none (λ b. omega (arith, h, b .whole))
+  entries-end : length s ≤ at → entriesAt at s ≡ []
+  entries-end h = entries-none (λ b. omega (arith, h, b .whole))
 
   -- where the entries reach the list's end, one begins wherever a byte is left
   pub begins : at + bytesTaken (entriesAt at s) ≡ length s → at < length s → Begins at s
@@ -135,9 +135,9 @@ module _ (at : ℕ) (s : List ℕ) where
       go false e = absurd (omega (arith, w, l, ap bytesTaken (is-none e)))
 
   -- and those behind it reach it too
-  pub still-whole : Begins at s → at + bytesTaken (entriesAt at s) ≡ length s → at + spanAt at s + bytesTaken (entriesAt (at + spanAt at s) s) ≡ length s
+  still-whole : Begins at s → at + bytesTaken (entriesAt at s) ≡ length s → at + spanAt at s + bytesTaken (entriesAt (at + spanAt at s) s) ≡ length s
   unfolding bytesTaken
-  still-whole b w = omega (arith, w, ap bytesTaken (texts-next b))
+  still-whole b w = omega (arith, w, ap bytesTaken (entries-next b))
 
 -- ---- the test of a list, from byte `at` on, where no ID may be below `least`
 abbrev pub okFrom : ℕ → ℕ → List ℕ → Bool
@@ -154,11 +154,11 @@ module _ (least at : ℕ) (s : List ℕ) where
 
   pub ok-end : at ≤ length s → length s ≤ at → okFrom least at s ≡ true
   unfolding riseFrom bytesTaken
-  ok-end h l = ap judged (texts-end at s l) ∙ eq-eqb (at + 0) (length s) (omega (arith, h, l))
+  ok-end h l = ap judged (entries-end at s l) ∙ eq-eqb (at + 0) (length s) (omega (arith, h, l))
 
   pub ok-broken : at < length s → (Begins at s → ⊥) → okFrom least at s ≡ false
   unfolding riseFrom bytesTaken
-  ok-broken l n = ap judged (texts-none at s n) ∙ ne-eqb (at + 0) (length s) (λ e. omega (arith, l, e))
+  ok-broken l n = ap judged (entries-none at s n) ∙ ne-eqb (at + 0) (length s) (λ e. omega (arith, l, e))
 
   module _ (b : Begins at s) where
     -- where the next entry begins
@@ -168,24 +168,24 @@ module _ (least at : ℕ) (s : List ℕ) where
     pub ok-low : idAt at s < least → okFrom least at s ≡ false
     unfolding riseFrom
     ok-low l =
-        ap judged (texts-next at s b)
-        ∙ ap (λ (t : Bool). t && riseFrom (suc (idAt at s)) (entriesAt next s) && eqb (at + bytesTaken (textAt at s ∷ entriesAt next s)) (length s)) (lt-leb least (idAt at s) l)
+        ap judged (entries-next at s b)
+        ∙ ap (λ (t : Bool). t && riseFrom (suc (idAt at s)) (entriesAt next s) && eqb (at + bytesTaken (entryAt at s ∷ entriesAt next s)) (length s)) (lt-leb least (idAt at s) l)
 
     pub ok-next : least ≤ idAt at s → okFrom least at s ≡ okFrom (idAt at s + 1) next s
     unfolding riseFrom bytesTaken
     ok-next l =
         let es : List EntryAt = entriesAt next s in
-        ap judged (texts-next at s b)
+        ap judged (entries-next at s b)
         ∙ ap (λ (t : Bool). t && riseFrom (suc (idAt at s)) es && eqb (at + (spanAt at s + bytesTaken es)) (length s)) (le-leb least (idAt at s) l)
         ∙ ap (λ (k : ℕ). riseFrom k es && eqb (at + (spanAt at s + bytesTaken es)) (length s)) (sym (add-one (idAt at s)))
         ∙ ap (λ (k : ℕ). riseFrom (idAt at s + 1) es && eqb k (length s)) {x = at + (spanAt at s + bytesTaken es)} {y = next + bytesTaken es} (omega arith)
 
 -- a list that is one reaches its end, and its IDs rise
-pub ok-whole : (s : List ℕ) → textListOk s ≡ true → 0 + bytesTaken (entriesAt 0 s) ≡ length s
+ok-whole : (s : List ℕ) → textListOk s ≡ true → 0 + bytesTaken (entriesAt 0 s) ≡ length s
 unfolding textListOk
 ok-whole s e = omega (arith, eqb-true (bytesTaken (entriesIn s)) (length s) (T-true (eqb (bytesTaken (entriesIn s)) (length s)) (right (riseFrom 0 (entriesIn s)) (eqb (bytesTaken (entriesIn s)) (length s)) (true-T e))))
 
-pub ok-rises : (s : List ℕ) → textListOk s ≡ true → riseFrom 0 (entriesAt 0 s) ≡ true
+ok-rises : (s : List ℕ) → textListOk s ≡ true → riseFrom 0 (entriesAt 0 s) ≡ true
 unfolding textListOk
 ok-rises s e = T-true (riseFrom 0 (entriesIn s)) (left (riseFrom 0 (entriesIn s)) (eqb (bytesTaken (entriesIn s)) (length s)) (true-T e))
 
@@ -218,15 +218,15 @@ kept-none id least (e ∷ es) h t =
     ∙ kept-none id (suc (e .id)) es (omega (arith, h, rise-least least e es t)) (rise-first least e es t)
 
 -- ---- where the entries of an ID belong
-pub place-below : (id : ℕ) (e : EntryAt) (es : List EntryAt) → e .id < id → placeIn id (e ∷ es) ≡ 3 + e .size + placeIn id es
+place-below : (id : ℕ) (e : EntryAt) (es : List EntryAt) → e .id < id → placeIn id (e ∷ es) ≡ 3 + e .size + placeIn id es
 unfolding placeIn
 place-below id e es h = ap (λ (b : Bool). if b then 3 + e .size + placeIn id es else 0) (lt-ltb (e .id) id h)
 
-pub place-here : (id : ℕ) (e : EntryAt) (es : List EntryAt) → id ≤ e .id → placeIn id (e ∷ es) ≡ 0
+place-here : (id : ℕ) (e : EntryAt) (es : List EntryAt) → id ≤ e .id → placeIn id (e ∷ es) ≡ 0
 unfolding placeIn
 place-here id e es h = ap (λ (b : Bool). if b then 3 + e .size + placeIn id es else 0) (le-ltb (e .id) id h)
 
-pub place-end : (id : ℕ) → placeIn id [] ≡ 0
+place-end : (id : ℕ) → placeIn id [] ≡ 0
 unfolding placeIn
 place-end id = refl
 
@@ -255,19 +255,19 @@ module _ (id a : ℕ) (s : List ℕ) (w : a + bytesTaken (entriesAt a s) ≡ len
   goes : Begins a s → idAt a s < id → Stands id (a + spanAt a s) (a + spanAt a s + placeIn id (entriesAt (a + spanAt a s) s)) s → Stands id a (a + placeIn id (entriesAt a s)) s
   goes b h r =
       let es : List EntryAt = entriesAt (a + spanAt a s) s in
-      let q : entriesAt a s ≡ textAt a s ∷ es = texts-next a s b in
-      let e : a + spanAt a s + placeIn id es ≡ a + placeIn id (entriesAt a s) = omega (arith, ap (placeIn id) q, place-below id (textAt a s) es h) in
+      let q : entriesAt a s ≡ entryAt a s ∷ es = entries-next a s b in
+      let e : a + spanAt a s + placeIn id es ≡ a + placeIn id (entriesAt a s) = omega (arith, ap (placeIn id) q, place-below id (entryAt a s) es h) in
       subst (λ (k : ℕ). Stands id a k s) e
       record {
         whole = r .whole;
         stops = r .stops;
-        kept = ap (keep (isFor id)) q ∙ kept-other id (textAt a s) es (λ z. omega (arith, h, z)) ∙ r .kept;
-        on = λ n l. omega (arith, ap (placeIn n) q, place-below n (textAt a s) es (omega (arith, h, l)), r .on n l);
-        rises = λ t. r .rises (rise-lower (suc (idAt a s)) es (rise-first 0 (textAt a s) es (sym (ap (riseFrom 0) q) ∙ t)));
+        kept = ap (keep (isFor id)) q ∙ kept-other id (entryAt a s) es (λ z. omega (arith, h, z)) ∙ r .kept;
+        on = λ n l. omega (arith, ap (placeIn n) q, place-below n (entryAt a s) es (omega (arith, h, l)), r .on n l);
+        rises = λ t. r .rises (rise-lower (suc (idAt a s)) es (rise-first 0 (entryAt a s) es (sym (ap (riseFrom 0) q) ∙ t)));
       }
 
 stands-from : (n id a : ℕ) (s : List ℕ) → length s ≤ a + n → a + bytesTaken (entriesAt a s) ≡ length s → Stands id a (a + placeIn id (entriesAt a s)) s
-stands-from zero id a s h w = stays id a s w (ap (placeIn id) (texts-end a s (omega (arith, h))) ∙ place-end id)
+stands-from zero id a s h w = stays id a s w (ap (placeIn id) (entries-end a s (omega (arith, h))) ∙ place-end id)
 stands-from (suc n) id a s h w = go (ltb a (length s)) refl (λ b. stands-from n id (a + spanAt a s) s (omega (arith, h)) (still-whole a s b w))
   where
     Rest : Type 0
@@ -275,11 +275,11 @@ stands-from (suc n) id a s h w = go (ltb a (length s)) refl (λ b. stands-from n
 
     by : (b : Begins a s) (t : Bool) → ltb (idAt a s) id ≡ t → Rest → Stands id a (a + placeIn id (entriesAt a s)) s
     by b true e r = goes id a s w b (ltb-true (idAt a s) id e) (r b)
-    by b false e r = stays id a s w (ap (placeIn id) (texts-next a s b) ∙ place-here id (textAt a s) (entriesAt (a + spanAt a s) s) (ltb-false (idAt a s) id e))
+    by b false e r = stays id a s w (ap (placeIn id) (entries-next a s b) ∙ place-here id (entryAt a s) (entriesAt (a + spanAt a s) s) (ltb-false (idAt a s) id e))
 
     go : (t : Bool) → ltb a (length s) ≡ t → Rest → Stands id a (a + placeIn id (entriesAt a s)) s
     go true e r = by (begins a s w (ltb-true a (length s) e)) (ltb (idAt a s) id) refl r
-    go false e r = stays id a s w (ap (placeIn id) (texts-end a s (ltb-false a (length s) e)) ∙ place-end id)
+    go false e r = stays id a s w (ap (placeIn id) (entries-end a s (ltb-false a (length s) e)) ∙ place-end id)
 
 -- in a list
 pub stands : (id : ℕ) (s : List ℕ) → textListOk s ≡ true → Stands id 0 (placeOf id s) s
@@ -303,20 +303,20 @@ search-begins id at s o r =
 
 module _ (id at : ℕ) (s : List ℕ) (h : Searching id at s) where
   pub search-ends : length s ≤ at → at ≡ placeOf id s
-  search-ends l = omega (arith, h .ahead, ap (placeIn id) (texts-end at s l), place-end id)
+  search-ends l = omega (arith, h .ahead, ap (placeIn id) (entries-end at s l), place-end id)
 
   pub search-entry : at < length s → Begins at s
   search-entry l = begins at s (h .whole) l
 
   pub search-stops : at < length s → id ≤ idAt at s → at ≡ placeOf id s
-  search-stops l k = omega (arith, h .ahead, ap (placeIn id) (texts-next at s (search-entry l)), place-here id (textAt at s) (entriesAt (at + spanAt at s) s) k)
+  search-stops l k = omega (arith, h .ahead, ap (placeIn id) (entries-next at s (search-entry l)), place-here id (entryAt at s) (entriesAt (at + spanAt at s) s) k)
 
   pub search-next : at < length s → idAt at s < id → Searching id (at + spanAt at s) s
   search-next l k =
       let b = search-entry l in
       record {
         whole = still-whole at s b (h .whole);
-        ahead = omega (arith, h .ahead, ap (placeIn id) (texts-next at s b), place-below id (textAt at s) (entriesAt (at + spanAt at s) s) k);
+        ahead = omega (arith, h .ahead, ap (placeIn id) (entries-next at s b), place-below id (entryAt at s) (entriesAt (at + spanAt at s) s) k);
       }
 
 -- ---- the text of an ID in a list, by the place where its entry belongs
@@ -333,40 +333,40 @@ module _ (id at : ℕ) (s : List ℕ) (o : textListOk s ≡ true) (p : at ≡ pl
 
   pub for-end : length s ≤ at → entriesFor id s ≡ entryHere id at 0
   unfolding entryHere
-  for-end l = for-is ∙ ap (keep (isFor id)) (texts-end at s l)
+  for-end l = for-is ∙ ap (keep (isFor id)) (entries-end at s l)
 
   module _ (l : at < length s) where
     abbrev behind : List EntryAt
     behind = entriesAt (at + spanAt at s) s
 
-    is-first : entriesAt at s ≡ textAt at s ∷ behind
-    is-first = texts-next at s (entry-here l)
+    is-first : entriesAt at s ≡ entryAt at s ∷ behind
+    is-first = entries-next at s (entry-here l)
 
     not-below : id ≤ idAt at s
     not-below = go (ltb (idAt at s) id) refl
       where
         go : (b : Bool) → ltb (idAt at s) id ≡ b → id ≤ idAt at s
-        go true e = absurd (omega (arith, here .stops, ap (placeIn id) is-first, place-below id (textAt at s) behind (ltb-true (idAt at s) id e)))
+        go true e = absurd (omega (arith, here .stops, ap (placeIn id) is-first, place-below id (entryAt at s) behind (ltb-true (idAt at s) id e)))
         go false e = ltb-false (idAt at s) id e
 
     none-behind : keep (isFor id) behind ≡ []
-    none-behind = kept-none id (suc (idAt at s)) behind (omega (arith, not-below)) (rise-first 0 (textAt at s) behind (sym (ap (riseFrom 0) is-first) ∙ here .rises (ok-rises s o)))
+    none-behind = kept-none id (suc (idAt at s)) behind (omega (arith, not-below)) (rise-first 0 (entryAt at s) behind (sym (ap (riseFrom 0) is-first) ∙ here .rises (ok-rises s o)))
 
     pub for-other : (idAt at s ≡ id → ⊥) → entriesFor id s ≡ entryHere id at 0
     unfolding entryHere
-    for-other n = for-is ∙ ap (keep (isFor id)) is-first ∙ kept-other id (textAt at s) behind n ∙ none-behind
+    for-other n = for-is ∙ ap (keep (isFor id)) is-first ∙ kept-other id (entryAt at s) behind n ∙ none-behind
 
     pub for-found : idAt at s ≡ id → entriesFor id s ≡ entryHere id at (getD s (at + 2) 0)
     unfolding entryHere
     for-found e =
         for-is ∙ ap (keep (isFor id)) is-first
-        ∙ ap (λ (b : Bool). if b && ltb 0 (getD s (at + 2) 0) then textAt at s ∷ keep (isFor id) behind else keep (isFor id) behind) (eq-eqb (idAt at s) id e)
-        ∙ ap (λ (es : List EntryAt). if ltb 0 (getD s (at + 2) 0) then textAt at s ∷ es else es) none-behind
+        ∙ ap (λ (b : Bool). if b && ltb 0 (getD s (at + 2) 0) then entryAt at s ∷ keep (isFor id) behind else keep (isFor id) behind) (eq-eqb (idAt at s) id e)
+        ∙ ap (λ (es : List EntryAt). if ltb 0 (getD s (at + 2) 0) then entryAt at s ∷ es else es) none-behind
         ∙ go (eqb (getD s (at + 2) 0) 0) refl
       where
         go : (b : Bool) → eqb (getD s (at + 2) 0) 0 ≡ b
-            → if ltb 0 (getD s (at + 2) 0) then textAt at s ∷ [] else [] ≡ if b then [] else record { id = id; from = at + 3; size = getD s (at + 2) 0 } ∷ []
-        go true q = ap (λ (b : Bool). if b then textAt at s ∷ [] else []) (le-ltb 0 (getD s (at + 2) 0) (omega (arith, eqb-true (getD s (at + 2) 0) 0 q)))
+            → if ltb 0 (getD s (at + 2) 0) then entryAt at s ∷ [] else [] ≡ if b then [] else record { id = id; from = at + 3; size = getD s (at + 2) 0 } ∷ []
+        go true q = ap (λ (b : Bool). if b then entryAt at s ∷ [] else []) (le-ltb 0 (getD s (at + 2) 0) (omega (arith, eqb-true (getD s (at + 2) 0) 0 q)))
         go false q =
-            ap (λ (b : Bool). if b then textAt at s ∷ [] else []) (lt-ltb 0 (getD s (at + 2) 0) (pos-of-ne-zero (eqb-false (getD s (at + 2) 0) 0 q)))
+            ap (λ (b : Bool). if b then entryAt at s ∷ [] else []) (lt-ltb 0 (getD s (at + 2) 0) (pos-of-ne-zero (eqb-false (getD s (at + 2) 0) 0 q)))
             ∙ ap (λ (k : ℕ). record { id = k; from = at + 3; size = getD s (at + 2) 0 } ∷ []) e

@@ -11,8 +11,8 @@ use Rattle.baos.specs.Get.{getServerItem, getDatapointDescription, getDe
 use Rattle.baos.specs.Get.{getParameterByte}
 use Rattle.baos.specs.Set.{setServerItem, setDatapointValue, setParameterByte}
 
--- Row 5: "sub not one of the six"; of the eight below, since "code 5 no longer for sub 08" (document 02, item 5), "code 5
--- no longer for sub 04" (item 1)
+-- Row 5: "sub not one of the six"; of the eight below, since "code 5 no longer for sub 08" (document 02, item 5), "code
+-- 5 no longer for sub 04" (item 1)
 unfoldable pub service : Tables → List ℕ → Served
 service t m =
     if eqb (subService m) 0x01 then getServerItem t m

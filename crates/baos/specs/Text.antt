@@ -1,6 +1,6 @@
--- The text of an ID: "the text comes from the site list, failing that the default list, where that has a non-empty entry
--- for the ID, else it is the empty start of the default list, and it is handed on as that stretch of whichever list held
--- it" (document 02, item 1).
+-- The text of an ID: "the text comes from the site list, failing that the default list, where that has a non-empty
+-- entry for the ID, else it is the empty start of the default list, and it is handed on as that stretch of whichever
+-- list held it" (document 02, item 1).
 use Prim.Native.Nat.{ℕ, _+_}
 use mathlib.Core.Path.{_≡_}
 use mathlib.Core.Bool.{Bool, true, false, _&&_}
@@ -9,7 +9,7 @@ use lib.ListN.{take, drop}
 use lib.Dec.{ltb, eqb}
 use denote.Ref.{RefT}
 use Rattle.words.specs.Words.{if_then_else_, keep}
-use Rattle.baos.specs.declared.inner.Stretch.{Stretch}
+use Rattle.baos.specs.declared.text.Stretch.{Stretch}
 use Rattle.baos.specs.TextList.{EntryAt, entriesIn, textListOk}
 
 -- the two lists that are lent
@@ -31,7 +31,7 @@ textListsOk ts = textListOk (ts .site) && textListOk (ts .defaults)
 unfoldable pub entriesFor : ℕ → List ℕ → List EntryAt
 entriesFor id s = keep (λ (e : EntryAt). eqb (e .id) id && ltb 0 (e .size)) (entriesIn s)
 
--- that of the site list, failing that that of the default list, "else it is the empty start of the default list"
+-- the site list's, failing that the default list's, "else it is the empty start of the default list"
 unfoldable pub chosen : List EntryAt → List EntryAt → Stretch
 chosen (e ∷ es) ds = record { ofsite = true; from = e .from; size = e .size }
 chosen [] (d ∷ ds) = record { ofsite = false; from = d .from; size = d .size }
@@ -52,7 +52,7 @@ stretchBytes s ts = take (s .size) (drop (s .from) (holder s (ts .site) (ts .def
 unfoldable pub textOf : ℕ → TextLists → List ℕ
 textOf id ts = stretchBytes (stretchOf id ts) ts
 
--- "handed on as that stretch of whichever list held it": r lies there, in that list and at that place, and has its bytes
+-- "handed on as that stretch of whichever list held it": r lies there, in that list and at that place, with its bytes
 pub record HandedOn (s : Stretch) (site defaults r : RefT (List ℕ)) : Type 0 where
   pub list : r .ptr .0 ≡ holder s site defaults .ptr .0
   pub place : r .ptr .1 ≡ s .from + holder s site defaults .ptr .1

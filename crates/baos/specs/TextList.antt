@@ -18,14 +18,19 @@ pub record ListEntry : Type 0 where
 unfoldable pub listEntryBytes : ListEntry → List ℕ
 listEntryBytes e = twoBytes (e .id) ++ length (e .text) ∷ e .text
 
--- The bytes s are a list "made of whole entries", which are these. (`e` stands where there is no entry, and so nowhere.)
+-- one entry behind the other
+abbrev pub listBytes : List ListEntry → List ℕ
+listBytes es = flatten (map listEntryBytes es)
+
+-- The bytes s are a list "made of whole entries", which are these. (`e` stands where there is no entry, and so
+-- nowhere.)
 pub record MadeOf (es : List ListEntry) (s : List ℕ) : Type 0 where
-  pub whole : s ≡ flatten (map listEntryBytes es)
+  pub whole : s ≡ listBytes es
   -- "an ID of two bytes"
   pub ids : (i : ℕ) (e : ListEntry) → i < length es → getD es i e .id < 65536
   -- "a length byte of 0 to 30"
   pub lengths : (i : ℕ) (e : ListEntry) → i < length es → length (getD es i e .text) ≤ 30
-  -- "strictly rising by ID"
+  -- "strictly rising by ID"; 0 may come first, since "1 or more" is said of tables
   pub strictly : (i j : ℕ) (e : ListEntry) → i < j → j < length es → getD es i e .id < getD es j e .id
 
 -- ---- as a test

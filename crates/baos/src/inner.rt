@@ -7,7 +7,7 @@ pub struct Wanted {
     // The first ID behind the range: start + number, which 16 bits do not hold.
     pub end: u32,
     pub filter: u8,
-    // Values, as against descriptions.
+    // Values, as against descriptions and strings.
     pub values: bool,
 }
 
@@ -40,7 +40,8 @@ pub struct EntryPlace {
     pub place: u16,
 }
 
-// What the first pass over strings has found, and where it stands in the two text lists.
+// What the first pass over strings has found, and where it stands in the two text lists: the fields of `Gathered` and
+// of `Cursors`, side by side, since the proofs of the passes read one field deep.
 pub struct Strings {
     pub count: u16,
     pub size: usize,
@@ -55,14 +56,6 @@ pub struct StringsEnd {
     pub end: usize,
     pub site: usize,
     pub defaults: usize,
-}
-
-// A part of one of the two text lists.
-pub struct Stretch {
-    // Of the site list, as against the default list.
-    pub ofsite: bool,
-    pub from: usize,
-    pub size: usize,
 }
 
 // Where a search stands in the two text lists.

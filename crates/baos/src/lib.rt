@@ -8,3 +8,4 @@ pub mod item;
 pub mod lookup;
 pub mod service;
 pub mod table;
+pub mod text;

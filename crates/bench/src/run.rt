@@ -19,7 +19,8 @@ pub struct Stand {
     pub place: usize,
 }
 
-// One call, with these text lists as far as their sizes go.
+// One call, with these text lists as far as their sizes go. They are lent from copies, under one lifetime, while `step`
+// takes the bench apart.
 fn step_with(lists: Lists, bench: Bench, event: Event) -> Bench
     requires { ⌜ (lists .sitesize ≤ 264) × (lists .defaultsize ≤ 264) × Within bench ⌝ }
     ensures { λ r. ⌜ r ≡ stepped bench (listsOf lists) event ⌝ }

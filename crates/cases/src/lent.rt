@@ -17,7 +17,7 @@ use script::record::parameters_of;
 use script::record::raised;
 use script::record::risen;
 
-// No record in any table.
+// No record in any table, and no text.
 const EMPTY: u8 = b'e';
 // An item more: ID, size, 01 where it is writable, data.
 const ITEM: u8 = b'i';
@@ -26,7 +26,7 @@ const ITEM: u8 = b'i';
 const DATAPOINTS: u8 = b'd';
 // The parameter bytes.
 const PARAMETERS: u8 = b'p';
-// The site's list of texts, and the default list: their bytes.
+// The site's list of texts, and the default list: their bytes. (The first letters of their names are taken.)
 const SITE: u8 = b'v';
 
 const DEFAULTS: u8 = b'w';

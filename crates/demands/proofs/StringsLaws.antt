@@ -1,35 +1,33 @@
 -- Requests for description strings: what they are answered, that they and all else leave the texts, and which text an ID has.
-use Prim.Native.Nat.{ℕ, zero, suc, _+_, _-_, _*_, _/_, _%_, _≤_, _<_}
+use Prim.Native.Nat.{ℕ, zero, suc, _+_, _-_, _*_, _≤_, _<_}
 use mathlib.Core.Path.{_≡_, refl, sym, _∙_, ap, subst}
 use mathlib.Core.Logic.{_≢_, _⊎_, inl, inr}
-use mathlib.Core.Bool.{Bool, true, false, not, _&&_, and-false}
+use mathlib.Core.Bool.{Bool, true, false, not, and-false}
 use mathlib.Core.List.{List, [], _∷_, _++_, map, flatten}
 use native.Mathlib.Omega.{arith}
 use native.Mathlib.Nat.{pos-of-ne-zero}
-use lib.ListN.{length, getD, take, drop, length-take, length-append}
-use lib.Seq.{drop-drop, drop-append-seam}
+use lib.ListN.{length, getD, take, drop, length-append}
 use lib.Dec.{T, ltb, eqb, ltb→lt, lt→ltb, eqb→eq}
 use borrow.Author.Tests.{lt-ltb, le-ltb, eq-eqb, ne-eqb, eqb-true, eqb-false, ltb-true, ltb-false}
-use Rattle.words.specs.Words.{if_then_else_, twoBytes, ofTwoBytes, keep, isEmpty}
+use Rattle.words.specs.Words.{if_then_else_, twoBytes, keep, isEmpty}
 use Rattle.words.proofs.WordLaws.{left, right, both}
 use Rattle.ft12.specs.Record.{Line, lineOf}
 use Rattle.ft12.specs.Rules.{onHostByte, onIdleMark}
 use Rattle.baos.specs.declared.datapoint.Datapoint.{Datapoint}
-use Rattle.baos.specs.declared.inner.Stretch.{Stretch}
+use Rattle.baos.specs.declared.text.Stretch.{Stretch}
 use Rattle.baos.specs.Datapoint.{datapointId, datapointOk}
-use Rattle.baos.specs.TextList.{ListEntry, listEntryBytes, MadeOf, EntryAt, isEntry, firstEntry, entriesFrom, entriesAt, entriesIn, textListOk}
+use Rattle.baos.specs.TextList.{ListEntry, MadeOf, EntryAt, textListOk}
 use Rattle.baos.specs.Text.{TextLists, textListsOk, entriesFor, chosen, stretchOf, holder, stretchBytes, textOf}
 use Rattle.baos.specs.Table.{Tables, rising, wellFormed}
 use Rattle.baos.specs.Message.{subService, startOf, numberOf, coded, Finding, fine, bad, Served, answerOf, served}
 use Rattle.baos.specs.Get.{AnswerEntry, inRequest, overflow, roomForEntries, listing, getFinding, getting, stringOf, stringEntry, getDescriptionString}
 use Rattle.baos.specs.Service.{unanswered, carriedOut}
 use Rattle.baos.specs.Indication.{indication}
-use Rattle.baos.proofs.TableLaws.{rises-decided, ids-rise}
+use Rattle.baos.proofs.TableLaws.{rises-decided, ids-rise, rising-lower}
 use Rattle.baos.proofs.KeepLaws.{parts, carried-texts}
 use Rattle.baos.proofs.ServiceLaws.{is-get-string, strings-leave-all}
-use Rattle.baos.proofs.TextListLaws.{is-entry, from-none, from-one, no-bytes, kept-other, isFor}
-use Rattle.baos.proofs.TextLaws.{within}
-use Rattle.baos.proofs.ListedLaws.{Found, text-named, text-unnamed, texts-decided}
+use Rattle.baos.proofs.StringLaws.{string-short}
+use Rattle.baos.proofs.ListedLaws.{beginsAt, Found, text-named, text-unnamed, text-list-decided}
 use Rattle.calls.specs.declared.event.Event.{Event}
 use Rattle.calls.specs.declared.event.Event.the-variants.{HostByte, IdleMark, AckWaitOver, Poll, BusValue, TransmissionOutcome}
 use Rattle.calls.specs.Event.{atDatapoint}
@@ -37,24 +35,12 @@ use Rattle.calls.specs.Call.{Done, handedUp, onMoved, happens, call}
 use Rattle.calls.proofs.CallJoins.{waited}
 use Rattle.calls.proofs.CallLaws.{refusal-1, refused-leaves}
 use Rattle.walks.proofs.Branches.{no-T}
-use Rattle.demands.proofs.Demand2.{demand-2}
 use Rattle.demands.proofs.HandedOutLaws.{by-call, byte-tables, by-poll}
 use Rattle.demands.specs.Entries.{messageUp}
 use Rattle.demands.specs.Status.{tablesAfterAll}
 use Rattle.demands.specs.Strings.{asksForStrings, AsksSome, presentInRange, stringsRefused, lengthAndText, stringsAnswer, StringsGiven, positive, negative, StringsAnswered, EachStringsAnswered, InRisingId, StringsChangeNothing, TextsOnlyRead, TextsOnlyReadByCall, TextsStand, EntryFor, NoEntryFor, textBegins, EachTextOf, ListsRefused, GettingStrings}
 
 -- ---- the strings of datapoints
--- a text has 30 bytes at most, and so its string 32
-pub text-at-most : (id : ℕ) (ts : TextLists) → length (textOf id ts) ≤ 30
-unfolding textOf stretchBytes
-text-at-most id ts =
-    let s : Stretch = stretchOf id ts in
-    omega (arith, length-take (s .size) (drop (s .from) (holder s (ts .site) (ts .defaults))), within id ts .short)
-
-pub string-short : (ts : TextLists) (d : Datapoint) → length (stringEntry ts d .bytes) ≤ 32
-unfolding stringEntry stringOf
-string-short ts d = omega (arith, text-at-most (d .id) ts)
-
 module _ (ts : TextLists) where
   -- one after the other
   abbrev stringBytes : List Datapoint → List ℕ
@@ -260,12 +246,6 @@ change-nothing : StringsChangeNothing
 change-nothing t m a = left-alone t m a
 
 -- ---- in rising ID
-rising-lower : (low last : ℕ) (ns : List ℕ) → low ≤ last → T (rising last ns) → T (rising low ns)
-unfolding rising
-rising-lower low last [] l r = tt
-rising-lower low last (n ∷ ns) l r =
-    both (ltb low n) (rising n ns) (lt→ltb low n (omega (arith, l, ltb→lt last n (left (ltb last n) (rising n ns) r)))) (right (ltb last n) (rising n ns) r)
-
 rising-kept : (p : Datapoint → Bool) (last : ℕ) (ds : List Datapoint) → T (rising last (map datapointId ds)) → T (rising last (map datapointId (keep p ds)))
 unfolding rising
 rising-kept p last [] r = tt
@@ -307,117 +287,24 @@ texts-stand (x ∷ hs) t k =
     let c = call (x .event) (x .value) t k (x .output) in
     texts-stand hs (c .tables) (c .link) ∙ only-read-by-call (x .event) (x .value) t k (x .output)
 
--- ---- where the text of an entry begins
--- the bytes of entries, and an entry in front of bytes
-abbrev listBytes : List ListEntry → List ℕ
-listBytes es = flatten (map listEntryBytes es)
-
-abbrev entryThen : ListEntry → List ℕ → List ℕ
-entryThen e r = e .id / 256 ∷ e .id % 256 ∷ length (e .text) ∷ (e .text ++ r)
-
-first-bytes : (e : ListEntry) (es : List ListEntry) → listBytes (e ∷ es) ≡ entryThen e (listBytes es)
-unfolding listEntryBytes flatten
-first-bytes e es = refl
-
-no-list-bytes : listBytes [] ≡ []
-unfolding flatten
-no-list-bytes = refl
-
-behind-first : (e : ListEntry) (r : List ℕ) → drop (3 + length (e .text)) (entryThen e r) ≡ r
-behind-first e r = sym (drop-drop (length (e .text)) 3 (entryThen e r)) ∙ drop-append-seam (e .text) r
-
--- the entries as they are found, from byte `at` of a list on
-abbrev foundAt : ℕ → ListEntry → EntryAt
-foundAt at e = record { id = e .id; from = at + 3; size = length (e .text) }
-
-abbrev foundIn : ℕ → List ListEntry → List EntryAt
-foundIn at [] = []
-foundIn at (e ∷ es) = foundAt at e ∷ foundIn (at + (3 + length (e .text))) es
-
-found-from : (n at : ℕ) (es : List ListEntry) → ((i : ℕ) (e : ListEntry) → i < length es → length (getD es i e .text) ≤ 30) → length (listBytes es) ≤ n
-    → entriesFrom n at (listBytes es) ≡ foundIn at es
-found-from n at [] short h = ap (entriesFrom n at) no-list-bytes ∙ from-none n at [] (no-bytes [] (omega arith))
-found-from n at (e ∷ es) short h =
-    let r : List ℕ = listBytes es in
-    let s : List ℕ = entryThen e r in
-    let next : ℕ = at + (3 + length (e .text)) in
-    let whole : isEntry s ≡ true = is-entry s (short 0 e (omega arith)) (omega (arith, length-append (e .text) r)) in
-    let number : ofTwoBytes (e .id / 256) (e .id % 256) ≡ e .id = omega arith in
-    ap (entriesFrom n at) (first-bytes e es)
-    ∙ from-one n at s whole (omega (arith, h, ap length (first-bytes e es)))
-    ∙ ap {B = List EntryAt} (λ (d : List ℕ). firstEntry at s ∷ entriesFrom (length d) next d) (behind-first e r)
-    ∙ (λ i. record { id = number i; from = at + 3; size = length (e .text) } ∷ found-from (length r) next es (λ j x l. short (suc j) x (omega (arith, l))) (omega arith) i)
-
-all-found : (es : List ListEntry) (s : List ℕ) → MadeOf es s → entriesIn s ≡ foundIn 0 es
-unfolding entriesAt
-all-found es s l = ap (λ (x : List ℕ). entriesFrom (length x) 0 x) (l .whole) ∙ found-from (length (listBytes es)) 0 es (l .lengths) (omega arith)
-
--- the first entry found for an ID is the one that has it
-record FirstFor (id : ℕ) (x : EntryAt) (xs : List EntryAt) : Type 0 where
-  rest : List EntryAt
-  is : keep (isFor id) xs ≡ x ∷ rest
-
-first-for : (at i : ℕ) (es : List ListEntry) (id : ℕ) (text : List ℕ) → EntryFor id text i es → ((j k : ℕ) (e : ListEntry) → j < k → k < length es → getD es j e .id < getD es k e .id)
-    → FirstFor id (record { id = id; from = at + textBegins i es; size = length text }) (foundIn at es)
-unfolding textBegins
-first-for at i [] id text f rise = absurd (omega (arith, f .within))
-first-for at zero (x ∷ es) id text f rise =
-    let e : x ≡ record { id = id; text = text } = f .entry x in
-    let more : List EntryAt = foundIn (at + (3 + length (x .text))) es in
-    let kept : List EntryAt = keep (isFor id) more in
-    record {
-      rest = kept;
-      is = ap (λ (b : Bool). if b && ltb 0 (length (x .text)) then foundAt at x ∷ kept else kept) (eq-eqb (x .id) id (ap (λ (y : ListEntry). y .id) e))
-          ∙ ap (λ (b : Bool). if b then foundAt at x ∷ kept else kept) (lt-ltb 0 (length (x .text)) (omega (arith, f .not-empty, ap (λ (y : ListEntry). length (y .text)) e)))
-          ∙ (λ j. record { id = e j .id; from = front j; size = length (e j .text) } ∷ kept);
-    }
-  where
-    front : at + 3 ≡ at + (length (listBytes []) + 3)
-    front = omega (arith, ap length no-list-bytes)
-first-for at (suc i) (x ∷ es) id text f rise =
-    let next : ℕ = at + (3 + length (x .text)) in
-    let r = first-for next i es id text (record { within = omega (arith, f .within); entry = f .entry; not-empty = f .not-empty }) (λ j k e p q. rise (suc j) (suc k) e (omega (arith, p)) (omega (arith, q))) in
-    let other : x .id < getD es i x .id = rise 0 (suc i) x (omega arith) (f .within) in
-    let named : getD es i x .id ≡ id = ap (λ (y : ListEntry). y .id) (f .entry x) in
-    let place : next + (length (listBytes (take i es)) + 3) ≡ at + (length (listBytes (x ∷ take i es)) + 3) = omega (arith, ap length (first-bytes x (take i es)), length-append (x .text) (listBytes (take i es))) in
-    record {
-      rest = r .rest;
-      is = kept-other id (foundAt at x) (foundIn next es) (λ q. omega (arith, q, other, named)) ∙ r .is ∙ (λ j. record { id = id; from = place j; size = length text } ∷ r .rest);
-    }
-
 -- ---- which text an ID has
 -- what stands at a place of a list, whatever would stand behind the list
-at-place : {A : Type 0} (xs : List A) (i : ℕ) (d e : A) → i < length xs → getD xs i d ≡ getD xs i e
-at-place [] i d e h = absurd (omega (arith, h))
-at-place (x ∷ xs) zero d e h = refl
-at-place (x ∷ xs) (suc i) d e h = at-place xs i d e (omega (arith, h))
+whichever : {A : Type 0} (xs : List A) (i : ℕ) (d e : A) → i < length xs → getD xs i d ≡ getD xs i e
+whichever [] i d e h = absurd (omega (arith, h))
+whichever (x ∷ xs) zero d e h = refl
+whichever (x ∷ xs) (suc i) d e h = whichever xs i d e (omega (arith, h))
 
 -- the entries of a list for an ID: that one, or none
 module _ (es : List ListEntry) (s : List ℕ) (l : MadeOf es s) (id : ℕ) where
   module _ (text : List ℕ) (i : ℕ) (f : EntryFor id text i es) where
-    abbrev place : EntryAt
-    place = record { id = id; from = textBegins i es; size = length text }
-
     none : ListEntry
     none = record { id = 0; text = [] }
 
-    named : Found text (entriesFor id s) s
+    named : Found id text (textBegins i es) (entriesFor id s) s
+    unfolding textBegins
     named =
-        subst (λ (e : ListEntry). Found (e .text) (entriesFor (e .id) s) s) (f .entry none)
+        subst (λ (e : ListEntry). Found (e .id) (e .text) (beginsAt i es) (entriesFor (e .id) s) s) (f .entry none)
         (text-named es s l i none (f .within) (omega (arith, f .not-empty, ap (λ (e : ListEntry). length (e .text)) (f .entry none))))
-
-    is-place : named .entry ≡ place
-    unfolding entriesFor
-    is-place =
-        let r = first-for 0 i es id text f (l .strictly) in
-        ap (λ (xs : List EntryAt). getD xs 0 place) (sym (named .one) ∙ ap (keep (isFor id)) (all-found es s l) ∙ r .is)
-        ∙ ap (λ (n : ℕ). record { id = id; from = n; size = length text }) {x = 0 + textBegins i es} {y = textBegins i es} (omega arith)
-
-    one-found : entriesFor id s ≡ place ∷ []
-    one-found = named .one ∙ ap (λ (e : EntryAt). e ∷ []) is-place
-
-    has-text : take (length text) (drop (textBegins i es) s) ≡ text
-    has-text = ap (λ (e : EntryAt). take (e .size) (drop (e .from) s)) (sym is-place) ∙ named .spelt
 
   none-found : NoEntryFor id es → entriesFor id s ≡ []
   none-found n = text-unnamed es s l id (λ i e h p. by i e h p (eqb (length (getD es i e .text)) 0) refl)
@@ -428,7 +315,7 @@ module _ (es : List ListEntry) (s : List ℕ) (l : MadeOf es s) (id : ℕ) where
           absurd (n (getD es i e .text) i
           record {
             within = h;
-            entry = λ x. at-place es i x e h ∙ (λ j. record { id = p j; text = getD es i e .text });
+            entry = λ x. whichever es i x e h ∙ (λ j. record { id = p j; text = getD es i e .text });
             not-empty = pos-of-ne-zero (eqb-false (length (getD es i e .text)) 0 q);
           })
 
@@ -437,11 +324,11 @@ unfolding stretchOf chosen textOf stretchBytes
 each-text es ds ts id p q =
     record {
       from-site = λ text i f.
-          let c : stretchOf id ts ≡ record { ofsite = true; from = textBegins i es; size = length text } = ap (λ (xs : List EntryAt). chosen xs (entriesFor id (ts .defaults))) (one-found es (ts .site) p id text i f) in
-          (reads c (has-text es (ts .site) p id text i f), c);
+          let c : stretchOf id ts ≡ record { ofsite = true; from = textBegins i es; size = length text } = ap (λ (xs : List EntryAt). chosen xs (entriesFor id (ts .defaults))) (named es (ts .site) p id text i f .one) in
+          (reads c (named es (ts .site) p id text i f .spelt), c);
       from-default = λ n text i f.
-          let c : stretchOf id ts ≡ record { ofsite = false; from = textBegins i ds; size = length text } = λ j. chosen (none-found es (ts .site) p id n j) (one-found ds (ts .defaults) q id text i f j) in
-          (reads c (has-text ds (ts .defaults) q id text i f), c);
+          let c : stretchOf id ts ≡ record { ofsite = false; from = textBegins i ds; size = length text } = λ j. chosen (none-found es (ts .site) p id n j) (named ds (ts .defaults) q id text i f .one j) in
+          (reads c (named ds (ts .defaults) q id text i f .spelt), c);
       empty-start = λ n o.
           let c : stretchOf id ts ≡ record { ofsite = false; from = 0; size = 0 } = λ j. chosen (none-found es (ts .site) p id n j) (none-found ds (ts .defaults) q id o j) in
           (reads c refl, c);
@@ -469,7 +356,6 @@ getting-strings =
       only-read-by-call = only-read-by-call;
       texts-stand = texts-stand;
       each-text = each-text;
-      lists-decided = texts-decided;
+      lists-decided = text-list-decided;
       lists-refused = lists-refused;
-      demand-2-covers = demand-2;
     }

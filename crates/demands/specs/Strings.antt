@@ -16,7 +16,7 @@ use Rattle.ft12.specs.declared.record.Link.{Link}
 use Rattle.ft12.specs.Frame.{longestMessage}
 use Rattle.baos.specs.declared.datapoint.Datapoint.{Datapoint}
 use Rattle.baos.specs.Datapoint.{datapointId}
-use Rattle.baos.specs.TextList.{ListEntry, listEntryBytes, MadeOf, textListOk}
+use Rattle.baos.specs.TextList.{ListEntry, listBytes, MadeOf, textListOk}
 use Rattle.baos.specs.Text.{TextLists, stretchOf, textOf}
 use Rattle.baos.specs.Table.{Tables, Rises, wellFormed}
 use Rattle.baos.specs.Message.{subService, startOf, numberOf}
@@ -26,7 +26,6 @@ use Rattle.calls.specs.declared.event.Event.{Event}
 use Rattle.calls.specs.declared.reply.Reply.the-variants.{Refused}
 use Rattle.calls.specs.Call.{call}
 use Rattle.demands.specs.HostHears.{Happening}
-use Rattle.demands.specs.Answers.{Demand2}
 use Rattle.demands.specs.Status.{tablesAfterAll}
 
 -- ---- a request for description strings
@@ -44,7 +43,7 @@ unfoldable pub presentInRange : Tables → List ℕ → List Datapoint
 presentInRange t m = keep (λ (d : Datapoint). inRequest m (d .id)) (t .datapoints)
 
 -- ---- what it is answered
--- 000, 3.9: main service F0, sub-service 84, an ID, number of strings 0, a code
+-- 000, 3.9, with the ID that 01's table names: main service F0, sub-service 84, ID, number of strings 0, a code
 unfoldable pub stringsRefused : ℕ → ℕ → List ℕ
 stringsRefused id code = 0xF0 ∷ 0x84 ∷ twoBytes id ++ 0 ∷ 0 ∷ code ∷ []
 
@@ -126,9 +125,10 @@ NoEntryFor id es = (text : List ℕ) (i : ℕ) → EntryFor id text i es → ⊥
 
 -- at which byte of its list that entry's text begins: behind the entries in front, its ID and its length byte
 unfoldable pub textBegins : ℕ → List ListEntry → ℕ
-textBegins i es = length (flatten (map listEntryBytes (take i es))) + 3
+textBegins i es = length (listBytes (take i es)) + 3
 
--- es are the site list's entries, ds the default list's
+-- es are the site list's entries, ds the default list's. That the code hands on this very part of the list, and no
+-- copy, is the promise of `text_of`: `HandedOn` (baos specs/Text.antt)
 pub record TextOf (es ds : List ListEntry) (ts : TextLists) (id : ℕ) : Type 0 where
   -- "the text comes from the site list"
   pub from-site : (text : List ℕ) (i : ℕ) → EntryFor id text i es
@@ -152,7 +152,8 @@ EachTextOf =
 abbrev pub ListsDecided : Type 0
 ListsDecided = (s : List ℕ) → T (areBytes s) → T (textListOk s) ↔ ((es : List ListEntry) × MadeOf es s)
 
--- and where either list does not pass it, every call is refused with that number, and nothing lent is altered
+-- and where either list does not pass it, every call is refused with that number, and nothing lent is altered. That 1
+-- is given for nothing but tables and lists is demand 1
 abbrev pub ListsRefused : Type 0
 ListsRefused =
     (e : Event) (v : List ℕ) (t : Tables) (k : Link) (out : List ℕ)
@@ -170,8 +171,8 @@ pub record GettingStrings : Type 0 where
   pub each-text : EachTextOf
   pub lists-decided : ListsDecided
   pub lists-refused : ListsRefused
-  -- "Demand 2 covers the new sub": its text speaks of every message and every call, and so of these too
-  pub demand-2-covers : Demand2
+
+-- "Demand 2 covers the new sub": its text speaks of every message and every call, and so of these too.
 
 -- To read it: an answered message with sub 04 is answered with code 10, 6, 2 or 3, or, where no condition of these is
 -- met, with the strings of the datapoints in its range, each a length of two bytes and that datapoint's text. The text

@@ -15,7 +15,7 @@ use Rattle.baos.specs.declared.item.Item.{Item}
 use Rattle.baos.specs.Table.{Tables}
 use Rattle.baos.proofs.TableLaws.{same-tables}
 use Rattle.demands.specs.Run.{Ran}
-use Rattle.examples.specs.Example.{Case, runOf, stated, lineAt, exchange, item1, ask1, answer1, case1, case2, ask1even, case2even, datapoint, datapoint5, answer3, set5, case3, case4, oneByteFrom, oneBytes, entriesFrom, case5, case5more, parameterBytes, case6, case6more, case9, case9one, listEntry, listOf, lampTexts, caseTexts, longTextsFrom, longTexts, stringsOf, caseLongTexts, caseLongTextsMore, cases}
+use Rattle.examples.specs.Example.{Case, runOf, stated, lineAt, exchange, item1, ask1, answer1, case1, case2, ask1even, case2even, datapoint, datapoint5, answer3, set5, case3, case4, oneByteFrom, oneBytes, entriesFrom, case5, case5more, parameterBytes, case6, case6more, case9, case9one, listEntry, lampTexts, caseTexts, longTextsFrom, longTexts, longStrings, caseLongTexts, caseLongTextsMore, cases}
 use Rattle.examples.proofs.Opened.{opened}
 
 -- ---- the tests
@@ -60,7 +60,7 @@ agrees c = all-pass (ranTests (runOf c) (stated c))
 
 -- ---- computed
 tested : T (every agrees cases)
-unfolding cases opened runOf stated sameDatapoint sameItem sameTables sameLink agrees lineAt exchange item1 ask1 answer1 case1 case2 ask1even case2even datapoint datapoint5 answer3 set5 case3 case4 oneByteFrom oneBytes entriesFrom case5 case5more parameterBytes case6 case6more case9 case9one listEntry listOf lampTexts caseTexts longTextsFrom longTexts stringsOf caseLongTexts caseLongTextsMore
+unfolding cases opened runOf stated sameDatapoint sameItem sameTables sameLink agrees lineAt exchange item1 ask1 answer1 case1 case2 ask1even case2even datapoint datapoint5 answer3 set5 case3 case4 oneByteFrom oneBytes entriesFrom case5 case5more parameterBytes case6 case6more case9 case9one listEntry lampTexts caseTexts longTextsFrom longTexts longStrings caseLongTexts caseLongTextsMore
 tested = tt
 
 -- ---- what the tests mean

@@ -25,7 +25,7 @@ use Rattle.baos.proofs.TableLaws.{ids-rise, entries-ok}
 use Rattle.baos.proofs.KeepLaws.{parts}
 use Rattle.baos.proofs.LastLaws.{last-in-request, keep-same, keep-both, keep-found}
 use Rattle.baos.proofs.ServiceLaws.{is-get-item, is-get-description, is-get-string, is-get-value, is-get-parameter}
-use Rattle.demands.proofs.StringsLaws.{string-short}
+use Rattle.baos.proofs.StringLaws.{string-short}
 use Rattle.examples.specs.Example.{TwoByteIds, AnsweredWith, LastId, RefusedWith, EmptyTable}
 
 -- ---- 7

@@ -1,9 +1,9 @@
--- The examples of document 01 that are marked P, and two for item 1 of document 02: one list, and what it means that
+-- The examples of document 01 that are marked P, and three for item 1 of document 02: one list, and what it means that
 -- one of them holds.
 use Prim.Native.Nat.{ℕ, zero, suc, _+_, _≤_}
 use mathlib.Core.Path.{_≡_}
 use mathlib.Core.Bool.{Bool, true, false}
-use mathlib.Core.List.{List, [], _∷_, _++_, map, flatten}
+use mathlib.Core.List.{List, [], _∷_, _++_, map}
 use lib.ListN.{length, drop, replicate}
 use lib.Dec.{T, ltb}
 use Rattle.words.specs.Words.{if_then_else_, isEmpty, pad, keep, every}
@@ -13,7 +13,7 @@ use Rattle.baos.specs.declared.datapoint.Datapoint.{Datapoint}
 use Rattle.baos.specs.declared.item.Item.{Item}
 use Rattle.baos.specs.Datapoint.{datapointId}
 use Rattle.baos.specs.Item.{itemId}
-use Rattle.baos.specs.TextList.{ListEntry, listEntryBytes}
+use Rattle.baos.specs.TextList.{ListEntry, listBytes}
 use Rattle.baos.specs.Text.{textLists}
 use Rattle.baos.specs.Table.{Tables, datapointsOnly, itemsOnly, parametersOnly, datapointsWithTexts, wellFormed, found}
 use Rattle.baos.specs.Message.{mainService, subService, startOf, numberOf, filterOf, coded}
@@ -216,9 +216,6 @@ case9one =
 unfoldable pub listEntry : ℕ → List ℕ → ListEntry
 listEntry id text = record { id = id; text = text }
 
-unfoldable pub listOf : List ListEntry → List ℕ
-listOf es = flatten (map listEntryBytes es)
-
 -- "the text comes from the site list, failing that the default list, where that has a non-empty entry for the ID, else
 -- it is the empty start of the default list": datapoint 1 is "Lamp" in the site list and "Light" in the default list,
 -- and the site's text answers; datapoint 2 has an empty entry in the site list, which does not hide the default's
@@ -226,8 +223,8 @@ listOf es = flatten (map listEntryBytes es)
 unfoldable pub lampTexts : Tables
 lampTexts =
     datapointsWithTexts (oneByteFrom 1 3)
-    (textLists (listOf (listEntry 1 (0x4C ∷ 0x61 ∷ 0x6D ∷ 0x70 ∷ []) ∷ listEntry 2 [] ∷ []))
-    (listOf
+    (textLists (listBytes (listEntry 1 (0x4C ∷ 0x61 ∷ 0x6D ∷ 0x70 ∷ []) ∷ listEntry 2 [] ∷ []))
+    (listBytes
     (listEntry 1 (0x4C ∷ 0x69 ∷ 0x67 ∷ 0x68 ∷ 0x74 ∷ [])
     ∷ listEntry 2 (0x42 ∷ 0x6C ∷ 0x69 ∷ 0x6E ∷ 0x64 ∷ [])
     ∷ [])))
@@ -246,15 +243,15 @@ longTextsFrom id zero = []
 longTextsFrom id (suc n) = listEntry id (replicate 30 0x61) ∷ longTextsFrom (suc id) n
 
 unfoldable pub longTexts : ℕ → Tables
-longTexts n = datapointsWithTexts (oneByteFrom 1 n) (textLists [] (listOf (longTextsFrom 1 n)))
+longTexts n = datapointsWithTexts (oneByteFrom 1 n) (textLists [] (listBytes (longTextsFrom 1 n)))
 
-unfoldable pub stringsOf : ℕ → List ℕ
-stringsOf zero = []
-stringsOf (suc n) = 0x00 ∷ 30 ∷ replicate 30 0x61 ++ stringsOf n
+unfoldable pub longStrings : ℕ → List ℕ
+longStrings zero = []
+longStrings (suc n) = 0x00 ∷ 30 ∷ replicate 30 0x61 ++ longStrings n
 
 unfoldable pub caseLongTexts : Case
 caseLongTexts = exchange (longTexts 7) (0xF0 ∷ 0x04 ∷ 0x00 ∷ 0x01 ∷ 0x00 ∷ 7 ∷ [])
-    (0xF0 ∷ 0x84 ∷ 0x00 ∷ 0x01 ∷ 0x00 ∷ 7 ∷ stringsOf 7) (longTexts 7)
+    (0xF0 ∷ 0x84 ∷ 0x00 ∷ 0x01 ∷ 0x00 ∷ 7 ∷ longStrings 7) (longTexts 7)
 
 unfoldable pub caseLongTextsMore : Case
 caseLongTextsMore = exchange (longTexts 8) (0xF0 ∷ 0x04 ∷ 0x00 ∷ 0x01 ∷ 0x00 ∷ 8 ∷ [])

@@ -1,5 +1,5 @@
-// Gathering strings into an answer, in two passes over the table as for other gets. The text lists are searched forward,
-// by cursors that go along with each pass.
+// Gathering strings into an answer, in two passes over the table as for other gets. The text lists are searched
+// forward, by cursors that go along with each pass.
 ghost use mathlib.Core.Path.{_≡_};
 ghost use mathlib.Core.Bool.{true};
 ghost use Prim.Native.Nat.{_+_, _≤_};

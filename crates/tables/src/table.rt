@@ -86,8 +86,8 @@ fn items_well_formed(table: &[Item]) -> bool
     true
 }
 
-// Whether refusal 1 is not given: each table and both text lists are well formed. How many bytes are outstanding, 0 where nothing is, is
-// told beside them; no record names a frame.
+// Whether refusal 1 is not given: each table is well formed, and so are both text lists. How many bytes are
+// outstanding, 0 where nothing is, is told beside them; no record names a frame.
 pub fn tables_ok<'a>(
     datapoints: &[Datapoint],
     items: &[Item],

@@ -8,7 +8,7 @@ use crate::text_list::ENTRY_HEAD;
 use crate::text_list::id_at;
 use crate::text_list::text_place;
 use baos::inner::Cursors;
-use baos::inner::Stretch;
+use baos::text::Stretch;
 
 // The cursors, moved forward to where the entries of this ID belong.
 pub fn cursors_at<'a>(site: &'a [u8], defaults: &'a [u8], c: Cursors, id: u16) -> Cursors

@@ -1,5 +1,5 @@
--- Where a search that goes forward stands in the lists. Inner contracts alone cite these; what text an ID has is said by
--- Text.
+-- Where a search that goes forward stands in the lists. Inner contracts alone cite these; what text an ID has is said
+-- by Text.
 use Prim.Native.Nat.{ℕ, _+_, _≤_}
 use mathlib.Core.Path.{_≡_}
 use mathlib.Core.List.{List, [], _∷_}
@@ -31,6 +31,7 @@ pub record BothReached (id : ℕ) (ts : TextLists) (c : Cursors) : Type 0 where
   pub site : Reached id (ts .site) (c .site)
   pub defaults : Reached id (ts .defaults) (c .defaults)
 
--- the text of so many bytes whose entry stands at byte `at`, none where it has no byte
+-- what a list has for an ID whose entry begins at byte `at` and has a text of so many bytes: that, or none where they
+-- are 0
 unfoldable pub entryHere : ℕ → ℕ → ℕ → List EntryAt
 entryHere id at size = if eqb size 0 then [] else record { id = id; from = at + 3; size = size } ∷ []

@@ -27,14 +27,14 @@ slice-write-out c =
     let b = c .before .before .before .before .before in
     let a = b .args in
     let ts : TextLists = textLists (a .site .now) (a .defaults .now) in
-    omega (arith, b .pre .2, string-length (a .id) ts (b .pre .0))
+    omega (arith, b .pre .2, string-length (a .id) ts)
 
 cast-out : tie.Need-cast-out
 cast-out c =
     let b = c .before .before .before .before .before in
     let a = b .args in
     let ts : TextLists = textLists (a .site .now) (a .defaults .now) in
-    omega (arith, handed-size (a .id) (a .site) (a .defaults) _ (c .text-of .ensures) (b .pre .0), within (a .id) ts .short)
+    omega (arith, handed-size (a .id) (a .site) (a .defaults) _ (c .text-of .ensures), within (a .id) ts .short)
 
 add-out : tie.Need-add-out
 add-out c = search needs
@@ -44,7 +44,7 @@ slice-write-out-2 c =
     let b = c .before .before .before .before .before in
     let a = b .args in
     let ts : TextLists = textLists (a .site .now) (a .defaults .now) in
-    simp length-set (omega (arith, b .pre .2, string-length (a .id) ts (b .pre .0)))
+    simp length-set (omega (arith, b .pre .2, string-length (a .id) ts))
 
 add-put-bytes : tie.Need-add-put-bytes
 add-put-bytes c = search needs
@@ -55,7 +55,7 @@ put-bytes-requires c κs =
     let a = b .args in
     let ts : TextLists = textLists (a .site .now) (a .defaults .now) in
     simp length-set
-    (omega (arith, b .pre .2, string-length (a .id) ts (b .pre .0), handed-size (a .id) (a .site) (a .defaults) _ (c .before .text-of .ensures) (b .pre .0)))
+    (omega (arith, b .pre .2, string-length (a .id) ts, handed-size (a .id) (a .site) (a .defaults) _ (c .before .text-of .ensures)))
 
 add-t13 : tie.Need-add-t13
 add-t13 c = search needs
@@ -66,16 +66,16 @@ add-t18 c =
     let a = b .args in
     let ts : TextLists = textLists (a .site .now) (a .defaults .now) in
     let k : length (a .out .now) < 9223372036854775808 = search needs in
-    omega (arith, k, b .pre .2, string-length (a .id) ts (b .pre .0), handed-size (a .id) (a .site) (a .defaults) _ (c .before .before .before .before .text-of .ensures) (b .pre .0))
+    omega (arith, k, b .pre .2, string-length (a .id) ts, handed-size (a .id) (a .site) (a .defaults) _ (c .before .before .before .before .text-of .ensures))
 
 same-length : tie.Need-same-length
 same-length c =
     let b = c .before .before .before .before .before .before .before .before .before in
     let a = b .args in
     let ts : TextLists = textLists (a .site .now) (a .defaults .now) in
-    let n = handed-size (a .id) (a .site) (a .defaults) _ (c .before .before .before .before .text-of .ensures) (b .pre .0) in
+    let n = handed-size (a .id) (a .site) (a .defaults) _ (c .before .before .before .before .text-of .ensures) in
     ap length (c .before .before .put-bytes .ensures)
-    ∙ length-put _ _ _ (simp length-set (omega (arith, b .pre .2, string-length (a .id) ts (b .pre .0), n)))
+    ∙ length-put _ _ _ (simp length-set (omega (arith, b .pre .2, string-length (a .id) ts, n)))
     ∙ simp length-set
 
 returns : tie.Need-returns
@@ -87,8 +87,8 @@ returns c =
     let t = c .before .before .before .before .text-of .ensures in
     record {
       buffer = rw (c .before .before .put-bytes .ensures)
-          (simp towards-suc (string-put (a .out .now) (a .p .end) _ _ (a .id) ts _ (b .pre .0) (omega arith) refl (handed-text (a .id) (a .site) (a .defaults) _ t) (b .pre .2)));
-      ends = omega (arith, string-length (a .id) ts (b .pre .0), handed-size (a .id) (a .site) (a .defaults) _ t (b .pre .0));
+          (simp towards-suc (string-put (a .out .now) (a .p .end) _ _ (a .id) ts _ (omega arith) refl (handed-text (a .id) (a .site) (a .defaults) _ t) (b .pre .2)));
+      ends = omega (arith, string-length (a .id) ts, handed-size (a .id) (a .site) (a .defaults) _ t);
       cursors = c .before .before .before .before .before .cursors-at .ensures;
     }
 

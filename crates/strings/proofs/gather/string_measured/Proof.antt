@@ -2,7 +2,7 @@ use Prim.Native.Nat.{_+_}
 use mathlib.Core.Path.{sym, _∙_, ap}
 use native.Mathlib.Omega.{arith}
 use borrow.Author.Needs.{needs}
-use Rattle.baos.specs.declared.inner.Stretch.{Stretch}
+use Rattle.baos.specs.declared.text.Stretch.{Stretch}
 use Rattle.baos.specs.declared.inner.Gathered.{Gathered}
 use Rattle.baos.specs.Text.{TextLists, textLists}
 use Rattle.baos.specs.Inner.Gather.{ended, withEntry}
@@ -60,7 +60,7 @@ returns-2 c =
     let ts : TextLists = textLists (a .site .now) (a .defaults .now) in
     let g = c .before .before .gathered-of .ensures in
     let t = c .before .before .before .stretch-at .ensures in
-    string-ahead ts (a .w) (a .d) (a .s) _ _ (b .pre .3) (b .pre .0) (sym (c .before .before .before .before .before .before .is-behind .ensures) ∙ c .before .before .before .before .before .if1 .left)
+    string-ahead ts (a .w) (a .d) (a .s) _ _ (b .pre .0) (sym (c .before .before .before .before .before .before .is-behind .ensures) ∙ c .before .before .before .before .before .if1 .left)
     (c .with-entry .ensures ∙ (λ i. withEntry (a .d .id) (2 + t i .size) (g i))) (c .before .before .before .before .cursors-at .ensures)
 
 pub string-measured-spec : {M : Type 1} → statement M
