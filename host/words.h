@@ -1,4 +1,5 @@
-/* The words of a line of text: numbers, bytes, names. What is wrong is told on standard error, with file and line. */
+/* The words of a line of text: numbers, bytes, names, texts. What is wrong is told on standard error, with file and
+ * line. */
 #ifndef WORDS_H
 #define WORDS_H
 
