@@ -1,6 +1,7 @@
-/* Times the proved call beside the hand-written one: both on the same memory, in turns within one run. Usage: bench [ROUNDS].
- * Each round plays the same batch of some 20 microseconds by each of them, in another order from round to round; the benchmark's own share, played with
- * a call that does nothing, is taken off. Times are the 10th percentile over the rounds, in nanoseconds a call. */
+/* Times the proved call and reading beside the hand-written ones: both on the same memory, in turns within one run.
+ * Usage: bench [ROUNDS]. Each round plays the same batch of some 20 microseconds by each of them, in another order from
+ * round to round; the benchmark's own share, played with functions that do nothing, is taken off. Times are the 10th
+ * percentile over the rounds, in nanoseconds a call. */
 #define _POSIX_C_SOURCE 199309L
 #include <stdio.h>
 #include <stdlib.h>
@@ -8,8 +9,9 @@
 
 #include "plays.h"
 
-/* tuned.c once more, at -O3 */
+/* tuned.c and tuned_read.c once more, at -O3 */
 call_function tuned_o3_call;
+read_function tuned_o3_read;
 
 static int32_t no_call(uint8_t event, uint8_t byte, uint16_t id, uint8_t outcome, const uint8_t *value, size_t value_count,
                        struct tagobrelin_datapoint *datapoints, size_t datapoint_count, struct tagobrelin_item *items, size_t item_count,
@@ -21,6 +23,13 @@ static int32_t no_call(uint8_t event, uint8_t byte, uint16_t id, uint8_t outcome
     (void)parameters, (void)parameter_count, (void)site_texts, (void)site_texts_size, (void)default_texts;
     (void)default_texts_size, (void)link, (void)out, (void)room;
     return event;
+}
+
+static struct tagobrelin_reading no_read(uint16_t id, const struct tagobrelin_datapoint *datapoints,
+                                         size_t datapoint_count)
+{
+    (void)id, (void)datapoints, (void)datapoint_count;
+    return (struct tagobrelin_reading){0, 0, 0};
 }
 
 static const struct row {
@@ -46,10 +55,12 @@ static const struct row {
     {"261 bytes sent again", RESEND, 261, 0, 0},
     {"bus value", BUS_VALUE, 0, 0, 0},
     {"outcome", OUTCOME, 0, 0, 0},
+    {"reading of a two-octet value", READING, 0, 0, 0},
 };
 
 enum { OURS, TUNED, TUNED_O3, NONE, FUNCTIONS, MOST_ROUNDS = 5000 };
-static call_function *const functions[FUNCTIONS] = {tagobrelin_call, tuned_call, tuned_o3_call, no_call};
+static const struct functions functions[FUNCTIONS] = {
+    {tagobrelin_call, tagobrelin_read}, {tuned_call, tuned_read}, {tuned_o3_call, tuned_o3_read}, {no_call, no_read}};
 static double times[FUNCTIONS][MOST_ROUNDS], quotients[MOST_ROUNDS];
 
 static double now(void)
@@ -66,7 +77,7 @@ static int by_size(const void *a, const void *b)
 }
 
 /* `count` plays, from variant `first` on */
-static double batch(call_function *f, unsigned first, unsigned count)
+static double batch(const struct functions *f, unsigned first, unsigned count)
 {
     double start = now();
     for (unsigned i = first; i < first + count; i++)
@@ -102,11 +113,11 @@ int main(int argc, char **argv)
             double at[FUNCTIONS];
             make_texts(rows[i].texts);
             unsigned calls = make_plays(rows[i].kind, rows[i].size, rows[i].held);
-            unsigned count = 1 + (unsigned)(20000 / (batch(tuned_call, 0, 8 * VARIANTS) + 1));
+            unsigned count = 1 + (unsigned)(20000 / (batch(&functions[TUNED], 0, 8 * VARIANTS) + 1));
             for (unsigned r = 0; r < rounds; r++) {
                 for (unsigned k = 0; k < FUNCTIONS; k++) {
                     unsigned f = (k + r) % FUNCTIONS;
-                    times[f][r] = batch(functions[f], r * count, count);
+                    times[f][r] = batch(&functions[f], r * count, count);
                 }
                 quotients[r] = (times[OURS][r] - times[NONE][r]) / (times[TUNED][r] - times[NONE][r]);
             }

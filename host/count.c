@@ -1,5 +1,6 @@
-/* Instructions: run under callgrind, which counts inside the two calls alone and writes a part at each dump, named
- * "EVENT DATAPOINTS ITEMS SIZE HELD FUNCTION CALLS". The scripts count and count_test read them. Usage: count [ours]: the proved call alone. */
+/* Instructions: run under callgrind, which counts inside the calls and readings alone and writes a part at each dump,
+ * named "EVENT DATAPOINTS ITEMS SIZE HELD FUNCTION CALLS". The scripts count and count_test read them.
+ * Usage: count [ours]: the proved ones alone. */
 #include <stdbool.h>
 #include <stdio.h>
 #include <string.h>
@@ -22,9 +23,14 @@ static const struct row {
     {"bus-value", BUS_VALUE, 0, 0, 0}, {"outcome", OUTCOME, 0, 0, 0}, {"idle", IDLE, 40, 0, 0},
     {"mid-frame-100", MID_FRAME, 40, 0, 100}, {"mid-frame-1000", MID_FRAME, 40, 0, 1000},
     {"strings-100", STRINGS, 20, 0, 100}, {"strings-1000", STRINGS, 5, 0, 1000}, {"strings-1000", STRINGS, 20, 0, 1000},
+    {"reading", READING, 0, 0, 0},
 };
+enum { ROWS = sizeof rows / sizeof *rows };
 
-static void count(const struct row *row, size_t datapoints, size_t items, call_function *f, const char *function)
+static const struct functions proved = {tagobrelin_call, tagobrelin_read}, by_hand = {tuned_call, tuned_read};
+
+static void count(const struct row *row, size_t datapoints, size_t items, const struct functions *f,
+                  const char *function)
 {
     char name[100];
     unsigned calls = make_plays(row->kind, row->size, row->held);
@@ -41,17 +47,17 @@ static void count(const struct row *row, size_t datapoints, size_t items, call_f
 int main(int argc, char **argv)
 {
     static const struct {
-        size_t datapoints, items, rows;
-    } tables[] = {{0, 64, sizeof rows / sizeof *rows}, {10, 64, sizeof rows / sizeof *rows}, {100, 64, sizeof rows / sizeof *rows},
-                  {1000, 64, sizeof rows / sizeof *rows}, {0, 0, 1}};
+        size_t datapoints, items, from, to; /* which rows */
+    } tables[] = {{0, 64, 0, ROWS},    {10, 64, 0, ROWS}, {100, 64, 0, ROWS},
+                  {1000, 64, 0, ROWS}, {0, 0, 0, 1},      {1, 0, ROWS - 1, ROWS}};
     bool both = argc < 2 || strcmp(argv[1], "ours") != 0;
     for (size_t t = 0; t < sizeof tables / sizeof *tables; t++)
-        for (size_t i = 0; i < tables[t].rows; i++) {
+        for (size_t i = tables[t].from; i < tables[t].to; i++) {
             for (int f = 0; f <= both; f++) {
                 /* the same tables and plays for each */
                 make_tables(tables[t].datapoints, tables[t].items);
                 make_texts(rows[i].texts);
-                count(&rows[i], tables[t].datapoints, tables[t].items, f ? tuned_call : tagobrelin_call, f ? "tuned" : "ours");
+                count(&rows[i], tables[t].datapoints, tables[t].items, f ? &by_hand : &proved, f ? "tuned" : "ours");
             }
         }
     return 0;

@@ -1,7 +1,8 @@
-//! The archive's C function against host/plain.rs, call by call: each thing through all its values, random walks of
+//! The archive's C functions against host/plain.rs, call by call: each thing through all its values, random walks of
 //! events on random tables, one broken thing at a time, several at once, and garbage. Compared are the answer, every
-//! byte of the output, and all memory that is lent, field by field; on a refusal byte by byte, padding too. The first
-//! difference ends the run, and so does an answer, the same on both sides, that is not the one aimed at.
+//! byte of the output, and all memory that is lent, field by field; on a refusal byte by byte, padding too. A reading is
+//! a call as well: compared are its three members, the floating one by its bits, and every byte. The first difference
+//! ends the run, and so does an answer, the same on both sides, that is not the one aimed at.
 //!
 //!     differential [SEED] [--calls N] [--episode E] [--upto N]
 //!
@@ -89,5 +90,5 @@ fn main() {
         );
         std::process::exit(1);
     }
-    println!("differential: {} calls, no difference", bench.calls);
+    println!("differential: {} calls, {} of them readings, no difference", bench.calls, bench.readings);
 }

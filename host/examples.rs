@@ -4,7 +4,7 @@
 
 mod plain;
 
-use plain::{call, Datapoint, Event, Item, Link, Outcome, Server};
+use plain::{call, nearest_single, reading, Datapoint, Event, Item, Link, Outcome, Reading, Server};
 use std::sync::atomic::{AtomicUsize, Ordering};
 
 // ------------------------------------------------------------------------------------------------------------- helpers
@@ -1143,6 +1143,161 @@ fn text_lists() {
     server.link.receiver[..frame.len() - 1].copy_from_slice(&frame[..frame.len() - 1]);
     server.link.received = frame.len() as u16 - 1;
     same("a get with a list out of order", step(&mut server, &Event::HostByte(0x16), &[], 262), Err(1));
+}
+
+/// A datapoint 7 of this DPT and type, valid.
+fn typed(dpt: u8, typecode: u8, value: &[u8]) -> Datapoint {
+    Datapoint { dpt, ..datapoint(7, typecode, 0x10, value) }
+}
+
+fn read_one(record: Datapoint) -> Reading {
+    reading(&[record], 7).expect("given")
+}
+
+/// (02) item 3. "give the reading as one of: a switch state (DPT 1, type 0), a count (DPT 5, type 7), a two-octet value
+/// (DPT 9, type 8), a single (DPT 14, type 10), or unreadable."
+fn readings() {
+    for (value, on) in [(0, false), (1, true)] {
+        same("switch", read_one(typed(1, 0, &[value])), Reading::Switch(on));
+    }
+    for byte in 0..=0xFF {
+        same("count", read_one(typed(5, 7, &[byte])), Reading::Count(byte));
+    }
+    for (octets, value) in [
+        ("0C 1A", 21.0_f32),
+        ("8A 24", -30.0),
+        ("00 00", 0.0),
+        ("78 00", 0.0),
+        ("00 01", 0.01),
+        ("87 FF", -0.01),
+        ("01 91", 4.01),
+        ("80 00", -20.48),
+        ("FF FF", -327.68),
+        ("7F FE", 670433.28),
+        ("F8 00", -671088.64),
+    ] {
+        same(octets, read_one(typed(9, 8, &hex(octets))), Reading::TwoOctet(value.to_bits()));
+    }
+    same("7FFF", read_one(typed(9, 8, &hex("7F FF"))), Reading::Unreadable);
+    // "a DPT 14 that is infinite or not a number": by all signs and exponents, minus zero and subnormals among them
+    for high in 0..512_u32 {
+        for mantissa in [0, 1, 0x2A_AAAA, 0x40_0000, 0x7F_FFFF] {
+            let bits = high << 23 | mantissa;
+            let want = if f32::from_bits(bits).is_finite() { Reading::Single(bits) } else { Reading::Unreadable };
+            same("single", read_one(typed(14, 10, &bits.to_be_bytes())), want);
+        }
+    }
+    for (bits, value) in [(0x8000_0000, -0.0_f32), (0x4366_8000, 230.5), (0xFF7F_FFFF, f32::MIN)] {
+        same("a single", read_one(typed(14, 10, &u32::to_be_bytes(bits))), Reading::Single(value.to_bits()));
+    }
+    for bits in [f32::INFINITY.to_bits(), f32::NEG_INFINITY.to_bits(), f32::NAN.to_bits(), 0x7F80_0001, 0xFFFF_FFFF] {
+        same("no number", read_one(typed(14, 10, &bits.to_be_bytes())), Reading::Unreadable);
+    }
+    // "any other DPT and type, and a datapoint whose valid bit is off"; other bits, flags and mark are nothing to it.
+    for dpt in 0..=0xFF {
+        for typecode in 0..=14 {
+            let want = match (dpt, typecode) {
+                (1, 0) => Reading::Switch(true),
+                (5, 7) => Reading::Count(1),
+                (9, 8) => Reading::TwoOctet(0.01_f32.to_bits()),
+                (14, 10) => Reading::Single(1),
+                _ => Reading::Unreadable,
+            };
+            let mut value = vec![0; SIZES[usize::from(typecode)]];
+            *value.last_mut().expect("a byte") = 1;
+            for state in 0..32 {
+                let record = Datapoint { state, flags: dpt ^ state, mark: state % 2, ..typed(dpt, typecode, &value) };
+                same("DPT and type", read_one(record), if state < 16 { Reading::Unreadable } else { want.clone() });
+            }
+        }
+    }
+}
+
+/// (02) item 3: "7FFF aside, hundredths run from -67,108,864 to 67,043,328, are exact in 32-bit floating point, and the
+/// reading is that number divided by 100, rounded once. Show over whole numbers, with the reading taken as the exact
+/// binary fraction it is, that 100 times it differs from the hundredths by at most their size divided by 2 to the 24."
+/// Each of the 65,535.
+fn two_octet_values() {
+    let (mut least, mut most) = (0, 0);
+    let mut worst = (0, 1, 0); // the difference times 2 to the 24, of so much, and where
+    for octets in (0..=0xFFFF_u16).filter(|octets| *octets != 0x7FFF) {
+        let Reading::TwoOctet(bits) = read_one(typed(9, 8, &octets.to_be_bytes())) else {
+            panic!("{octets:04X} is read");
+        };
+        // once more, in another way: the sign counts -2048
+        let sized = i128::from(octets & 0x07FF) - if octets >= 0x8000 { 2048 } else { 0 };
+        let hundredths = sized << (octets >> 11 & 15);
+        (least, most) = (hundredths.min(least), hundredths.max(most));
+        same("exact in 32-bit floating point", hundredths as f32 as i128, hundredths);
+        // rounded once: as the number that stands in decimals, and as the quotient of two numbers that are exact
+        let size = hundredths.unsigned_abs();
+        let decimals = format!("{}{}.{:02}", if hundredths < 0 { "-" } else { "" }, size / 100, size % 100);
+        same("as in decimals", bits, decimals.parse::<f32>().expect("a number").to_bits());
+        same("as a quotient", bits, (hundredths as f32 / 100.0).to_bits());
+        // as a fraction: 24 bits of mantissa over a power of 2
+        if hundredths == 0 {
+            same("0", bits, 0);
+            continue;
+        }
+        let mantissa = i128::from(bits & 0x7F_FFFF | 0x80_0000) * if bits >> 31 == 1 { -1 } else { 1 };
+        let over = 1_i128 << (150 - (bits >> 23 & 0xFF));
+        let difference = (100 * mantissa - hundredths * over).abs() << 24;
+        let of = hundredths.abs() * over;
+        truth("at most their size divided by 2 to the 24", difference <= of);
+        if difference * worst.1 > worst.0 * of {
+            worst = (difference, of, octets);
+        }
+    }
+    same("the least and the most", (least, most), (-67_108_864, 67_043_328));
+    same("the worst", worst.2, 0x0191);
+    truth("the worst is 0.958", worst.0 * 10_000 / worst.1 == 9_576);
+    // Of two that are equally near the even one: it does not come about in hundredths, and is the rule of the rounding.
+    for (numerator, denominator, value) in [
+        (16_777_217, 1, 16_777_216.0_f32),
+        (16_777_219, 1, 16_777_220.0),
+        (33_554_433, 2, 16_777_216.0),
+        (33_554_431, 1, 33_554_432.0),
+        (33_554_435, 4, 8_388_609.0),
+        (1, 3, 0.333_333_34),
+    ] {
+        same("the nearest", nearest_single(numerator, denominator), value.to_bits());
+    }
+}
+
+/// (02) item 3: "Refusals: call 1 as before, then 4 for an ID that is absent."
+fn readings_refused() {
+    let server = small_server();
+    for id in 0..=0xFFFF {
+        let present = (10..=24).contains(&id) || id == 30;
+        same("4", reading(&server.datapoints, id).err(), if present { None } else { Some(4) });
+    }
+    same("4, no datapoint", reading(&[], 1), Err(4));
+    let count = |id: u16| Datapoint { dpt: 5, ..datapoint(id, 7, 0x1F, &[id as u8]) };
+    let many: Vec<Datapoint> = (1..=1001).map(count).collect();
+    for id in 1..=1000 {
+        same("of 1000", reading(&many[..1000], id), Ok(Reading::Count(id as u8)));
+        same("1, of 1001", reading(&many, id), Err(1));
+    }
+    same("4, of 1000", reading(&many[..1000], 1001), Err(4));
+    // What a record has to be, as in a call; and 1 comes before 4.
+    let alterations: [fn(&mut Datapoint); 8] = [
+        |record| record.id = 0,
+        |record| record.id = 16,
+        |record| record.id = 18,
+        |record| record.typecode = 15,
+        |record| record.state = 0x30,
+        |record| record.value[1] = 1,
+        |record| record.value[13] = 0x80,
+        |record| record.mark = 2,
+    ];
+    for alter in alterations {
+        let mut server = small_server();
+        alter(&mut server.datapoints[7]);
+        same("1, in a call", call(&mut server.clone(), &Event::IdleMark, &[], 262), Err(1));
+        for id in [0, 10, 17, 30, 31] {
+            same("1", reading(&server.datapoints, id), Err(1));
+        }
+    }
 }
 
 fn gets() {
@@ -2322,6 +2477,11 @@ fn any_fields_at_random() {
         }
         let value: Vec<u8> = (0..numbers.below(17)).map(|_| numbers.byte() % 4).collect();
         let id = numbers.below(50) as u16;
+        // Refusal 1 of a reading is that of a call with these datapoints and nothing else.
+        let mut alone = empty_server();
+        alone.datapoints = server.datapoints.clone();
+        let refused = call(&mut alone, &Event::IdleMark, &[], 262).is_err();
+        same("refusal 1 of a reading", reading(&server.datapoints, id) == Err(1), refused);
         let happened = match numbers.below(6) {
             0 => Event::HostByte([0xE5, 0x10, 0x68, 0x16, numbers.byte()][numbers.below(5) as usize]),
             1 => Event::IdleMark,
@@ -2340,7 +2500,7 @@ fn any_fields_at_random() {
 }
 
 fn main() {
-    let parts: [(&str, fn()); 28] = [
+    let parts: [(&str, fn()); 31] = [
         ("examples of 01", examples_of_01),
         ("exchange of 000", exchange_of_000),
         ("messages without answer", messages_without_answer),
@@ -2355,6 +2515,9 @@ fn main() {
         ("parameters left alone", parameters_left_alone),
         ("description strings", description_strings),
         ("lists of texts", text_lists),
+        ("readings", readings),
+        ("two-octet values", two_octet_values),
+        ("readings refused", readings_refused),
         ("gets", gets),
         ("limits 254 and 255", limits_254_and_255),
         ("acknowledgements", acknowledgements),

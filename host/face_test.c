@@ -1,7 +1,9 @@
-/* The face of tagobrelin.h, each function of it, compiled as C and as C++ by host/face_test. Tells what is wrong. */
+/* The face of tagobrelin.h, each function of it, and the README's example of a reading, compiled as C and as C++ by
+ * host/face_test. Tells what is wrong. */
 #include <stdio.h>
 #include <string.h>
 
+#include "reading_example.c"
 #include "tagobrelin.h"
 
 #define TEXT_OF(number) #number
@@ -129,6 +131,51 @@ static void bus_events(void)
     EXPECT(tagobrelin_bus_value(&server, 5, NULL, 1) == TAGOBRELIN_BAD_BUS_EVENT);
 }
 
+/* whether the datapoint of this ID reads so */
+static int reads(const struct tagobrelin_server *by, uint16_t id, int32_t number, uint32_t whole, float value)
+{
+    struct tagobrelin_reading reading = tagobrelin_reading_of(by, id);
+    return reading.number == number && reading.whole == whole && memcmp(&reading.value, &value, sizeof value) == 0;
+}
+
+/* each case, both refusals, the README's example; of a server that was never started */
+static void readings(void)
+{
+    static struct tagobrelin_datapoint read[5], as_before[5];
+    static const uint16_t ids[5] = {5, 6, 9, 12, 300};
+    static const uint8_t kinds[5][2] = {{1, 0}, {5, 7}, {9, 8}, {14, 10}, {9, 10}}; /* DPT and type code */
+    static const uint8_t values[5][4] = {{1, 0, 0, 0}, {128, 0, 0, 0}, {0x0C, 0x1A, 0, 0}, {0x80, 0, 0, 0}, {1, 2, 3, 4}};
+    static struct tagobrelin_server reader;
+    float degrees = 0;
+    size_t i;
+    for (i = 0; i < 5; i++) {
+        read[i].id = ids[i];
+        read[i].dpt = kinds[i][0];
+        read[i].typecode = kinds[i][1];
+        read[i].state = 0x18;
+        read[i].mark = 1;
+        memcpy(read[i].value, values[i], sizeof values[i]);
+    }
+    memcpy(as_before, read, sizeof read);
+    reader.datapoints = read;
+    reader.datapoint_count = 5;
+    EXPECT(reads(&reader, 5, TAGOBRELIN_SWITCH, 1, 0));
+    EXPECT(reads(&reader, 6, TAGOBRELIN_COUNT, 128, 0));
+    EXPECT(reads(&reader, 9, TAGOBRELIN_TWO_OCTET, 0, 21));
+    EXPECT(reads(&reader, 12, TAGOBRELIN_SINGLE, 0, -0.0f));
+    EXPECT(reads(&reader, 300, TAGOBRELIN_UNREADABLE, 0, 0));
+    EXPECT(reads(&reader, 0, TAGOBRELIN_ABSENT, 0, 0) && reads(&reader, 7, TAGOBRELIN_ABSENT, 0, 0));
+    EXPECT(read_temperature(&reader, &degrees) == 1 && memcmp(read, as_before, sizeof read) == 0);
+    EXPECT(degrees > 20.99f && degrees < 21.01f);
+    read[2].state = 0x08;
+    EXPECT(reads(&reader, 9, TAGOBRELIN_UNREADABLE, 0, 0) && read_temperature(&reader, &degrees) == 0);
+    reader.datapoint_count = 2;
+    EXPECT(reads(&reader, 9, TAGOBRELIN_ABSENT, 0, 0) && read_temperature(&reader, &degrees) == 0);
+    read[1].state = 0x20;
+    EXPECT(reads(&reader, 5, TAGOBRELIN_BAD_TABLE, 0, 0) && reads(&reader, 9, TAGOBRELIN_BAD_TABLE, 0, 0));
+    EXPECT(TAGOBRELIN_BAD_TABLE == -1 && TAGOBRELIN_ABSENT == -4);
+}
+
 /* null pointers: no table at all is a server too, and a count without a table is refused */
 static void no_tables(void)
 {
@@ -140,8 +187,9 @@ static void no_tables(void)
     EXPECT(SENT(&empty, "\xE5\x68\x08\x08\x68\xD3\xF0\x88\x00\x01\x00\x00\x07\x53\x16"));
     EXPECT(tagobrelin_bus_value(&empty, 1, NULL, 0) == TAGOBRELIN_BAD_BUS_EVENT);
     EXPECT(tagobrelin_outcome(&empty, 1, TAGOBRELIN_SENT) == TAGOBRELIN_BAD_BUS_EVENT);
+    EXPECT(reads(&empty, 1, TAGOBRELIN_ABSENT, 0, 0) && reads(&empty, 0, TAGOBRELIN_ABSENT, 0, 0));
     empty.datapoint_count = 1;
-    EXPECT(tagobrelin_poll(&empty) == TAGOBRELIN_BAD_TABLE);
+    EXPECT(tagobrelin_poll(&empty) == TAGOBRELIN_BAD_TABLE && reads(&empty, 1, TAGOBRELIN_BAD_TABLE, 0, 0));
     empty.datapoint_count = 0;
     empty.item_count = 1;
     EXPECT(tagobrelin_poll(&empty) == TAGOBRELIN_BAD_TABLE);
@@ -165,6 +213,7 @@ int main(void)
     parameter_bytes();
     description_strings();
     bus_events();
+    readings();
     no_tables();
     EXPECT(TAGOBRELIN_MICROSECONDS(TAGOBRELIN_GAP_BITS, 19200) == 1719);
     EXPECT(TAGOBRELIN_MICROSECONDS(TAGOBRELIN_ACK_WAIT_BITS, 19200) == 26563);

@@ -1,5 +1,6 @@
-/* Sees each field of each struct of tagobrelin.h through the call, each value that the call returns, and that a refusal changes no byte.
- * One line for each test; the exit status tells whether all passed. */
+/* Sees each field of each struct of tagobrelin.h through the call, each value that the call returns, and that a refusal
+ * changes no byte; and each member of a reading, in each case and refusal, and that a reading changes no byte. One line
+ * for each test; the exit status tells whether all passed. */
 #include <stdbool.h>
 #include <stdio.h>
 #include <string.h>
@@ -621,6 +622,178 @@ static void refusals(void)
     REFUSED(TAGOBRELIN_BAD_BUS_EVENT, TAGOBRELIN_BUS_VALUE, 0, 9, 0);
 }
 
+/* The reading of this ID has these members, the float by its bits; and no byte of the table is changed, padding too. */
+static void reads(uint16_t id, int32_t number, uint32_t whole, uint32_t bits, int line)
+{
+    uint32_t value;
+    memcpy(&before, &bench, sizeof bench);
+    struct tagobrelin_reading reading = tagobrelin_read(id, bench.datapoints, bench.datapoint_count);
+    memcpy(&value, &reading.value, sizeof value);
+    if ((reading.number != number || reading.whole != whole || value != bits) && wrong < 10)
+        printf("    reads %d, %u, %08X, not %d, %u, %08X\n", (int)reading.number, (unsigned)reading.whole,
+               (unsigned)value, (int)number, (unsigned)whole, (unsigned)bits);
+    expect(reading.number == number, "the reading's number", line);
+    expect(reading.whole == whole, "its whole number", line);
+    expect(value == bits, "its value", line);
+    expect(memcmp(&before, &bench, sizeof bench) == 0, "a reading changes no byte", line);
+}
+
+#define READS(id, number, whole, bits) reads(id, number, whole, bits, __LINE__)
+
+/* one more datapoint, valid, updated and marked, with padding of its own; its value is 0 */
+static struct tagobrelin_datapoint *lend(uint16_t id, uint8_t dpt, uint8_t typecode)
+{
+    struct tagobrelin_datapoint *d = &bench.datapoints[bench.datapoint_count++];
+    d->id = id;
+    d->typecode = typecode;
+    d->dpt = dpt;
+    d->state = 0x18;
+    d->mark = 1;
+    return d;
+}
+
+/* These are read where a write would be a fault. */
+static const struct tagobrelin_datapoint in_flash[] = {
+    {.id = 0x0102, .typecode = 8, .dpt = 9, .state = 0x10, .value = {0x0C, 0x1A}},
+    {.id = 0x0304, .typecode = 7, .dpt = 5, .state = 0x10, .value = {0xFE}},
+};
+
+static void readings(void)
+{
+    static const struct {
+        uint16_t octets;
+        uint32_t bits;
+    } two_octets[] = {
+        {0x0000, 0x00000000},
+        {0x7800, 0x00000000}, /* M is 0 */
+        {0x0001, 0x3C23D70A}, /* 0.01 */
+        {0x87FF, 0xBC23D70A}, /* -0.01 */
+        {0x0191, 0x408051EC}, /* 4.01 */
+        {0x0C1A, 0x41A80000}, /* 21 */
+        {0x8000, 0xC1A3D70A}, /* -20.48 */
+        {0x8A24, 0xC1F00000}, /* -30 */
+        {0xFFFF, 0xC3A3D70A}, /* -327.68 */
+        {0x7FFE, 0x4923AE14}, /* 670433.28 */
+        {0xF800, 0xC923D70A}, /* -671088.64 */
+    };
+    /* 0, minus 0, the smallest, a subnormal, the smallest that is none, 1, two that show each byte, the largest */
+    static const uint32_t singles[] = {0x00000000, 0x80000000, 0x00000001, 0x807FFFFF, 0x00800000,
+                                       0x3F800000, 0x12345678, 0x9ABCDEF0, 0x7F7FFFFF, 0xFF7FFFFF};
+    static const uint32_t no_numbers[] = {0x7F800000, 0xFF800000, 0x7F800001, 0x7FC00000, 0xFFFFFFFF};
+
+    begins("reading: a switch, a count");
+    struct tagobrelin_datapoint *d = lend(0x0102, 1, 0), *count = lend(0x0304, 5, 7);
+    READS(0x0102, TAGOBRELIN_SWITCH, 0, 0);
+    d->value[0] = 1;
+    READS(0x0102, TAGOBRELIN_SWITCH, 1, 0);
+    for (int byte = 0; byte < 256; byte++) {
+        count->value[0] = (uint8_t)byte;
+        READS(0x0304, TAGOBRELIN_COUNT, (uint32_t)byte, 0);
+    }
+
+    begins("reading: a two-octet value, and 7FFF");
+    lend(1, 9, 8);
+    d = lend(2, 9, 8);
+    for (size_t i = 0; i < COUNT(two_octets); i++) {
+        d->value[0] = (uint8_t)(two_octets[i].octets >> 8);
+        d->value[1] = (uint8_t)two_octets[i].octets;
+        READS(2, TAGOBRELIN_TWO_OCTET, 0, two_octets[i].bits);
+    }
+    memcpy(d->value, "\x7F\xFF", 2);
+    READS(2, TAGOBRELIN_UNREADABLE, 0, 0);
+
+    begins("reading: a single, and infinite ones and those that are no number");
+    lend(1, 14, 10);
+    d = lend(2, 14, 10);
+    for (size_t i = 0; i < COUNT(singles) + COUNT(no_numbers); i++) {
+        bool is_number = i < COUNT(singles);
+        uint32_t bits = is_number ? singles[i] : no_numbers[i - COUNT(singles)];
+        for (size_t k = 0; k < 4; k++)
+            d->value[k] = (uint8_t)(bits >> (24 - 8 * k));
+        READS(2, is_number ? TAGOBRELIN_SINGLE : TAGOBRELIN_UNREADABLE, 0, is_number ? bits : 0);
+    }
+
+    begins("reading: each DPT with each type code, each state");
+    d = lend(7, 0, 0);
+    for (int dpt = 0; dpt < 256; dpt++)
+        for (uint8_t typecode = 0; typecode < 15; typecode++) {
+            d->dpt = (uint8_t)dpt;
+            d->typecode = typecode;
+            int32_t number = dpt == 1 && typecode == 0     ? TAGOBRELIN_SWITCH
+                             : dpt == 5 && typecode == 7   ? TAGOBRELIN_COUNT
+                             : dpt == 9 && typecode == 8   ? TAGOBRELIN_TWO_OCTET
+                             : dpt == 14 && typecode == 10 ? TAGOBRELIN_SINGLE
+                                                           : TAGOBRELIN_UNREADABLE;
+            for (uint8_t state = 0; state < 32; state++) {
+                d->state = state;
+                READS(7, state & 0x10 ? number : TAGOBRELIN_UNREADABLE, 0, 0);
+            }
+        }
+
+    begins("reading: a poll behind it tells what was read");
+    d = lend(2, 5, 7);
+    d->value[0] = 0x42;
+    READS(2, TAGOBRELIN_COUNT, 0x42, 0);
+    uint8_t frame[261];
+    size_t size = framed(0xF3, BYTES(0xF0, 0xC1, 0, 2, 0, 1, 0, 2, 0x18, 1, 0x42), frame);
+    EXPECT(called(TAGOBRELIN_POLL, 0, 0, 0) == (int32_t)size && memcmp(bench.out, frame, size) == 0);
+
+    begins("reading: a table that cannot be written, and a part of one");
+    struct tagobrelin_reading reading = tagobrelin_read(0x0102, in_flash, COUNT(in_flash));
+    EXPECT(reading.number == TAGOBRELIN_TWO_OCTET && reading.whole == 0 && reading.value == 21);
+    reading = tagobrelin_read(0x0304, in_flash, COUNT(in_flash));
+    EXPECT(reading.number == TAGOBRELIN_COUNT && reading.whole == 0xFE && reading.value == 0);
+    reading = tagobrelin_read(0x0304, in_flash, 1);
+    EXPECT(reading.number == TAGOBRELIN_ABSENT && reading.whole == 0 && reading.value == 0);
+    reading = tagobrelin_read(0x0304, in_flash + 1, 1);
+    EXPECT(reading.number == TAGOBRELIN_COUNT && reading.whole == 0xFE && reading.value == 0);
+
+    begins("reading: each of 1000 datapoints");
+    for (uint16_t i = 0; i < 1001; i++)
+        lend((uint16_t)(5 + 3 * i), 5, 7)->value[0] = (uint8_t)i;
+    bench.datapoint_count = 1000;
+    for (uint16_t i = 0; i < 1000; i++) {
+        struct tagobrelin_reading given = tagobrelin_read((uint16_t)(5 + 3 * i), bench.datapoints, 1000);
+        EXPECT(given.number == TAGOBRELIN_COUNT && given.whole == (uint8_t)i);
+    }
+
+    begins("reading, -4: no such ID");
+    READS(0, TAGOBRELIN_ABSENT, 0, 0);
+    READS(1, TAGOBRELIN_ABSENT, 0, 0);
+    lend(0x0102, 1, 0);
+    lend(0x0304, 5, 7);
+    for (uint32_t id = 0; id < 0x10000; id++)
+        if (id != 0x0102 && id != 0x0304 && (id < 0x0400 || id % 257 == 0 || id > 0xFFF0))
+            READS((uint16_t)id, TAGOBRELIN_ABSENT, 0, 0);
+
+    begins("reading, -1: datapoints; before -4");
+    for (uint16_t i = 0; i < 1001; i++)
+        lend((uint16_t)(i + 1), 5, 7);
+    d = &bench.datapoints[1];
+    READS(1, TAGOBRELIN_BAD_TABLE, 0, 0);
+    READS(2000, TAGOBRELIN_BAD_TABLE, 0, 0);
+    bench.datapoint_count = 1000;
+    READS(1000, TAGOBRELIN_COUNT, 0, 0);
+    READS(2000, TAGOBRELIN_ABSENT, 0, 0);
+    bench.datapoint_count = 2;
+    const struct tagobrelin_datapoint sound = *d;
+    for (int kind = 0; kind < 7; kind++) {
+        *d = sound;
+        if (kind < 2)
+            d->id = (uint16_t)kind; /* does not rise */
+        d->typecode = kind == 2 ? 15 : kind == 4 ? 6 : 7;
+        d->state = kind == 3 ? 0x38 : 0x18;
+        d->value[0] = kind == 4 ? 0x80 : 0;
+        d->value[13] = kind == 5;
+        d->mark = kind == 6 ? 2 : 1;
+        READS(1, TAGOBRELIN_BAD_TABLE, 0, 0);
+        READS(2, TAGOBRELIN_BAD_TABLE, 0, 0);
+        READS(0, TAGOBRELIN_BAD_TABLE, 0, 0);
+    }
+    *d = sound;
+    READS(2, TAGOBRELIN_COUNT, 0, 0);
+}
+
 int main(void)
 {
     fresh();
@@ -631,6 +804,7 @@ int main(void)
     parameters_set();
     texts();
     refusals();
+    readings();
     ends();
     return failed != 0;
 }

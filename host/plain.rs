@@ -6,7 +6,7 @@
 //!   (000)  000_feb9994ac7e2d72b.txt, the protocol paper;
 //!   (R)    docs/DECISIONS.md, how open points are read.
 //!
-//! Order of this file: the records; sizes; the texts; refusals 1 to 4; the link; the messages; the call.
+//! Order of this file: the records; sizes; the texts; refusals 1 to 4; the link; the messages; the call; the readings.
 //! Nothing here is quick or clever: lists are searched from the front and bytes are gathered in a Vec<u8>.
 
 use std::collections::BTreeMap;
@@ -1143,4 +1143,106 @@ fn transmission_outcome(server: &mut Server, id: u16, outcome: &Outcome) {
         let datapoint = &mut server.datapoints[at];
         datapoint.state = (datapoint.state & 0b1111_1100) | status;
     }
+}
+
+// ------------------------------------------------------------------------------------------------------- the readings
+
+/// (02) item 3: "give the reading as one of: a switch state (DPT 1, type 0), a count (DPT 5, type 7), a two-octet value
+/// (DPT 9, type 8), a single (DPT 14, type 10), or unreadable. The reading carries its floating value in the case it
+/// belongs to." A number of 32-bit floating point stands here as its 32 bits.
+#[derive(Clone, PartialEq, Debug)]
+pub enum Reading {
+    Switch(bool),
+    Count(u8),
+    TwoOctet(u32),
+    Single(u32),
+    Unreadable,
+}
+
+/// Ok(the reading), or Err(refusal number). "Readings change no table."
+/// (02) item 3: "Refusals: call 1 as before, then 4 for an ID that is absent." (R) The datapoints alone are lent, so
+/// refusal 1 judges no other table.
+pub fn reading(datapoints: &[Datapoint], id: u16) -> Result<Reading, u8> {
+    if !datapoints_well_formed(datapoints) {
+        return Err(1);
+    }
+    match find_datapoint(datapoints, id) {
+        None => Err(4),
+        Some(at) => Ok(reading_of(&datapoints[at])),
+    }
+}
+
+fn reading_of(datapoint: &Datapoint) -> Reading {
+    // "a datapoint whose valid bit is off" is unreadable
+    if datapoint.state & 0b0001_0000 == 0 {
+        return Reading::Unreadable;
+    }
+    let value = &datapoint.value;
+    match (datapoint.dpt, datapoint.typecode) {
+        (1, 0) => Reading::Switch(value[0] == 1),
+        // (R) the byte, on no scale
+        (5, 7) => Reading::Count(value[0]),
+        (9, 8) => two_octet(number_of(value[0], value[1])),
+        (14, 10) => {
+            single(u32::from(number_of(value[0], value[1])) * 65536 + u32::from(number_of(value[2], value[3])))
+        }
+        // "any other DPT and type"
+        _ => Reading::Unreadable,
+    }
+}
+
+/// "DPT 9 is sign, four bits of exponent E and 11 bits that with the sign make the 12-bit two's complement mantissa M;
+/// the value is M times 2 to the E hundredths."
+fn hundredths(octets: u16) -> i64 {
+    let sign = i64::from(octets / 32768);
+    let exponent = u32::from(octets / 2048 % 16);
+    let eleven = i64::from(octets % 2048);
+    (eleven - sign * 2048) * 2_i64.pow(exponent)
+}
+
+/// "the reading is that number divided by 100, rounded once"; "7FFF is unreadable".
+fn two_octet(octets: u16) -> Reading {
+    if octets == 0x7FFF {
+        return Reading::Unreadable;
+    }
+    let hundredths = hundredths(octets);
+    let sign = if hundredths < 0 { 0x8000_0000 } else { 0 };
+    Reading::TwoOctet(sign + nearest_single(u128::from(hundredths.unsigned_abs()), 100))
+}
+
+/// The bits of the number of 32-bit floating point, not below 0, that is nearest to a fraction; of two that are equally
+/// near, the even one. Such a number is 0, or 2 to the 23 up to 2 to the 24 less 1 times a power of 2. The fractions of
+/// two octets are 0 or between 1/100 and 2 to the 20, far from the ends of the format.
+pub fn nearest_single(numerator: u128, denominator: u128) -> u32 {
+    if numerator == 0 {
+        return 0;
+    }
+    // the fraction is numerator / denominator times 2 to the power, at each step
+    let (mut numerator, mut denominator, mut power) = (numerator, denominator, 0);
+    while numerator >= denominator << 24 {
+        denominator *= 2;
+        power += 1;
+    }
+    while numerator < denominator << 23 {
+        numerator *= 2;
+        power -= 1;
+    }
+    let below = numerator / denominator;
+    let rest = numerator % denominator;
+    let is_above = 2 * rest > denominator || (2 * rest == denominator && below % 2 == 1);
+    let mut mantissa = below + u128::from(is_above);
+    if mantissa == 1 << 24 {
+        mantissa = 1 << 23;
+        power += 1;
+    }
+    // the power is kept with 127 added, for a mantissa of 1.xx: with 150 for one of 24 bits, whose highest is not kept
+    ((power + 150) as u32) * (1 << 23) + (mantissa as u32 - (1 << 23))
+}
+
+/// "also a DPT 14 that is infinite or not a number": these have all eight bits of the exponent set.
+fn single(bits: u32) -> Reading {
+    if bits / (1 << 23) % 256 == 255 {
+        return Reading::Unreadable;
+    }
+    Reading::Single(bits)
 }

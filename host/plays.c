@@ -27,6 +27,22 @@ static void random_value(uint8_t typecode, uint8_t *value)
         value[0] &= (uint8_t)((2 << typecode) - 1);
 }
 
+/* every third datapoint becomes DPT 9, type code 8, valid; what is drawn after it is drawn as without it */
+static void make_readable(void)
+{
+    uint64_t drawn = state;
+    memcpy(lent.readable, lent.datapoints, sizeof lent.readable);
+    for (size_t i = 0; i < datapoint_count; i += 3) {
+        struct tagobrelin_datapoint *d = &lent.readable[i];
+        memset(d->value, 0, sizeof d->value);
+        d->typecode = 8;
+        d->dpt = 9;
+        d->state |= 0x10;
+        random_value(d->typecode, d->value);
+    }
+    state = drawn;
+}
+
 void make_tables(size_t datapoints, size_t items)
 {
     uint32_t id = 0;
@@ -58,6 +74,7 @@ void make_tables(size_t datapoints, size_t items)
     }
     for (size_t i = 0; i < sizeof lent.parameters; i++)
         lent.parameters[i] = (uint8_t)random_below(256);
+    make_readable();
 }
 
 static size_t framed(uint8_t control, const uint8_t *message, size_t count, uint8_t *f)
@@ -246,6 +263,10 @@ unsigned make_plays(enum kind kind, size_t size, size_t held)
         case RESEND:
             add(p, TAGOBRELIN_ACK_WAIT_OVER, 0, 0);
             break;
+        case READING:
+            /* without datapoints: refused */
+            add(p, 0, 0, datapoint_count ? lent.readable[random_below((uint32_t)datapoint_count + 2) / 3 * 3].id : 1);
+            break;
         }
         if (n && p->step_count == 0) {
             gathered = whole ? 0 : kind == CHECKSUM ? n - 2 : n - 1;
@@ -260,16 +281,19 @@ unsigned make_plays(enum kind kind, size_t size, size_t held)
     return plays[0].step_count;
 }
 
-int32_t play(const struct play *p, call_function *f)
+int32_t play(const struct play *p, const struct functions *f)
 {
     int32_t answer = 0;
+    if (p->steps[0].event == 0)
+        return f->read(p->steps[0].id, lent.readable, datapoint_count).number;
     memcpy(&lent.link, &p->link, sizeof lent.link);
     for (size_t i = 0; i < p->mark_count; i++)
         lent.datapoints[p->marks[i]].mark = 1;
     for (size_t i = 0; i < p->step_count; i++)
-        answer = f(p->steps[i].event, p->steps[i].byte, p->steps[i].id, 2, p->value, p->value_count, lent.datapoints, datapoint_count, lent.items,
-                   item_count, lent.parameters, sizeof lent.parameters, lent.site_texts, site_size, lent.default_texts,
-                   default_size, &lent.link, lent.out, sizeof lent.out);
+        answer = f->call(p->steps[i].event, p->steps[i].byte, p->steps[i].id, 2, p->value, p->value_count,
+                         lent.datapoints, datapoint_count, lent.items, item_count, lent.parameters,
+                         sizeof lent.parameters, lent.site_texts, site_size, lent.default_texts, default_size,
+                         &lent.link, lent.out, sizeof lent.out);
     return answer;
 }
 

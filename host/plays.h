@@ -10,6 +10,15 @@ typedef int32_t call_function(uint8_t event, uint8_t byte, uint16_t id, uint8_t 
                               size_t site_texts_size, const uint8_t *default_texts, size_t default_texts_size,
                               struct tagobrelin_link *link, uint8_t *out, size_t room);
 
+typedef struct tagobrelin_reading read_function(uint16_t id, const struct tagobrelin_datapoint *datapoints,
+                                                size_t datapoint_count);
+
+/* What plays are played by: the proved functions, or others in their place. */
+struct functions {
+    call_function *call;
+    read_function *read;
+};
+
 /* Some calls: the link record that they begin with, the datapoints that have a report mark before them, and their events. */
 struct play {
     struct tagobrelin_link link;
@@ -17,7 +26,7 @@ struct play {
     uint16_t mark_count;
     uint16_t step_count;
     struct step {
-        uint8_t event, byte;
+        uint8_t event, byte; /* event 0: a reading of the ID */
         uint16_t id;
     } steps[262];
     uint8_t value[14], value_count;
@@ -43,7 +52,8 @@ enum kind {
     BUS_VALUE,      /* a value from the bus */
     OUTCOME,        /* an outcome of a transmission */
     RESEND,         /* ack wait over, a frame of `size` bytes outstanding */
-    IDLE            /* an idle mark behind `size` gathered bytes */
+    IDLE,           /* an idle mark behind `size` gathered bytes */
+    READING         /* a reading of a two-octet value */
 };
 
 /* Fills the tables: so many datapoints and items, some parameter bytes. The lists of texts are empty. */
@@ -57,8 +67,8 @@ void make_texts(size_t entries);
 /* Makes the plays of a kind on these tables; a frame of `held` bytes is outstanding, 0: none. Answers how many calls each play has. */
 unsigned make_plays(enum kind kind, size_t size, size_t held);
 
-/* One play by this function. Answers what its last call answered. */
-int32_t play(const struct play *p, call_function *f);
+/* One play by these functions. Answers what its last call answered. */
+int32_t play(const struct play *p, const struct functions *f);
 
 /* Reads each byte of the tables, the parameters, the lists and the link record once. */
 uint64_t read_all(void);
@@ -66,6 +76,7 @@ uint64_t read_all(void);
 /* All that is lent. */
 extern struct lent {
     struct tagobrelin_datapoint datapoints[1000];
+    struct tagobrelin_datapoint readable[1000]; /* for readings: the same, but that every third is a two-octet value */
     struct tagobrelin_item items[64];
     struct tagobrelin_link link;
     uint8_t parameters[255], out[TAGOBRELIN_ROOM];

@@ -1,5 +1,6 @@
-/* Serves the library's tables to a host on a serial line: host bytes, idle marks, acknowledgement waits and polls, one call each.
- * Bus values and outcomes can be typed on standard input. `serve -h` tells how it is called. */
+/* Serves the library's tables to a host on a serial line: host bytes, idle marks, acknowledgement waits and polls, one
+ * call each. Bus values and outcomes can be typed on standard input, and readings asked for. `serve -h` tells how it is
+ * called. */
 #define _POSIX_C_SOURCE 200809L
 #include <errno.h>
 #include <fcntl.h>
@@ -259,7 +260,46 @@ static void obey_outcome(struct words *words)
         wrong(words, "refused: no datapoint has this ID");
 }
 
-/* value ID BYTES, or outcome ID sent|failed|in-progress */
+/* Shows a datapoint's value as a number, with the unit behind it, if there is one: the tables know none. */
+static void show_reading(unsigned long id, struct tagobrelin_reading reading, const char *unit)
+{
+    static const char *const cases[] = {[TAGOBRELIN_SWITCH] = "switch",
+                                        [TAGOBRELIN_COUNT] = "count",
+                                        [TAGOBRELIN_TWO_OCTET] = "two-octet value",
+                                        [TAGOBRELIN_SINGLE] = "single"};
+    if (reading.number == TAGOBRELIN_UNREADABLE) {
+        printf("datapoint %lu is unreadable\n", id);
+        return;
+    }
+    printf("datapoint %lu reads ", id);
+    if (reading.number == TAGOBRELIN_SWITCH)
+        printf("%s", reading.whole ? "on" : "off");
+    else if (reading.number == TAGOBRELIN_COUNT)
+        printf("%lu", (unsigned long)reading.whole);
+    else /* a two-octet value has hundredths; 9 digits tell every single */
+        printf(reading.number == TAGOBRELIN_TWO_OCTET ? "%.2f" : "%.9g", (double)reading.value);
+    if (unit != NULL && reading.number != TAGOBRELIN_SWITCH)
+        printf(" %s", unit);
+    printf(" (%s)\n", cases[reading.number]);
+}
+
+/* The tables are in order: a reading is refused for an absent ID alone. */
+static void obey_reading(struct words *words)
+{
+    unsigned long id;
+    if (!read_number(words, "ID", 0, 65535, &id))
+        return;
+    const char *unit = next_word(words);
+    if (!read_end(words))
+        return;
+    struct tagobrelin_reading reading = tagobrelin_reading_of(&server, (uint16_t)id);
+    if (reading.number < 0)
+        wrong(words, "refused: no datapoint has this ID");
+    else
+        show_reading(id, reading, unit);
+}
+
+/* value ID BYTES, or outcome ID sent|failed|in-progress, or reading ID [UNIT] */
 static void obey(struct words *words)
 {
     const char *verb = next_word(words);
@@ -269,8 +309,10 @@ static void obey(struct words *words)
         obey_value(words);
     else if (strcmp(verb, "outcome") == 0)
         obey_outcome(words);
+    else if (strcmp(verb, "reading") == 0)
+        obey_reading(words);
     else
-        wrong(words, "'%s' is none of: value ID BYTES, outcome ID sent|failed|in-progress", verb);
+        wrong(words, "'%s' is none of: value ID BYTES, outcome ID sent|failed|in-progress, reading ID [UNIT]", verb);
     show_changes();
 }
 
@@ -410,7 +452,8 @@ static void tell_usage(FILE *to)
           "  -i      milliseconds between polls for an indication: 20 if not given\n"
           "  -v      shows each frame in both directions, with its meaning\n"
           "  -h      shows this\n"
-          "Typed lines are bus events: value ID BYTES; outcome ID sent|failed|in-progress. Ctrl-C ends the program.\n",
+          "Typed lines are bus events: value ID BYTES; outcome ID sent|failed|in-progress. Or they ask for a value as a\n"
+          "number: reading ID [UNIT]; the unit is shown behind the number. Ctrl-C ends the program.\n",
           to);
 }
 

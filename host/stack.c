@@ -1,5 +1,6 @@
-/* How much stack a call uses: each is made once on a stack of its own that is painted before, and the deepest byte that it wrote is looked for.
- * Counted are the bytes below the caller's frame, the return address among them, the arguments not. */
+/* How much stack a call or a reading uses: each is made once on a stack of its own that is painted before, and the
+ * deepest byte that it wrote is looked for. Counted are the bytes below the caller's frame, the return address among
+ * them, the arguments not. */
 #define _XOPEN_SOURCE 600
 #include <stdio.h>
 #include <string.h>
@@ -11,7 +12,7 @@ enum { STACK = 1 << 16, PAINT = 0x5c };
 
 static uint8_t stack[STACK];
 static ucontext_t here, there;
-static call_function *function;
+static const struct functions *functions;
 static const struct play *played;
 
 static int32_t no_call(uint8_t event, uint8_t byte, uint16_t id, uint8_t outcome, const uint8_t *value, size_t value_count,
@@ -26,17 +27,24 @@ static int32_t no_call(uint8_t event, uint8_t byte, uint16_t id, uint8_t outcome
     return event;
 }
 
+static struct tagobrelin_reading no_read(uint16_t id, const struct tagobrelin_datapoint *datapoints,
+                                         size_t datapoint_count)
+{
+    (void)id, (void)datapoints, (void)datapoint_count;
+    return (struct tagobrelin_reading){0, 0, 0};
+}
+
 static void on_the_stack(void)
 {
-    play(played, function);
+    play(played, functions);
 }
 
 /* how many bytes of the stack were left as they were painted */
-static size_t untouched(const struct play *p, call_function *f)
+static size_t untouched(const struct play *p, const struct functions *f)
 {
     size_t n = 0;
     memset(stack, PAINT, sizeof stack);
-    function = f;
+    functions = f;
     played = p;
     getcontext(&there);
     there.uc_stack.ss_sp = stack;
@@ -51,6 +59,8 @@ static size_t untouched(const struct play *p, call_function *f)
 
 int main(void)
 {
+    static const struct functions proved = {tagobrelin_call, tagobrelin_read}, by_hand = {tuned_call, tuned_read},
+                                  none = {no_call, no_read};
     static const struct {
         const char *name;
         enum kind kind;
@@ -60,7 +70,7 @@ int main(void)
         {"get of 20 strings", STRINGS, 20}, {"set of 40 entries", SET, 40},
         {"248 parameter bytes", PARAMETERS, 248}, {"248 parameter bytes set", SET_PARAMETERS, 248},
         {"poll, 40 marks", POLL, 40}, {"bus value", BUS_VALUE, 0}, {"outcome", OUTCOME, 0},
-        {"261 bytes sent again", RESEND, 261}, {"idle mark", IDLE, 40},
+        {"261 bytes sent again", RESEND, 261}, {"idle mark", IDLE, 40}, {"reading of a two-octet value", READING, 0},
     };
     make_tables(1000, 64);
     make_texts(1000);
@@ -70,9 +80,10 @@ int main(void)
         make_plays(events[i].kind, events[i].size, 0);
         for (size_t v = 0; v < VARIANTS; v++) {
             /* once before, so that no function is looked up by the loader while it counts; what nothing uses is the return address */
-            play(&plays[v], tagobrelin_call);
-            play(&plays[v], tuned_call);
-            size_t none = untouched(&plays[v], no_call) + 8, a = none - untouched(&plays[v], tagobrelin_call), b = none - untouched(&plays[v], tuned_call);
+            play(&plays[v], &proved);
+            play(&plays[v], &by_hand);
+            size_t all = untouched(&plays[v], &none) + 8, a = all - untouched(&plays[v], &proved),
+                   b = all - untouched(&plays[v], &by_hand);
             ours = a > ours ? a : ours;
             tuned = b > tuned ? b : tuned;
         }

@@ -8,14 +8,10 @@
 #include <string.h>
 
 #include "tuned.h"
+#include "tuned_table.h"
 
-_Static_assert(__BYTE_ORDER__ == __ORDER_LITTLE_ENDIAN__, "the masks are those of a little-endian machine");
-
-typedef struct tagobrelin_datapoint datapoint;
 typedef struct tagobrelin_item item;
 typedef struct tagobrelin_link link_record;
-
-#define RARELY(fact) __builtin_expect(!!(fact), 0)
 
 enum {
     MESSAGE = 5,                 /* where a message begins in its frame */
@@ -24,30 +20,11 @@ enum {
     FRAME_HEAD = 0x68000068      /* 68 L L 68 with L still 0, as a word */
 };
 
-static inline uint64_t word(const void *at)
-{
-    uint64_t w;
-    memcpy(&w, at, sizeof w);
-    return w;
-}
-
-static inline uint32_t half_word(const void *at)
-{
-    uint32_t w;
-    memcpy(&w, at, sizeof w);
-    return w;
-}
-
 static inline uint32_t two_bytes_as_they_lie(const void *at)
 {
     uint16_t w;
     memcpy(&w, at, sizeof w);
     return w;
-}
-
-static inline void put_word(void *at, uint64_t w)
-{
-    memcpy(at, &w, sizeof w);
 }
 
 static inline uint32_t two_bytes(const uint8_t *at)
@@ -63,14 +40,6 @@ static inline void put_two_bytes(uint8_t *at, uint32_t n)
 
 /* ---- the tables */
 
-/* by type code: the bits of a record's bytes 5 to 12 and 13 to 20 that have to be 0; those of the state and of the mark are among them */
-static const uint64_t unused_low[15] = {0xfffffffffffffee0, 0xfffffffffffffce0, 0xfffffffffffff8e0, 0xfffffffffffff0e0, 0xffffffffffffe0e0,
-                                        0xffffffffffffc0e0, 0xffffffffffff80e0, 0xffffffffffff00e0, 0xffffffffff0000e0, 0xffffffff000000e0,
-                                        0xffffff00000000e0, 0xff000000000000e0, 0x00000000000000e0, 0x00000000000000e0, 0x00000000000000e0};
-static const uint64_t unused_high[15] = {0xfeffffffffffffff, 0xfeffffffffffffff, 0xfeffffffffffffff, 0xfeffffffffffffff, 0xfeffffffffffffff,
-                                         0xfeffffffffffffff, 0xfeffffffffffffff, 0xfeffffffffffffff, 0xfeffffffffffffff, 0xfeffffffffffffff,
-                                         0xfeffffffffffffff, 0xfeffffffffffffff, 0xfeffffffffffff00, 0xfeffffffff000000, 0xfe00000000000000};
-
 /* by type code: a value's bytes, and the bits of its first byte that have to be 0 */
 static const uint8_t size_of[15] = {1, 1, 1, 1, 1, 1, 1, 1, 2, 3, 4, 6, 8, 10, 14};
 static const uint8_t first_byte_unused[15] = {0xfe, 0xfc, 0xf8, 0xf0, 0xe0, 0xc0, 0x80};
@@ -79,34 +48,6 @@ static const uint8_t first_byte_unused[15] = {0xfe, 0xfc, 0xf8, 0xf0, 0xe0, 0xc0
 static const uint64_t item_low[256] = {~0ull, ~0ull << 8, ~0ull << 16, ~0ull << 24, ~0ull << 32, ~0ull << 40, ~0ull << 48, ~0ull << 56};
 static const uint64_t item_high[256] = {~0ull, ~0ull, ~0ull, ~0ull, ~0ull, ~0ull, ~0ull, ~0ull, ~0ull, ~0ull << 8, ~0ull << 16, ~0ull << 24,
                                        ~0ull << 32, ~0ull << 40, ~0ull << 48, ~0ull << 56, 0};
-
-/* One record: unused bits are gathered in `bad`; the top bit of `rises` stays set while each ID is above the one before it. */
-#define LOOK_AT_DATAPOINT(d)                                                                             \
-    do {                                                                                                 \
-        uint32_t t = (d)->typecode, id = (d)->id;                                                        \
-        if (RARELY(t > 14))                                                                              \
-            return false;                                                                                \
-        bad |= (word(&(d)->state) & unused_low[t]) | (word(&(d)->value[7]) & unused_high[t]);            \
-        rises &= last - id;                                                                              \
-        last = id;                                                                                       \
-    } while (0)
-
-static inline bool datapoints_are_well_formed(const datapoint *d, size_t n)
-{
-    uint32_t last = 0, rises = 1u << 31;
-    uint64_t bad = 0;
-    if (RARELY(n > 1000))
-        return false;
-    for (; n >= 4; n -= 4, d += 4) {
-        LOOK_AT_DATAPOINT(d);
-        LOOK_AT_DATAPOINT(d + 1);
-        LOOK_AT_DATAPOINT(d + 2);
-        LOOK_AT_DATAPOINT(d + 3);
-    }
-    for (; n; n--, d++)
-        LOOK_AT_DATAPOINT(d);
-    return bad == 0 && rises != 0;
-}
 
 /* size and writable as one number, less 1: at most bits 8 and 3 to 0 where the size is 1 to 16 and writable 0 or 1 */
 #define LOOK_AT_ITEM(i)                                                                                  \
@@ -155,20 +96,7 @@ static inline bool texts_are_in_order(const uint8_t *list, size_t size)
     return left == 0 && rises != 0 && lengths >> 31 == 0;
 }
 
-/* how many datapoints have a lower ID */
-static inline size_t datapoint_place(const datapoint *table, size_t n, uint32_t id)
-{
-    const datapoint *at = table;
-    if (RARELY(n == 0))
-        return 0;
-    while (n > 1) {
-        size_t half = n / 2;
-        at += at[half - 1].id < id ? half : 0;
-        n -= half;
-    }
-    return (size_t)(at - table) + (at->id < id);
-}
-
+/* how many items have a lower ID */
 static inline size_t item_place(const item *table, size_t n, uint32_t id)
 {
     const item *at = table;

@@ -1,4 +1,4 @@
-/* The call in hand-written C: tagobrelin_call's interface under another name. */
+/* The call and the reading in hand-written C: tagobrelin_call's interface and tagobrelin_read's under other names. */
 #ifndef TUNED_H
 #define TUNED_H
 
@@ -9,5 +9,8 @@ int32_t tuned_call(uint8_t event, uint8_t byte, uint16_t id, uint8_t outcome, co
                    uint8_t *parameters, size_t parameter_count, const uint8_t *site_texts, size_t site_texts_size,
                    const uint8_t *default_texts, size_t default_texts_size, struct tagobrelin_link *link, uint8_t *out,
                    size_t room);
+
+struct tagobrelin_reading tuned_read(uint16_t id, const struct tagobrelin_datapoint *datapoints,
+                                     size_t datapoint_count);
 
 #endif

@@ -1,6 +1,8 @@
-/* Holds tuned.c against the archive: random tables, link records and events; after each call both have given the same answer and left the same
- * bytes, padding included. Usage: tuned_test [CALLS [SEED]]. Prints how often each answer was met; the exit status tells
- * whether all were the same, and whether description strings were answered with each code that they have. */
+/* Holds tuned.c and tuned_read.c against the archive: random tables, link records, events and readings; after each call
+ * both have given the same answer and left the same bytes, padding included. Then every two-octet value is read.
+ * Usage: tuned_test [CALLS [SEED]]. Prints how often each answer was met; the exit status tells whether all were the
+ * same, whether description strings were answered with each code that they have, and whether each case of a reading and
+ * both its refusals were met. */
 #include <stdbool.h>
 #include <stdio.h>
 #include <stdlib.h>
@@ -24,6 +26,7 @@ static size_t datapoint_count, item_count, parameter_count, value_count, room, s
 static uint64_t state = 1;
 static unsigned long calls, limit = 1500000;
 static unsigned long refused[5], accepted[7], answered[8][11], sent_again, indications, longest;
+static unsigned long readings, cases[6], read_refused[5];
 
 static uint32_t random_below(uint32_t n)
 {
@@ -82,6 +85,26 @@ static int32_t call(uint8_t event, uint8_t byte, uint16_t id, uint8_t outcome)
     return a;
 }
 
+/* one reading by both: the same three members, by their bits, and no byte of anything changed */
+static void read_by_both(uint16_t id)
+{
+    struct tagobrelin_reading a, b;
+    a = tagobrelin_read(id, ours.datapoints, datapoint_count);
+    b = tuned_read(id, tuned.datapoints, datapoint_count);
+    readings++;
+    if (memcmp(&a, &b, sizeof a)) {
+        printf("reading of %u, call %lu: %d %u %a, tuned %d %u %a\n", id, calls, (int)a.number, (unsigned)a.whole,
+               (double)a.value, (int)b.number, (unsigned)b.whole, (double)b.value);
+        exit(1);
+    }
+    if (memcmp(&ours, &tuned, sizeof ours))
+        differs("memory behind a reading", 0, 0);
+    if (a.number < 0)
+        read_refused[-a.number]++;
+    else
+        cases[a.number]++;
+}
+
 static const uint8_t size_of[16] = {1, 1, 1, 1, 1, 1, 1, 1, 2, 3, 4, 6, 8, 10, 14, 5};
 
 static void random_value(uint8_t typecode, uint8_t *value)
@@ -90,6 +113,13 @@ static void random_value(uint8_t typecode, uint8_t *value)
         value[i] = (uint8_t)random_below(256);
     if (typecode < 7)
         value[0] &= (uint8_t)((2 << typecode) - 1);
+}
+
+/* the datapoint type that goes with this type code in a reading, or any */
+static uint8_t random_dpt(uint8_t typecode)
+{
+    static const uint8_t readable[15] = {[0] = 1, [7] = 5, [8] = 9, [10] = 14};
+    return readable[typecode] && random_below(4) ? readable[typecode] : (uint8_t)random_below(one_in(2) ? 16 : 256);
 }
 
 /* whether a datapoint with these config flags takes the command */
@@ -148,7 +178,7 @@ static void new_world(void)
             d->id = 65535;
         d->typecode = (uint8_t)random_below(few);
         d->flags = (uint8_t)(open | (one_in(5) ? random_below(256) : flags[random_below(4)]));
-        d->dpt = (uint8_t)random_below(256);
+        d->dpt = random_dpt(d->typecode);
         d->state = (uint8_t)random_below(32);
         random_value(d->typecode, d->value);
         d->mark = one_in(4);
@@ -385,6 +415,8 @@ static void broken(void)
         *a ^= mask;
         *b ^= mask;
     }
+    if (one_in(4))
+        read_by_both(some_id());
     call(random_event(), (uint8_t)random_below(256), some_id(), (uint8_t)random_below(3));
     datapoint_count = d;
     item_count = i;
@@ -415,7 +447,7 @@ static void random_bus_value(void)
 static void something(void)
 {
     static const uint8_t reset[4] = {0x10, 0x40, 0x40, 0x16};
-    switch (random_below(12)) {
+    switch (random_below(13)) {
     case 0:
     case 1:
     case 2:
@@ -449,10 +481,38 @@ static void something(void)
         for (uint32_t n = 6; n; n--)
             broken();
         break;
+    case 11:
+        for (uint32_t n = 1 + random_below(6); n; n--)
+            read_by_both(some_id());
+        break;
     default:
         if (one_in(20))
             call((uint8_t)random_below(256), 0, 0, (uint8_t)random_below(4));
         call(TAGOBRELIN_HOST_BYTE, 0xe5, 0, 0);
+    }
+}
+
+/* DPT 9, all its patterns; and DPT 14, each sign and exponent with some mantissas */
+static void every_value(void)
+{
+    static const uint32_t mantissas[] = {0, 1, 0x400000, 0x7fffff};
+    memset(&ours, 0, sizeof ours);
+    datapoint_count = 1;
+    ours.datapoints[0] = (struct tagobrelin_datapoint){.id = 7, .typecode = 8, .dpt = 9, .state = 0x18, .mark = 1};
+    for (uint32_t bits = 0; bits < 0x10000; bits++) {
+        ours.datapoints[0].value[0] = (uint8_t)(bits >> 8);
+        ours.datapoints[0].value[1] = (uint8_t)bits;
+        memcpy(&tuned, &ours, sizeof ours);
+        read_by_both(7);
+    }
+    ours.datapoints[0].typecode = 10;
+    ours.datapoints[0].dpt = 14;
+    for (uint32_t bits = 0; bits < 512 * 4; bits++) {
+        uint32_t mantissa = mantissas[bits % 4];
+        for (size_t i = 0; i < 4; i++)
+            ours.datapoints[0].value[i] = (uint8_t)((bits / 4 << 23 | mantissa) >> (24 - 8 * i));
+        memcpy(&tuned, &ours, sizeof ours);
+        read_by_both(7);
     }
 }
 
@@ -467,6 +527,7 @@ int main(int argc, char **argv)
         for (int i = 0; i < 60; i++)
             something();
     }
+    every_value();
     printf("%lu calls, the same answers and the same bytes; the longest reply has %lu\n", calls, longest);
     printf("  refused: no event %lu, 1: %lu, 2: %lu, 3: %lu, 4: %lu\n", refused[0], refused[1], refused[2], refused[3], refused[4]);
     printf("  accepted: host byte %lu, idle mark %lu, ack wait over %lu (%lu sent again), poll %lu (%lu indications), bus value %lu, outcome %lu\n", accepted[1],
@@ -477,6 +538,13 @@ int main(int argc, char **argv)
             if (answered[sub - 1][code])
                 printf(" %s%d: %lu", code ? "code " : "", code, answered[sub - 1][code]);
         printf("\n");
+    }
+    printf("  %lu readings: switch %lu, count %lu, two-octet value %lu, single %lu, unreadable %lu", readings, cases[1],
+           cases[2], cases[3], cases[4], cases[5]);
+    printf("; refused 1: %lu, 4: %lu\n", read_refused[1], read_refused[4]);
+    if (!cases[1] || !cases[2] || !cases[3] || !cases[4] || !cases[5] || !read_refused[1] || !read_refused[4]) {
+        printf("never met: a case of a reading, or a refusal\n");
+        return 1;
     }
     static const int codes[] = {0, 2, 3, 6, 10};
     for (size_t i = 0; i < sizeof codes / sizeof *codes; i++)

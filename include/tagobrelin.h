@@ -1,7 +1,7 @@
-/* Tagobrelin in C: what libtagobrelin.a exports, and over it the face that a program uses: struct tagobrelin_server and
- * one function an event, at the end of this file.
+/* Tagobrelin in C: what libtagobrelin.a exports, and over it the face that a program uses: struct tagobrelin_server,
+ * one function an event and one for readings, at the end of this file.
  *
- * The archive's two functions, tagobrelin_call and tagobrelin_fresh_link, are proved to do what
+ * The archive's three functions, tagobrelin_call, tagobrelin_fresh_link and tagobrelin_read, are proved to do what
  * crates/tagobrelin/src/exported.rt promises, for every content of the memory that they are lent. They keep no state of
  * their own, use no heap, and need memcpy and memset of the C library. The proof speaks of a caller that keeps the rules
  * below: nothing checks a C caller.
@@ -15,6 +15,10 @@
  *     else. All other runs of memory overlap nothing and lie in memory that can be written.
  *   - Nobody else writes to any of them while the call runs. So two calls for one server are never made at the same
  *     time, also not one of them in an interrupt or another thread; for two servers that share no memory they may be.
+ *   - tagobrelin_read only reads its table, which may lie in flash then. Two readings may be made at the same time, but
+ *     none while a call with the same table runs, which may write there.
+ *   - While tagobrelin_read runs, which divides once, floating point rounds to nearest and traps nothing: so it is in a
+ *     C program that has not changed it.
  * The contents may be anything: what is not in order is refused by number, and then no byte of anything is changed.
  */
 #ifndef TAGOBRELIN_H
@@ -27,9 +31,9 @@
  * what a host is answered may change in a minor version: header and archive are always taken together. CHANGELOG.md
  * tells what changed. */
 #define TAGOBRELIN_VERSION_MAJOR 1
-#define TAGOBRELIN_VERSION_MINOR 4
+#define TAGOBRELIN_VERSION_MINOR 5
 #define TAGOBRELIN_VERSION_PATCH 0
-#define TAGOBRELIN_VERSION "1.4.0"
+#define TAGOBRELIN_VERSION "1.5.0"
 
 #ifdef __cplusplus
 extern "C" {
@@ -126,6 +130,32 @@ int32_t tagobrelin_call(uint8_t event, uint8_t byte, uint16_t id, uint8_t outcom
  * nothing outstanding. */
 void tagobrelin_fresh_link(struct tagobrelin_link *link);
 
+/* A reading: a datapoint's value as a number, by its datapoint type and type code. The member that a case does not use
+ * is 0; where the number is below 0, both are. */
+struct tagobrelin_reading {
+    int32_t number; /* one of the five cases; or TAGOBRELIN_BAD_TABLE, or TAGOBRELIN_ABSENT */
+    uint32_t whole;
+    float value;
+};
+
+/* The five cases. */
+enum {
+    TAGOBRELIN_SWITCH = 1,    /* DPT 1, type code 0: `whole` is 1 for on, 0 for off */
+    TAGOBRELIN_COUNT = 2,     /* DPT 5, type code 7: `whole` is the byte, 0 to 255; a percentage is not scaled */
+    TAGOBRELIN_TWO_OCTET = 3, /* DPT 9, type code 8: `value` is its hundredths divided by 100, rounded once */
+    TAGOBRELIN_SINGLE = 4,    /* DPT 14, type code 10: `value` is the number whose bits these are */
+    TAGOBRELIN_UNREADABLE = 5 /* the valid bit is off, or it is any other DPT and type code, or a two-octet value of
+                                 7F FF, or a single that is infinite or not a number */
+};
+
+/* The refusal behind TAGOBRELIN_BAD_TABLE, which here tells of the datapoints alone. */
+enum { TAGOBRELIN_ABSENT = -4 }; /* no datapoint has the ID */
+
+/* The reading of the datapoint `id`. Nothing is changed, and nothing handed out: the updated bit and the mark stay, and
+ * a host is told of the value as if nobody had read it. */
+struct tagobrelin_reading tagobrelin_read(uint16_t id, const struct tagobrelin_datapoint *datapoints,
+                                          size_t datapoint_count);
+
 /* ---- The face. Later versions add members and functions and take none away.
  *
  * A server: the tables that it holds, its end of the line, and what it sends. It is static or zeroed before its members
@@ -213,6 +243,18 @@ static inline int32_t tagobrelin_outcome(struct tagobrelin_server *server, uint1
     return tagobrelin_event(server, TAGOBRELIN_OUTCOME, 0, id, outcome, NULL, 0);
 }
 
+/* The reading of a datapoint, whatever the line is at. With a table that is in order it is refused for an ID that is
+ * absent, and for nothing else. */
+static inline struct tagobrelin_reading tagobrelin_reading_of(const struct tagobrelin_server *server, uint16_t id)
+{
+    /* Something that exists stands where there is no element. */
+    const struct tagobrelin_datapoint no_datapoint = {0, 0, 0, 0, 0, {0}, 0};
+    const struct tagobrelin_reading no_table = {TAGOBRELIN_BAD_TABLE, 0, 0};
+    if (!server->datapoints && server->datapoint_count > 0)
+        return no_table;
+    return tagobrelin_read(id, server->datapoints ? server->datapoints : &no_datapoint, server->datapoint_count);
+}
+
 /* 1 where a frame is outstanding: sent, and not acknowledged yet. */
 static inline int tagobrelin_is_outstanding(const struct tagobrelin_server *server)
 {
@@ -277,6 +319,11 @@ TAGOBRELIN_AT(link, send, 264);
 TAGOBRELIN_AT(link, outstanding, 265);
 TAGOBRELIN_AT(link, held, 526);
 TAGOBRELIN_AT(link, resends, 528);
+TAGOBRELIN_ASSERT(sizeof(float) == 4);
+TAGOBRELIN_ASSERT(sizeof(struct tagobrelin_reading) == 12);
+TAGOBRELIN_AT(reading, number, 0);
+TAGOBRELIN_AT(reading, whole, 4);
+TAGOBRELIN_AT(reading, value, 8);
 #undef TAGOBRELIN_AT
 #undef TAGOBRELIN_ASSERT
 #undef TAGOBRELIN_ASSERT_AT

@@ -1,13 +1,16 @@
 //! One call at a time on both sides, and their comparison. The first difference ends the run.
 
 use crate::counts::Counts;
-use crate::lent::{Call, Lent, ROOM_AT_MOST};
-use crate::plain::{call, Event, Outcome, Server};
+use crate::lent::{Call, Lent, Numbers, ROOM_AT_MOST};
+use crate::plain::{call, reading, Event, Outcome, Reading, Server};
 use crate::random::Random;
-use crate::seen;
+use crate::{seen, tables};
 
 /// What a call answers: the bytes sent, or the number that the C function returns.
 pub type Answer = Result<Vec<u8>, i32>;
+
+/// What a reading is: the case and what it carries, or the number below 0 that the C function returns.
+pub type Read = Result<Reading, i32>;
 
 pub const NO_EVENT: i32 = -100;
 
@@ -19,6 +22,8 @@ pub struct Bench {
     pub counts: Counts,
     pub random: Random,
     pub calls: u64,
+    /// How many of the calls were readings.
+    pub readings: u64,
     lent: Lent,
     seed: u64,
     episode: u64,
@@ -41,6 +46,7 @@ impl Bench {
             counts: Counts::new(),
             random: Random::new(0),
             calls: 0,
+            readings: 0,
             lent: Lent::new(),
             seed,
             episode: 0,
@@ -147,8 +153,56 @@ impl Bench {
         call
     }
 
-    /// Calls both and compares.
+    /// Calls both and compares; and behind the call, now and then, a reading.
     pub fn call(&mut self, given: &Call) -> Answer {
+        let answer = self.call_both(given);
+        if self.random.one_in(40) {
+            let id = self.some_id();
+            let _ = self.read(id);
+        }
+        answer
+    }
+
+    /// An ID for a reading: mostly of a datapoint.
+    pub fn some_id(&mut self) -> u16 {
+        let (random, datapoints) = (&mut self.random, &self.server.datapoints);
+        match random.below(12) {
+            0 => 0,
+            1 | 2 => tables::absent_datapoint(random, datapoints).unwrap_or(0),
+            3 => random.number(),
+            4 => datapoints.first().map_or(1, |datapoint| datapoint.id),
+            5 => datapoints.last().map_or(65535, |datapoint| datapoint.id),
+            _ if datapoints.is_empty() => random.number(),
+            _ => datapoints[random.below(datapoints.len())].id,
+        }
+    }
+
+    /// Reads by both and compares: the same numbers, and no byte of what is lent is changed, padding too.
+    pub fn read(&mut self, id: u16) -> Read {
+        self.calls += 1;
+        self.readings += 1;
+        let told = format!("reading of {id}");
+        if self.upto == Some(self.calls) {
+            println!("call {}: {told}", self.calls);
+        }
+        let archive = self.lent.read(id);
+        let read = reading(&self.server.datapoints, id).map_err(|number| -i32::from(number));
+        let plain = numbers_of(&read);
+        if !self.lent.is_as_before() || archive != plain {
+            let mut differences = vec![format!("returned: archive {archive:X?}, plain {plain:X?}")];
+            differences.extend(self.lent.differences());
+            self.fail(&told, &differences);
+        }
+        seen::read(&mut self.counts, &self.server, id, &read);
+        if self.upto == Some(self.calls) {
+            self.tell_state();
+            println!("answer of both: {read:X?}");
+            std::process::exit(0);
+        }
+        read
+    }
+
+    fn call_both(&mut self, given: &Call) -> Answer {
         self.calls += 1;
         if self.upto == Some(self.calls) {
             println!("call {}: {}", self.calls, told(given));
@@ -183,6 +237,10 @@ impl Bench {
     /// What was aimed at did not come about, on both sides alike.
     pub fn missed(&self, aim: &str, answer: &Answer) -> ! {
         self.fail(&format!("aimed at: {aim}"), &[format!("answer of both: {}", told_answer(answer))]);
+    }
+
+    pub fn misread(&self, aim: &str, read: &Read) -> ! {
+        self.fail(&format!("aimed at: {aim}"), &[format!("reading of both: {read:X?}")]);
     }
 
     fn fail(&self, what: &str, differences: &[String]) -> ! {
@@ -232,6 +290,19 @@ fn event_of(call: &Call) -> Option<Event> {
         (6, 2) => Some(Event::TransmissionOutcome(call.id, Outcome::InProgress)),
         _ => None,
     }
+}
+
+/// The members that the C function returns for this.
+fn numbers_of(read: &Read) -> Numbers {
+    let (number, whole, bits) = match read {
+        Err(number) => (*number, 0, 0),
+        Ok(Reading::Switch(on)) => (1, u32::from(*on), 0),
+        Ok(Reading::Count(count)) => (2, u32::from(*count), 0),
+        Ok(Reading::TwoOctet(bits)) => (3, 0, *bits),
+        Ok(Reading::Single(bits)) => (4, 0, *bits),
+        Ok(Reading::Unreadable) => (5, 0, 0),
+    };
+    Numbers { number, whole, bits }
 }
 
 fn told(call: &Call) -> String {

@@ -253,6 +253,7 @@ const EDGES: &[(&str, Breaks)] = &[
 pub fn lists() -> Vec<(&'static str, Vec<&'static str>)> {
     vec![
         ("refusals, one broken thing", CLAUSES.iter().map(|clause| clause.label).collect()),
+        ("readings, one broken thing", CLAUSES.iter().map(|clause| clause.label).collect()),
         ("refusals, several at once: the first named", ORDERS.iter().map(|(label, _)| *label).collect()),
         ("in order, the last that is", EDGES.iter().map(|(label, _)| *label).collect()),
     ]
@@ -335,13 +336,26 @@ fn break_by(case: &mut Case, random: &mut Random, clause: &Clause) -> bool {
 
 fn one(bench: &mut Bench, mut case: Case) {
     let clause = &CLAUSES[bench.random.below(CLAUSES.len())];
+    let datapoints = case.server.datapoints.clone();
     if break_by(&mut case, &mut bench.random, clause) {
         expect(bench, &case, clause.label, Some(clause.number));
         bench.counts.hit("refusals, one broken thing", clause.label);
         if let Some((row, column)) = case.cell {
             bench.counts.cell(TYPES, row, column);
         }
+        read_beside(bench, clause, datapoints != case.server.datapoints);
     }
+}
+
+/// The call was refused, so that the broken thing stands. A reading is refused for it with 1 where it stands among the
+/// datapoints, also where the ID is absent; and nothing else is looked at for a reading.
+fn read_beside(bench: &mut Bench, clause: &Clause, among_datapoints: bool) {
+    let id = bench.some_id();
+    let read = bench.read(id);
+    if (read == Err(-1)) != among_datapoints {
+        bench.misread("1 for a table of datapoints that is not well formed, and for nothing else", &read);
+    }
+    bench.counts.hit("readings, one broken thing", clause.label);
 }
 
 fn several(bench: &mut Bench, mut case: Case) {

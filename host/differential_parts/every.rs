@@ -1,9 +1,9 @@
 //! The first episode: one thing at a time goes through all its values.
 
-use crate::bench::{Bench, NO_EVENT};
+use crate::bench::{Bench, Read, NO_EVENT};
 use crate::frames;
 use crate::lent::Call;
-use crate::plain::{Datapoint, Item, Server};
+use crate::plain::{Datapoint, Item, Reading, Server};
 use crate::tables::{self, SIZES};
 
 const NAME: &str = "every value, one thing at a time, by calls";
@@ -12,7 +12,7 @@ pub fn lists() -> Vec<(&'static str, Vec<&'static str>)> {
     vec![(NAME, EVERY.iter().map(|(label, _)| *label).collect())]
 }
 
-const EVERY: [(&str, fn(&mut Bench)); 26] = [
+const EVERY: [(&str, fn(&mut Bench)); 31] = [
     ("room 0 to 263, each event", rooms),
     ("event 0 to 255, outcome 0 to 255", events),
     ("host byte at each place of a frame", bytes_in_frames),
@@ -39,6 +39,11 @@ const EVERY: [(&str, fn(&mut Bench)); 26] = [
     ("each bit of an item", item_bits),
     ("each bit and count of a link record", link_bits),
     ("each byte that has to be 0 or 1, each event", zeros_and_ones),
+    ("readings: each of the 65,536 two octets", two_octets),
+    ("readings: singles of each sign and exponent", singles),
+    ("readings: each DPT with each type, valid and not", dpts_and_types),
+    ("readings: each ID of a table and those beside it; 0 to 40 and 999 to 1001 datapoints", ids_read),
+    ("readings: each bit of a datapoint, each type code, state and mark", bits_read),
 ];
 
 /// All of them, each on small tables of its own.
@@ -60,7 +65,7 @@ fn small(bench: &mut Bench) -> Server {
         .map(|typecode| {
             let mut value = [0; 14];
             value[..SIZES[usize::from(typecode)]].copy_from_slice(&tables::value(random, typecode));
-            let (flags, dpt, state) = (random.byte() | 0x44, random.byte(), random.byte() & 0x1F);
+            let (flags, dpt, state) = (random.byte() | 0x44, tables::dpt(random, typecode), random.byte() & 0x1F);
             Datapoint { id: 10 + u16::from(typecode) * 3, typecode, flags, dpt, state, value, mark: random.bit() }
         })
         .collect();
@@ -891,6 +896,179 @@ fn zeros_and_ones(bench: &mut Bench) {
                     }
                 }
             }
+        }
+    }
+}
+
+/// The table's middle datapoint, ID 13, with this DPT, type code and value, valid or not, is read by both.
+fn read_as(bench: &mut Bench, dpt: u8, typecode: u8, valid: bool, value: &[u8]) -> Read {
+    let state = bench.random.byte() & 0x0F | u8::from(valid) << 4;
+    let datapoint = &mut bench.server.datapoints[1];
+    datapoint.dpt = dpt;
+    datapoint.typecode = typecode;
+    datapoint.state = state;
+    datapoint.value = [0; 14];
+    datapoint.value[..value.len()].copy_from_slice(value);
+    bench.lend();
+    bench.read(13)
+}
+
+/// The number with these bits in 2 to the 48th parts of one, where it is a whole number of them, and not a large one.
+/// The bits' exponent is 150 where their mantissa is the number.
+fn parts(bits: u32) -> Option<i128> {
+    let (exponent, mantissa) = (bits >> 23 & 0xFF, i128::from(bits & 0x7F_FFFF | 0x80_0000));
+    let size = (102..=150).contains(&exponent).then(|| mantissa << (exponent - 102))?;
+    Some(if bits >> 31 == 1 { -size } else { size })
+}
+
+/// As many such parts are one.
+const ONE: i128 = 1 << 48;
+
+/// Whether the bits are those of the hundredths divided by 100, rounded once: 100 times the number is nearer to the
+/// hundredths than 100 times its neighbour on either side, or as near and even. And whether it is within their size
+/// divided by 2 to the 24.
+fn is_rounded_once(bits: u32, hundredths: i128) -> (bool, bool) {
+    if hundredths == 0 {
+        return (bits == 0, bits == 0);
+    }
+    let distance = |bits: u32| parts(bits).map(|parts| (100 * parts - hundredths * ONE).abs());
+    let neighbours = (distance(bits.wrapping_sub(1)), distance(bits.wrapping_add(1)));
+    let (Some(own), (Some(below), Some(above))) = (distance(bits), neighbours) else {
+        return (false, false);
+    };
+    let nearest = [below, above].iter().all(|other| own < *other || (own == *other && bits % 2 == 0));
+    (nearest, own << 24 <= hundredths.abs() * ONE)
+}
+
+fn two_octets(bench: &mut Bench) {
+    bench.server.datapoints.truncate(3);
+    for octets in 0..=0xFFFF_u16 {
+        let read = read_as(bench, 9, 8, true, &octets.to_be_bytes());
+        // from the highest bit on: the sign, which counts -2048, four bits of exponent, eleven bits
+        let mantissa = i128::from(octets & 0x07FF) - i128::from(octets >> 15) * 2048;
+        let hundredths = mantissa << (octets >> 11 & 0x0F);
+        match read {
+            Ok(Reading::Unreadable) if octets == 0x7FFF => {}
+            Ok(Reading::TwoOctet(bits)) if octets != 0x7FFF => match is_rounded_once(bits, hundredths) {
+                (true, true) => {}
+                (false, _) => bench.misread(&format!("the nearest to {hundredths} hundredths"), &read),
+                _ => bench.misread(&format!("{hundredths} hundredths, but for a 2 to the 24th of them"), &read),
+            },
+            _ => bench.misread("each two octets but 7FFF are read", &read),
+        }
+    }
+}
+
+fn singles(bench: &mut Bench) {
+    bench.server.datapoints.truncate(3);
+    for sign_and_exponent in 0..512_u32 {
+        let mut mantissas = vec![0, 1, 2, 0x3F_FFFF, 0x40_0000, 0x40_0001, 0x7F_FFFE, 0x7F_FFFF];
+        mantissas.extend((0..4).map(|_| bench.random.next() as u32 & 0x7F_FFFF));
+        for mantissa in mantissas {
+            let bits = sign_and_exponent << 23 | mantissa;
+            let read = read_as(bench, 14, 10, true, &bits.to_be_bytes());
+            let is_number = sign_and_exponent % 256 != 255;
+            if read != Ok(if is_number { Reading::Single(bits) } else { Reading::Unreadable }) {
+                bench.misread("the number with these bits, if it is one and finite", &read);
+            }
+        }
+    }
+    // each bit alone, and all but that
+    for bit in 0..32 {
+        for bits in [1_u32 << bit, !(1 << bit)] {
+            let _ = read_as(bench, 14, 10, true, &bits.to_be_bytes());
+        }
+    }
+}
+
+fn dpts_and_types(bench: &mut Bench) {
+    bench.server.datapoints.truncate(3);
+    for dpt in 0..=255 {
+        for typecode in 0..15 {
+            for valid in [false, true] {
+                let mut value = vec![0; SIZES[usize::from(typecode)]];
+                value[0] = 1;
+                let read = read_as(bench, dpt, typecode, valid, &value);
+                let wanted = match (valid, dpt, typecode) {
+                    (true, 1, 0) => Reading::Switch(true),
+                    (true, 5, 7) => Reading::Count(1),
+                    (true, 9, 8) => Reading::TwoOctet(2.56_f32.to_bits()),
+                    (true, 14, 10) => Reading::Single(0x0100_0000),
+                    _ => Reading::Unreadable,
+                };
+                if read != Ok(wanted) {
+                    bench.misread("one of the four, by DPT and type, where it is valid; else unreadable", &read);
+                }
+                // and a value of any bytes
+                let value = tables::value(&mut bench.random, typecode);
+                let _ = read_as(bench, dpt, typecode, valid, &value);
+            }
+        }
+    }
+    for byte in 0..=255 {
+        let read = read_as(bench, 5, 7, true, &[byte]);
+        if read != Ok(Reading::Count(byte)) {
+            bench.misread("a count is the byte", &read);
+        }
+    }
+    for on in [false, true] {
+        let read = read_as(bench, 1, 0, true, &[u8::from(on)]);
+        if read != Ok(Reading::Switch(on)) {
+            bench.misread("a switch is on where its bit is 1", &read);
+        }
+    }
+}
+
+fn ids_read(bench: &mut Bench) {
+    for count in (0..=40).chain([999, 1000, 1001]) {
+        bench.server.datapoints = tables::datapoints(&mut bench.random, count);
+        bench.lend();
+        let ids: Vec<u16> = bench.server.datapoints.iter().map(|datapoint| datapoint.id).collect();
+        let around = ids.iter().flat_map(|id| [id.wrapping_sub(1), *id, id.wrapping_add(1)]);
+        for id in around.chain([0, 1, 2, 0x7FFF, 0x8000, 0xFFFE, 0xFFFF]).collect::<Vec<u16>>() {
+            let read = bench.read(id);
+            let refused = match count {
+                1001 => Some(-1),
+                _ => (!ids.contains(&id)).then_some(-4),
+            };
+            if read.as_ref().err().copied() != refused {
+                bench.misread("4 for an ID that is absent, and for no other", &read);
+            }
+        }
+    }
+}
+
+/// A reading on these tables, in order but for their datapoints perhaps, is refused with 1 where a call is.
+fn read_as_called(bench: &mut Bench, server: &Server) {
+    let answer = once(bench, server, IDLE);
+    let id = bench.some_id();
+    let read = bench.read(id);
+    if (read == Err(-1)) != (answer == Err(-1)) {
+        bench.misread("1 as in a call", &read);
+    }
+}
+
+fn bits_read(bench: &mut Bench) {
+    let before = bench.server.clone();
+    for at in 0..before.datapoints.len() {
+        let alter = |bench: &mut Bench, change: &dyn Fn(&mut Datapoint)| {
+            let mut server = before.clone();
+            change(&mut server.datapoints[at]);
+            read_as_called(bench, &server);
+        };
+        for bit in 0..8 {
+            for place in 0..14 {
+                alter(bench, &|datapoint| datapoint.value[place] ^= 1 << bit);
+            }
+            alter(bench, &|datapoint| datapoint.flags ^= 1 << bit);
+            alter(bench, &|datapoint| datapoint.dpt ^= 1 << bit);
+            alter(bench, &|datapoint| datapoint.id ^= 1 << bit);
+            alter(bench, &|datapoint| datapoint.id ^= 0x100 << bit);
+        }
+        for byte in 0..=255 {
+            alter(bench, &|datapoint| datapoint.typecode = byte);
+            alter(bench, &|datapoint| datapoint.state = byte);
+            alter(bench, &|datapoint| datapoint.mark = byte);
         }
     }
 }

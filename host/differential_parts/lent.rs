@@ -27,6 +27,23 @@ extern "C" {
         room: usize,
     ) -> i32;
     fn tagobrelin_fresh_link(link: *mut u8);
+    fn tagobrelin_read(id: u16, datapoints: *const u8, datapoint_count: usize) -> Returned;
+}
+
+/// struct tagobrelin_reading.
+#[repr(C)]
+struct Returned {
+    number: i32,
+    whole: u32,
+    value: f32,
+}
+
+/// Its members, with the bits of the floating one.
+#[derive(PartialEq, Debug)]
+pub struct Numbers {
+    pub number: i32,
+    pub whole: u32,
+    pub bits: u32,
 }
 
 const DATAPOINT: usize = 22;
@@ -193,6 +210,20 @@ impl Lent {
                 call.room,
             )
         }
+    }
+
+    /// The reading of this ID.
+    pub fn read(&mut self, id: u16) -> Numbers {
+        self.before[..self.end].copy_from_slice(&self.memory[..self.end]);
+        let datapoints = unsafe { self.memory.as_ptr().add(self.datapoints) };
+        let Returned { number, whole, value } = unsafe { tagobrelin_read(id, datapoints, self.datapoint_count) };
+        Numbers { number, whole, bits: value.to_bits() }
+    }
+
+    /// Whether every byte is as before.
+    pub fn is_as_before(&mut self) -> bool {
+        self.wanted[..self.end].copy_from_slice(&self.before[..self.end]);
+        self.memory[..self.end] == self.wanted[..self.end]
     }
 
     pub fn fresh_link(&mut self) {

@@ -1,9 +1,9 @@
 //! What a call did, told from the link record before it, the call, and its answer. It only counts.
 
-use crate::bench::Answer;
+use crate::bench::{Answer, Read};
 use crate::counts::{Counts, Matrix};
 use crate::lent::Call;
-use crate::plain::{Link, Server};
+use crate::plain::{Datapoint, Link, Reading, Server};
 use crate::requests::{self, Texts};
 use crate::tables::{found, takes, texts_by_id, type_of, used_bits, SIZES};
 
@@ -15,6 +15,7 @@ const FLAGS: usize = 3;
 const PARAMETERS: usize = 4;
 const STRINGS: usize = 5;
 const TEXT_SIZES: usize = 6;
+const READINGS: usize = 7;
 
 pub const BUS_TAKEN: usize = 0;
 pub const BUS_LENGTH: usize = 1;
@@ -159,6 +160,15 @@ pub fn matrices() -> Vec<Matrix> {
             &["0", "1", "2 to 29", "30"],
             &[("from the site's list", &[1, 2, 3]), ("from the default list", &[1, 2, 3]), ("empty", &[0])],
         ),
+        Matrix::new(
+            "Readings, by DPT and type code",
+            &["1, 0", "5, 7", "9, 8", "14, 10", "one of these DPTs", "one of these types", "others"],
+            &[
+                ("valid, read", &[0, 1, 2, 3]),
+                ("valid, unreadable", &[2, 3, 4, 5, 6]),
+                ("not valid, unreadable", &[0, 1, 2, 3, 4, 5, 6]),
+            ],
+        ),
     ]
 }
 
@@ -168,6 +178,7 @@ pub fn lists() -> Vec<(&'static str, Vec<&'static str>)> {
         ("damage is found at", FOUND_AT.to_vec()),
         ("other events", EVENTS.to_vec()),
         ("requests carried out", REQUESTS.to_vec()),
+        ("readings", READ.to_vec()),
         ("fresh link", vec!["made where another record stood"]),
         ("requests, by aim", requests::AIMS.to_vec()),
     ];
@@ -281,6 +292,149 @@ const REQUESTS: [&str; 22] = [
     "strings answered, a list has an ID in the range that no datapoint has",
     "strings answered, a list has 100 entries or more",
 ];
+
+const READ: [&str; 36] = [
+    "refused 1",
+    "refused 1, the ID is absent too",
+    "refused 1, 1001 datapoints",
+    "refused 4, ID 0",
+    "refused 4, no datapoint",
+    "refused 4, below the first ID",
+    "refused 4, above the last ID",
+    "refused 4, between two IDs",
+    "given, the only datapoint",
+    "given, the first of several",
+    "given, the last of several",
+    "given, one between",
+    "given, of 1000 datapoints",
+    "given, a closed datapoint",
+    "given, an open datapoint",
+    "given, updated and marked",
+    "given, in mid-frame",
+    "given, something outstanding",
+    "a switch that is on",
+    "a switch that is off",
+    "a count of 0",
+    "a count of 255",
+    "a count between",
+    "a two-octet value of 0",
+    "a two-octet value above 0",
+    "a two-octet value below 0",
+    "the least two-octet value",
+    "the most",
+    "7FFF",
+    "a single of 0",
+    "a single of minus 0",
+    "a single below the normal ones",
+    "a normal single",
+    "the largest single, or minus that",
+    "an infinite single",
+    "a single that is not a number",
+];
+
+/// Counts a reading, by its refusal or by what was read.
+pub fn read(counts: &mut Counts, server: &Server, id: u16, read: &Read) {
+    let datapoints = &server.datapoints;
+    let place = datapoints.iter().position(|datapoint| datapoint.id == id);
+    match (read, place) {
+        (Err(-1), place) => {
+            let count = datapoints.len();
+            hit_those(
+                counts,
+                &[
+                    ("refused 1", true),
+                    ("refused 1, the ID is absent too", place.is_none()),
+                    ("refused 1, 1001 datapoints", count == 1001),
+                ],
+            );
+        }
+        (_, Some(at)) => given(counts, server, at, read),
+        _ => {
+            let lower = datapoints.iter().filter(|datapoint| datapoint.id < id).count();
+            let label = match (id, datapoints.len()) {
+                (0, _) => "refused 4, ID 0",
+                (_, 0) => "refused 4, no datapoint",
+                _ if lower == 0 => "refused 4, below the first ID",
+                (_, count) if lower == count => "refused 4, above the last ID",
+                _ => "refused 4, between two IDs",
+            };
+            counts.hit("readings", label);
+        }
+    }
+}
+
+fn hit_those(counts: &mut Counts, labels: &[(&'static str, bool)]) {
+    for (label, is_so) in labels {
+        if *is_so {
+            counts.hit("readings", label);
+        }
+    }
+}
+
+/// The reading of the datapoint at this place.
+fn given(counts: &mut Counts, server: &Server, at: usize, read: &Read) {
+    let (datapoint, count) = (&server.datapoints[at], server.datapoints.len());
+    let (is_first, is_last) = (at == 0, at + 1 == count);
+    hit_those(
+        counts,
+        &[
+            ("given, the only datapoint", is_first && is_last),
+            ("given, the first of several", is_first && !is_last),
+            ("given, the last of several", is_last && !is_first),
+            ("given, one between", !is_first && !is_last),
+            ("given, of 1000 datapoints", count == 1000),
+            ("given, a closed datapoint", datapoint.flags & 0x04 == 0),
+            ("given, an open datapoint", datapoint.flags & 0x04 != 0),
+            ("given, updated and marked", datapoint.state & 0x08 != 0 && datapoint.mark == 1),
+            ("given, in mid-frame", server.link.received != 0),
+            ("given, something outstanding", server.link.held != 0),
+        ],
+    );
+    let row = match (datapoint.state & 0x10 != 0, read) {
+        (true, Ok(Reading::Unreadable)) => 1,
+        (true, _) => 0,
+        (false, _) => 2,
+    };
+    let column = match (datapoint.dpt, datapoint.typecode) {
+        (1, 0) => 0,
+        (5, 7) => 1,
+        (9, 8) => 2,
+        (14, 10) => 3,
+        (1 | 5 | 9 | 14, _) => 4,
+        (_, 0 | 7 | 8 | 10) => 5,
+        _ => 6,
+    };
+    counts.cell(READINGS, row, column);
+    if row < 2 && column < 4 {
+        counts.hit("readings", what_was_read(datapoint, read));
+    }
+}
+
+/// The value of a datapoint that is valid and of one of the four kinds.
+fn what_was_read(datapoint: &Datapoint, read: &Read) -> &'static str {
+    let octets = number_at(&datapoint.value, 0);
+    let bits = u32::from(octets) << 16 | u32::from(number_at(&datapoint.value, 2));
+    match (datapoint.dpt, datapoint.value[0], octets, bits & 0x7FFF_FFFF) {
+        (1, _, _, _) if *read == Ok(Reading::Switch(true)) => "a switch that is on",
+        (1, _, _, _) => "a switch that is off",
+        (5, 0, _, _) => "a count of 0",
+        (5, 255, _, _) => "a count of 255",
+        (5, _, _, _) => "a count between",
+        (9, _, 0x7FFF, _) => "7FFF",
+        (9, _, 0x7FFE, _) => "the most",
+        (9, _, 0xF800, _) => "the least two-octet value",
+        (9, _, 0x8000.., _) => "a two-octet value below 0",
+        (9, _, octets, _) if octets % 2048 == 0 => "a two-octet value of 0",
+        (9, _, _, _) => "a two-octet value above 0",
+        (_, _, 0x8000.., 0) => "a single of minus 0",
+        (_, _, _, 0) => "a single of 0",
+        (_, _, _, 1..=0x7F_FFFF) => "a single below the normal ones",
+        (_, _, _, 0x7F7F_FFFF) => "the largest single, or minus that",
+        (_, _, _, 0x7F80_0000) => "an infinite single",
+        (_, _, _, 0x7F80_0001..) => "a single that is not a number",
+        _ => "a normal single",
+    }
+}
 
 /// The sizes that the marked datapoints have in an indication.
 pub fn marked_sizes(server: &Server) -> Vec<usize> {

@@ -25,12 +25,41 @@ pub fn value(random: &mut Random, typecode: u8) -> Vec<u8> {
         _ => random.bytes(size),
     };
     value[0] &= used_bits(typecode);
+    // of two and of four bytes, now and then one that is special as a number
+    if (typecode == 8 || typecode == 10) && random.one_in(4) {
+        special_number(random, &mut value);
+    }
     value
+}
+
+/// In two octets the ends of what can be read, 7FFF and exponents without a mantissa; in four each kind that a number of
+/// 32-bit floating point can be of, by its exponent's and its mantissa's bits.
+fn special_number(random: &mut Random, value: &mut [u8]) {
+    if value.len() == 2 {
+        let octets: u16 = random.pick(&[0x7FFF, 0x7FFE, 0x8000, 0xF800, 0xFFFF, 0x7800, 0x0800]);
+        value.copy_from_slice(&octets.to_be_bytes());
+    } else {
+        let (sign, exponent) = (u32::from(random.bit()), random.pick(&[0, 0, 1, 127, 254, 255, 255]));
+        let mantissa = random.pick(&[0, 0, 1, 0x40_0000, 0x7F_FFFF, 0x12_3456]);
+        value.copy_from_slice(&(sign << 31 | exponent << 23 | mantissa).to_be_bytes());
+    }
 }
 
 /// Config flags: bits 2 and 6 in each of their four ways, or any byte.
 pub fn flags(random: &mut Random) -> u8 {
     random.byte_like(&[0x00, 0x04, 0x40, 0x44])
+}
+
+/// A datapoint type: mostly the one that makes the type code readable, where there is one; or any, often one of those.
+pub fn dpt(random: &mut Random, typecode: u8) -> u8 {
+    let fitting = match typecode {
+        0 => 1,
+        7 => 5,
+        8 => 9,
+        10 => 14,
+        _ => return random.byte_like(&[1, 5, 9, 14]),
+    };
+    random.byte_like(&[fitting, fitting, fitting, 1, 5, 9, 14])
 }
 
 /// Whether a datapoint with these config flags takes the command.
@@ -93,7 +122,7 @@ pub fn datapoints(random: &mut Random, count: usize) -> Vec<Datapoint> {
                 id,
                 typecode,
                 flags: flags(random),
-                dpt: random.byte(),
+                dpt: dpt(random, typecode),
                 state: random.byte() & 0x1F,
                 value: all,
                 mark: u8::from(random.below(10) < marks),

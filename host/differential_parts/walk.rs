@@ -1,6 +1,7 @@
 //! An episode: random tables, and events as a host, a bus and a line with faults bring them, one after the other.
 
 use crate::bench::Bench;
+use crate::plain::Reading;
 use crate::requests::{self, Request, Wants};
 use crate::{broken, frames, garbage, tables};
 
@@ -27,7 +28,7 @@ const DAMAGE: [&str; 16] = [
     "E5-led, a whole frame spelled inside",
 ];
 
-const ON_THE_WAY: [&str; 14] = [
+const ON_THE_WAY: [&str; 15] = [
     "the same frame again",
     "the same frame again, its answer still outstanding",
     "sound frame behind damage, without an idle mark",
@@ -38,6 +39,7 @@ const ON_THE_WAY: [&str; 14] = [
     "tables altered by their owner",
     "bus value equal to the one there",
     "bus value, mark set already",
+    "a bus value, and its reading at once",
     "1000 datapoints, 64 items or 255 parameter bytes, a request carried out",
     "no datapoint, item or parameter byte, a request carried out",
     "parameter bytes set, and got at once",
@@ -62,7 +64,7 @@ pub fn episode(bench: &mut Bench) {
 }
 
 fn step(bench: &mut Bench) {
-    match bench.random.below(100) {
+    match bench.random.below(102) {
         0..=43 => ask(bench),
         44..=53 => damage(bench),
         54..=56 => led_by_e5(bench),
@@ -77,7 +79,8 @@ fn step(bench: &mut Bench) {
         84..=86 => replace_link(bench),
         87..=88 => alter_tables(bench),
         89..=97 => broken::some(bench),
-        _ => garbage::some(bench),
+        98..=99 => garbage::some(bench),
+        _ => readings(bench),
     }
 }
 
@@ -485,6 +488,37 @@ fn outcome(bench: &mut Bench) {
     let at = bench.random.below(bench.server.datapoints.len());
     let outcome = bench.random.below(3) as u8;
     bench.outcome(bench.server.datapoints[at].id, outcome);
+}
+
+/// Some readings. The value that the bus gives is the next reading, valid whatever it was before.
+fn readings(bench: &mut Bench) {
+    for _ in 0..bench.random.between(1, 6) {
+        let id = bench.some_id();
+        let _ = bench.read(id);
+    }
+    if bench.server.datapoints.is_empty() {
+        return;
+    }
+    let at = bench.random.below(bench.server.datapoints.len());
+    let (id, typecode) = (bench.server.datapoints[at].id, bench.server.datapoints[at].typecode);
+    let value = tables::value(&mut bench.random, typecode);
+    bench.bus_value(id, value.clone());
+    let read = bench.read(id);
+    let dpt = bench.server.datapoints[at].dpt;
+    let is_read = match (&read, dpt, typecode) {
+        (Ok(Reading::Switch(on)), 1, 0) => u8::from(*on) == value[0],
+        (Ok(Reading::Count(count)), 5, 7) => *count == value[0],
+        (Ok(Reading::TwoOctet(_)), 9, 8) => value != [0x7F, 0xFF],
+        (Ok(Reading::Single(bits)), 14, 10) => bits.to_be_bytes()[..] == value,
+        (Ok(Reading::Unreadable), 9, 8) => value == [0x7F, 0xFF],
+        (Ok(Reading::Unreadable), 14, 10) => value[0] & 0x7F == 0x7F && value[1] & 0x80 == 0x80,
+        (Ok(Reading::Unreadable), _, _) => (dpt, typecode) != (1, 0) && (dpt, typecode) != (5, 7),
+        _ => false,
+    };
+    if !is_read {
+        bench.misread("the value that the bus gave", &read);
+    }
+    bench.counts.hit("on the way", "a bus value, and its reading at once");
 }
 
 fn replace_link(bench: &mut Bench) {

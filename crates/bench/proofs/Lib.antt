@@ -1,4 +1,5 @@
 pub mod BenchLaws
 pub mod RunLaws
+pub mod ReadLaws
 pub mod SameLaws
 pub mod Types

@@ -8,4 +8,7 @@ pub const NO_ROOM: u8 = 3;
 
 pub const BAD_BUS_EVENT: u8 = 4;
 
+// The same number where a reading is asked for (document 02, item 3).
+pub const ABSENT_ID: u8 = 4;
+
 pub const LEAST_ROOM: usize = 262;

@@ -3,7 +3,7 @@ use Prim.Native.Nat.{ℕ}
 use mathlib.Core.Path.{_≡_}
 use mathlib.Core.Bool.{Bool, true}
 use mathlib.Core.List.{List, [], _∷_}
-use lib.ListN.{getD, take}
+use lib.ListN.{getD, take, drop}
 use lib.Dec.{eqb}
 use Rattle.words.specs.Words.{if_then_else_}
 use Rattle.calls.specs.declared.event.Event.the-variants.{IdleMark}
@@ -11,6 +11,7 @@ use Rattle.calls.specs.Numbers.{eventNumbered}
 use Rattle.bench.specs.declared.bench.Bench.{Bench}
 use Rattle.bench.specs.declared.run.Stand.{Stand}
 use Rattle.bench.specs.Bench.{emptyBench, withBits}
+use Rattle.bench.specs.Read.{ReadsAs}
 use Rattle.bench.specs.Run.{happened, quiet, Sends, standAfter}
 use Rattle.bench.specs.Same.{SameTables, LinkIs}
 use Rattle.script.specs.declared.line.Line.{Line}
@@ -54,13 +55,15 @@ pub record Damaged (asked place : ℕ) (b : Bench) : Type 0 where
   pub drops : b .link .dropping ≡ 1
   pub silent : quiet b ≡ true
 
--- what was to be quiet was, and what the line l asks holds after it: the letters r, x, l and t
+-- what was to be quiet was, and what the line l asks holds after it: the letters r, x, l, t and
+-- g
 pub record Right (l : Line) (wanted : Bench) (s : Stand) : Type 0 where
   pub silent : s .quiet ≡ true
   pub reply : l .letter ≡ 0x72 → Sends (s .bench) (listed l)
   pub damage : l .letter ≡ 0x78 → Damaged (getD (l .bytes) 0 0) (s .place) (s .bench)
   pub link : l .letter ≡ 0x6C → LinkIs (s .bench .link) (listed l)
   pub tables : l .letter ≡ 0x74 → SameTables (s .bench) wanted
+  pub reading : l .letter ≡ 0x67 → ReadsAs (s .bench) (raised (l .bytes) 0 0) (take 7 (drop 2 (l .bytes)))
 
 -- all that the lines ask holds, each after what the lines up to it did
 unfoldable pub AllRight : List (List ℕ) → Bench → Stand → Type 0

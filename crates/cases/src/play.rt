@@ -2,9 +2,11 @@
 ghost use mathlib.Core.Path.{_≡_};
 ghost use mathlib.Core.Bool.{true};
 ghost use Prim.Native.Nat.{_≤_};
-ghost use lib.ListN.{getD};
+ghost use lib.ListN.{getD, take, drop};
+ghost use Rattle.bench.specs.Read.{ReadsAs};
 ghost use Rattle.bench.specs.Run.{Sends, standAfter};
 ghost use Rattle.bench.specs.Same.{Decides, LinkIs};
+ghost use Rattle.script.specs.Record.{raised};
 ghost use Rattle.cases.specs.Lent.{bussed};
 ghost use Rattle.cases.specs.Script.{listed, standing, started, marked, numbered, acted, Damaged, Right, Played};
 use crate::lent::after_bus;
@@ -13,6 +15,7 @@ use crate::print::noted;
 use crate::print::shown;
 use bench::bench::Bench;
 use bench::bench::empty;
+use bench::read::has_read;
 use bench::run::Stand;
 use bench::run::happens;
 use bench::run::has_sent;
@@ -48,6 +51,9 @@ const DAMAGE: u8 = b'x';
 const LINK: u8 = b'l';
 // The tables are to be those that were told.
 const TABLES: u8 = b't';
+// The reading of an ID is to be this: the ID; the case, or 00; the refusal, or 00; the whole number; the bits of the
+// floating one.
+const READING: u8 = b'g';
 
 // A server starts with the tables that are wanted.
 fn started(wanted: Bench, line: Line) -> Stand
@@ -163,6 +169,13 @@ fn linked(link: Link, line: Line) -> bool
     is_link(link, &a[..n])
 }
 
+fn given(bench: Bench, line: Line) -> bool
+    ensures { λ r. ⌜ Decides r (ReadsAs bench (raised (line .bytes) 0 0) (take 7 (drop 2 (line .bytes)))) ⌝ }
+{
+    let a = line.bytes;
+    has_read(bench, raised(a[0], a[1], 0), &a[2..9])
+}
+
 // Whether what this line asks holds.
 fn holds(stand: Stand, wanted: Bench, line: Line) -> bool
     requires { ⌜ line .size ≤ 264 ⌝ }
@@ -183,6 +196,9 @@ fn holds(stand: Stand, wanted: Bench, line: Line) -> bool
     }
     if line.letter == TABLES {
         return same_tables(b, wanted);
+    }
+    if line.letter == READING {
+        return given(b, line);
     }
     true
 }

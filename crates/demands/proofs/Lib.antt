@@ -14,3 +14,4 @@ pub mod StatusLaws
 pub mod ClosedLaws
 pub mod ParametersLaws
 pub mod StringsLaws
+pub mod ReadingsLaws

@@ -11,3 +11,4 @@ pub mod Exchange
 pub mod Closed
 pub mod Parameters
 pub mod Strings
+pub mod Readings

@@ -4,12 +4,17 @@ ghost use Rattle.ft12.specs.Record.{linkOf};
 ghost use Rattle.baos.specs.Text.{textLists};
 ghost use Rattle.baos.specs.Table.{tablesOf};
 ghost use Rattle.calls.specs.Exported.{calledBy, Gives, freshLine};
+ghost use Rattle.dpt.specs.Reading.{readingFor};
+ghost use Rattle.dpt.specs.Numbers.{readingReplyNumbers};
 use baos::datapoint::Datapoint;
 use baos::item::Item;
+use dpt::reading::ReadingNumbers;
 use ft12::record::Link;
 use numbers::numbers::event_numbered;
 use numbers::numbers::is_event;
 use numbers::numbers::reply_number;
+use readings::numbers::reply_numbers;
+use readings::reading::reading;
 use server::call::call;
 
 // One event, by numbers. Answers how many bytes of the output are to be sent, or a number below 0, with nothing
@@ -51,6 +56,15 @@ pub extern "C" fn tagobrelin_call<'a>(
         out,
     );
     reply_number(reply)
+}
+
+// The reading of the datapoint of an ID, by numbers. The table is only read.
+#[no_mangle]
+pub extern "C" fn tagobrelin_read(id: u16, datapoints: &[Datapoint]) -> ReadingNumbers
+    ensures { λ r. ⌜ r ≡ readingReplyNumbers (readingFor id (now (datapoints .entry))) ⌝ }
+{
+    let reply = reading(id, datapoints);
+    reply_numbers(reply)
 }
 
 // The link record that a reset leaves, by value.

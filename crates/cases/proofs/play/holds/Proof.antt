@@ -1,7 +1,7 @@
 use borrow.Author.Needs.{needs}
 use mathlib.Core.Path.{sym, _∙_}
 use Rattle.bench.proofs.SameLaws.{not-true, not-false, false-true, refuted}
-use Rattle.cases.proofs.ScriptLaws.{replied, damage-found, linked, compared, nothing-asked}
+use Rattle.cases.proofs.ScriptLaws.{replied, damage-found, linked, compared, given, nothing-asked}
 use Rattle.cases.proofs.play.holds.Statement.{statement}
 use Rattle.cases.proofs.play.holds.Tie as tie
 
@@ -32,8 +32,14 @@ same-tables-requires c κs = search needs
 returns-5 : tie.Need-returns-5
 returns-5 c = compared _ _ _ (not-false _ (c .before .before .before .before .before .before .before .before .before .before .if1 .left)) (c .before .if5 .taken) (c .same-tables .ensures)
 
+given-requires : tie.Need-given-requires
+given-requires c κs = search needs
+
 returns-6 : tie.Need-returns-6
-returns-6 c = nothing-asked _ _ _ (not-false _ (c .before .before .before .before .before .before .before .before .before .if1 .left)) (c .before .before .before .before .before .before .if2 .left) (c .before .before .before .before .if3 .left) (c .before .before .if4 .left) (c .if5 .left)
+returns-6 c = given _ _ _ (not-false _ (c .before .before .before .before .before .before .before .before .before .before .before .before .if1 .left)) (c .before .if6 .taken) (c .given .ensures)
+
+returns-7 : tie.Need-returns-7
+returns-7 c = nothing-asked _ _ _ (not-false _ (c .before .before .before .before .before .before .before .before .before .before .before .if1 .left)) (c .before .before .before .before .before .before .before .before .if2 .left) (c .before .before .before .before .before .before .if3 .left) (c .before .before .before .before .if4 .left) (c .before .before .if5 .left) (c .if6 .left)
 
 pub holds-spec : {M : Type 1} → statement M
-holds-spec = tie.close (tie.spec returns replied-requires returns-2 damaged-requires returns-3 linked-requires returns-4 same-tables-requires returns-5 returns-6)
+holds-spec = tie.close (tie.spec returns replied-requires returns-2 damaged-requires returns-3 linked-requires returns-4 same-tables-requires returns-5 given-requires returns-6 returns-7)

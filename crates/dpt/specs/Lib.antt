@@ -1,0 +1,4 @@
+pub mod TwoOctet
+pub mod Single
+pub mod Reading
+pub mod Numbers

@@ -1,0 +1,2 @@
+pub mod TwoOctetLaws
+pub mod ReplyLaws
