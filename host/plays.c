@@ -265,7 +265,7 @@ unsigned make_plays(enum kind kind, size_t size, size_t held)
             break;
         case READING:
             /* without datapoints: refused */
-            add(p, 0, 0, datapoint_count ? lent.readable[random_below((uint32_t)datapoint_count + 2) / 3 * 3].id : 1);
+            add(p, 0, 0, datapoint_count ? lent.readable[random_below(((uint32_t)datapoint_count + 2) / 3) * 3].id : 1);
             break;
         }
         if (n && p->step_count == 0) {

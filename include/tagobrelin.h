@@ -15,7 +15,7 @@
  *     else. All other runs of memory overlap nothing and lie in memory that can be written.
  *   - Nobody else writes to any of them while the call runs. So two calls for one server are never made at the same
  *     time, also not one of them in an interrupt or another thread; for two servers that share no memory they may be.
- *   - tagobrelin_read only reads its table, which may lie in flash then. Two readings may be made at the same time, but
+ *   - tagobrelin_read only reads its table, which may lie in flash. Two readings may be made at the same time, but
  *     none while a call with the same table runs, which may write there.
  *   - While tagobrelin_read runs, which divides once, floating point rounds to nearest and traps nothing: so it is in a
  *     C program that has not changed it.
@@ -27,9 +27,9 @@
 #include <stddef.h>
 #include <stdint.h>
 
-/* By semver.org, for the face at the end of this file. What it stands on, tagobrelin_call and the records' layout, and
- * what a host is answered may change in a minor version: header and archive are always taken together. CHANGELOG.md
- * tells what changed. */
+/* By semver.org, for the face at the end of this file. What it stands on, tagobrelin_call, tagobrelin_read and the
+ * records' layout, and what a host is answered may change in a minor version: header and archive are always taken
+ * together. CHANGELOG.md tells what changed. */
 #define TAGOBRELIN_VERSION_MAJOR 1
 #define TAGOBRELIN_VERSION_MINOR 5
 #define TAGOBRELIN_VERSION_PATCH 0

@@ -55,8 +55,7 @@ pub record Damaged (asked place : ℕ) (b : Bench) : Type 0 where
   pub drops : b .link .dropping ≡ 1
   pub silent : quiet b ≡ true
 
--- what was to be quiet was, and what the line l asks holds after it: the letters r, x, l, t and
--- g
+-- what was to be quiet was, and what the line l asks holds after it: the letters r, x, l, t and g
 pub record Right (l : Line) (wanted : Bench) (s : Stand) : Type 0 where
   pub silent : s .quiet ≡ true
   pub reply : l .letter ≡ 0x72 → Sends (s .bench) (listed l)

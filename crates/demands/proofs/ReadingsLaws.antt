@@ -82,7 +82,7 @@ hundred-whole = refl
 
 two-octet-value : EachTwoOctetValue
 unfolding twoOctet dividedBy100
-two-octet-value high low l =
+two-octet-value high low _ l =
     let h = hundredths high low in
     let exact = hundredths-exact high low l in
     record {
@@ -90,7 +90,7 @@ two-octet-value high low l =
       exact = exact;
       exact-format = ofInt-fits binary32 h;
       divided = sym (ap (div binary32 (ofInt binary32 h)) hundred-whole ∙ divided (ofInt binary32 h) h exact);
-      single-format = round-fits binary32 _ _ 100;
+      reading-format = round-fits binary32 _ _ 100;
       near = two-octet-near high low l;
     }
 

@@ -54,12 +54,12 @@ pub record TwoOctetValue (high low : ℕ) : Type 0 where
   pub exact-format : T (fits binary32 (ofInt binary32 (hundredths high low)))
   -- "the reading is that number divided by 100, rounded once": by one division of that format
   pub divided : twoOctet high low ≡ div binary32 (ofInt binary32 (hundredths high low)) (ofInt binary32 (pos 100))
-  pub single-format : T (fits binary32 (twoOctet high low))
+  pub reading-format : T (fits binary32 (twoOctet high low))
   -- "100 times it differs from the hundredths by at most their size divided by 2 to the 24"
   pub near : Near (twoOctet high low) (hundredths high low)
 
 abbrev pub EachTwoOctetValue : Type 0
-EachTwoOctetValue = (high low : ℕ) → low < 256 → TwoOctetValue high low
+EachTwoOctetValue = (high low : ℕ) → high < 256 → low < 256 → TwoOctetValue high low
 
 -- both ends are reached; and 8000 has the least mantissa
 pub record EndsReached : Type 0 where
@@ -173,5 +173,5 @@ pub record EngineeringReadings : Type 0 where
 -- no datapoint has, and else the reading of the one that has it. That is a switch state, a count, a two-octet value or a
 -- single for the four pairs of DPT and type, where the valid bit is set, and unreadable where it is not, for any other
 -- pair, for 7FFF, and for a single that is infinite or not a number. A single is its octets' bits. A two-octet value is
--- its hundredths, which are exact in 32-bit floating point, divided by 100 by one division, and 100 times it is within a
--- 2 ^ 24 th part of them.
+-- its hundredths, which are exact in 32-bit floating point, divided by 100 by one division, and 100 times it differs from
+-- them by at most their size divided by 2 to the 24.

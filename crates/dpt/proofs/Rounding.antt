@@ -8,7 +8,7 @@ use mathlib.Core.Bool.{not}
 use lib.Dec.{T, isLe, isEq, eqb, leb→le, nleb→lt, eqb→eq, eqb-refl}
 use lib.Arith.{lt-of-le-ne}
 use lib.Pow.{pow-add, pow-pos}
-use lib.Ieee.{size, nearest, units, round}
+use lib.Ieee.{size, nearest}
 use lib.Ieee.Digits.{size-reaches}
 use lib.Ieee.Nearest.{closest}
 use lib.Ieee.Order.{drop, kept}
@@ -92,7 +92,7 @@ cancel x y w l L h =
     let c : y * 16777216 * l ≡ y * l * 16777216 = mul-right-comm y 16777216 l in
     le-of-mul-le-mul-right (omega arith) L
 
--- x / l' and z / d' are one fraction
+-- x / l and z / d are one fraction
 pub close-scale : (x n z w d l : ℕ) → 0 < d → 0 < l → z * l ≡ x * d → w * l ≡ n * d → Close x n → Close z w
 close-scale x n z w d l D L e f c = record {
   over = cancel z w w l L (omega (arith, mul-le-mul-right d (c .over), add-mul (n * 16777216) n d, mul-right-comm x 16777216 d, mul-right-comm n 16777216 d));

@@ -30,8 +30,8 @@ abbrev pub isBelowZero : ℤ → Bool
 isBelowZero (pos n) = false
 isBelowZero (negsuc n) = true
 
--- x is a number, and it is the whole number h; 0 has no minus. "are exact in 32-bit floating point" says so of the number
--- that h is in that format
+-- x is the whole number h exactly, and 0 has no minus. Said of the number that h is taken to in that format, it is "exact
+-- in 32-bit floating point"
 abbrev pub IsWhole : Float → ℤ → Type 0
 IsWhole x h = HasValue x (isBelowZero h) (natAbs h) 1
 

@@ -1,3 +1,3 @@
-// What firmware links: the server's call and a fresh link record, as two C functions. include/tagobrelin.h tells what
-// a caller owes.
+// What firmware links: the server's call, a reading and a fresh link record, as three C functions. include/tagobrelin.h
+// tells what a caller owes.
 pub mod exported;
