@@ -38,7 +38,7 @@ module _ {A : Type 0} (idOf : A → ℕ) (blank : A) where
   unfolding rising
   rest-rises last x xs t = right (ltb last (idOf x)) (rising (idOf x) (map idOf xs)) t
 
-  above : (last : ℕ) (xs : List A) → T (rising last (map idOf xs)) → (j : ℕ) → j < length xs → last < idAt xs j
+  pub above : (last : ℕ) (xs : List A) → T (rising last (map idOf xs)) → (j : ℕ) → j < length xs → last < idAt xs j
   above last [] t j l = absurd (not-suc-le-zero l)
   above last (x ∷ xs) t zero l = first-above last x xs t
   above last (x ∷ xs) t (suc j) l = omega (arith, first-above last x xs t, above (idOf x) xs (rest-rises last x xs t) j (le-of-suc-le-suc l))

@@ -4,17 +4,17 @@ use mathlib.Core.Path.{_≡_, refl, sym, _∙_, ap, subst}
 use mathlib.Core.Logic.{_≢_, inl, inr}
 use mathlib.Core.Bool.{Bool, true, false, not, and-true}
 use mathlib.Core.List.{List, [], _∷_, map}
-use native.Mathlib.Nat.{lt-trans, lt-irrefl}
+use native.Mathlib.Nat.{lt-irrefl}
 use native.Mathlib.Omega.{arith}
 use lib.ListN.{length, getD}
 use lib.Dec.{T, leb, ltb, eqb, ltb→lt, lt→ltb, eqb→eq, leb→le, nleb→lt}
 use borrow.Author.Tests.{eq-eqb, ne-eqb}
 use lib.IntN.{ℤ, pos, _+ℤ_, _-ℤ_}
-use lib.Ieee.{Float, nan, inf, fin, binary32, round, div, ofInt, ofBits, toBits, isNan}
+use lib.Ieee.{Float, nan, inf, fin, binary32, round, div, ofInt, ofBits, toBits}
 use lib.Ieee.Fits.{round-fits, ofInt-fits}
 use lib.Ieee.Bits.{toBits-ofBits}
 use Rattle.words.specs.Words.{if_then_else_, ofTwoBytes, isYes, yesOrNo, areBytes}
-use Rattle.words.proofs.WordLaws.{left, right, true-T, T-true, T-false}
+use Rattle.words.proofs.WordLaws.{left, right, true-T, T-true, T-false, bytes-at}
 use Rattle.baos.specs.declared.datapoint.Datapoint.{Datapoint}
 use Rattle.baos.specs.Datapoint.{datapointId, datapointOk, isValid, withoutUpdated, withState, withMark, handedOut, zeroDatapoint}
 use Rattle.baos.specs.Flags.{withFlags}
@@ -22,6 +22,7 @@ use Rattle.baos.specs.Text.{noTextLists, textListsOk}
 use Rattle.baos.specs.TextList.{entriesFrom, entriesAt, bytesTaken, riseFrom, textListOk}
 use Rattle.baos.specs.Item.{itemId, itemOk}
 use Rattle.baos.specs.Table.{datapointsOnly, wellFormed, tableOk, rising, found}
+use Rattle.baos.proofs.PlaceLaws.{above}
 use Rattle.baos.proofs.TableLaws.{ids-rise}
 use Rattle.dpt.specs.declared.reading.Reading.{Reading}
 use Rattle.dpt.specs.declared.reading.Reading.the-variants.{Switch, Count, TwoOctet, Single, Unreadable}
@@ -30,7 +31,7 @@ use Rattle.dpt.specs.Single.{ofFourBytes, single, isFinite}
 use Rattle.dpt.specs.Reading.{twoOctetReading, singleReading, isOf, octet, readingOf, replyOf, readingFor}
 use Rattle.dpt.proofs.HundredthsLaws.{in-range}
 use Rattle.dpt.proofs.Distance.{hundredths-exact, hundred, divided, two-octet-near}
-use Rattle.dpt.proofs.ReadingLaws.{special-bits, finite-bits}
+use Rattle.dpt.proofs.ReadingLaws.{finite-number, special-bits, finite-bits}
 use Rattle.dpt.proofs.NumberLaws.{reading-told, reading-reply-told}
 use Rattle.demands.specs.Readings.{EachTwoOctetBits, EachTwoOctetValue, EndsReached, ValidOf, twoOctets, asSingle, Special, Reads, EachReading, EachNear, EachSingle, Stands, EachReadingGiven, SpecialByBits, EachReadAlike, EngineeringReadings}
 
@@ -191,13 +192,6 @@ each-reading : EachReading
 each-reading d r = (reads-so d r, λ (e : readingOf d ≡ r). subst (Reads d) e (reads d))
 
 -- ---- what a reading carries
--- an octet of a value that is bytes is one, also where there is none
-byte-at : (s : List ℕ) (i : ℕ) → T (areBytes s) → getD s i 0 < 256
-unfolding areBytes
-byte-at [] i t = omega arith
-byte-at (x ∷ s) zero t = ltb→lt x 256 (left (ltb x 256) (areBytes s) t)
-byte-at (x ∷ s) (suc i) t = byte-at s i (right (ltb x 256) (areBytes s) t)
-
 module _ (d : Datapoint) (bytes : T (areBytes (d .value))) where
   abbrev word : ℕ
   word = ofFourBytes (octet 0 d) (octet 1 d) (octet 2 d) (octet 3 d)
@@ -211,19 +205,13 @@ module _ (d : Datapoint) (bytes : T (areBytes (d .value))) where
   Carries Unreadable = Unit {0}
 
   word-below : word < 4294967296
-  word-below = omega (arith, byte-at (d .value) 0 bytes, byte-at (d .value) 1 bytes, byte-at (d .value) 2 bytes, byte-at (d .value) 3 bytes)
-
-  no-nan : (x : Float) → (Special x → ⊥) → T (not (isNan x))
-  unfolding isNan
-  no-nan nan n = absurd (n (inl refl))
-  no-nan (inf s) n = tt
-  no-nan (fin s m e) n = tt
+  word-below = omega (arith, bytes-at (d .value) 0 bytes, bytes-at (d .value) 1 bytes, bytes-at (d .value) 2 bytes, bytes-at (d .value) 3 bytes)
 
   carries : (r : Reading) → Reads d r → Carries r
   carries r (Reads.switch k e) = subst Carries (sym e) tt
   carries r (Reads.count k e) = subst Carries (sym e) tt
-  carries r (Reads.two-octet k n e) = subst Carries (sym e) (two-octet-near (octet 0 d) (octet 1 d) (byte-at (d .value) 1 bytes))
-  carries r (Reads.single k n e) = subst Carries (sym e) (toBits-ofBits binary32 word word-below (no-nan (asSingle d) n))
+  carries r (Reads.two-octet k n e) = subst Carries (sym e) (two-octet-near (octet 0 d) (octet 1 d) (bytes-at (d .value) 1 bytes))
+  carries r (Reads.single k n e) = subst Carries (sym e) (toBits-ofBits binary32 word word-below (finite-number (asSingle d) (not-special (asSingle d) n)))
   carries r (Reads.is-7FFF k n e) = subst Carries (sym e) tt
   carries r (Reads.special k n e) = subst Carries (sym e) tt
   carries r (Reads.other-pair o e) = subst Carries (sym e) tt
@@ -249,14 +237,6 @@ as-before : (ds : List Datapoint) → wellFormed (datapointsOnly ds) ≡ tableOk
 unfolding wellFormed
 as-before ds = simp (no-items, no-texts, and-true)
 
-above : (last : ℕ) (ds : List Datapoint) (i : ℕ) → T (rising last (map datapointId ds)) → i < length ds → last < getD ds i zeroDatapoint .id
-unfolding rising
-above last [] i t l = absurd (omega (arith, l))
-above last (d ∷ ds) zero t l = ltb→lt last (d .id) (left (ltb last (d .id)) (rising (d .id) (map datapointId ds)) t)
-above last (d ∷ ds) (suc i) t l =
-    lt-trans (ltb→lt last (d .id) (left (ltb last (d .id)) (rising (d .id) (map datapointId ds)) t))
-    (above (d .id) ds i (right (ltb last (d .id)) (rising (d .id) (map datapointId ds)) t) (omega (arith, l)))
-
 -- the record that has the ID is found, and no other
 found-standing : (id last : ℕ) (ds : List Datapoint) (i : ℕ) → T (rising last (map datapointId ds)) → Stands id i ds → found datapointId id ds ≡ getD ds i zeroDatapoint ∷ []
 unfolding found rising
@@ -265,7 +245,7 @@ found-standing id last (d ∷ ds) zero t s = rw (eq-eqb (d .id) id (s .its-id)) 
 found-standing id last (d ∷ ds) (suc i) t s =
     let rest = right (ltb last (d .id)) (rising (d .id) (map datapointId ds)) t in
     let l : i < length ds = omega (arith, s .within) in
-    let other : d .id ≢ id = λ e. lt-irrefl id (subst (λ (n : ℕ). n < id) e (subst (λ (n : ℕ). d .id < n) (s .its-id) (above (d .id) ds i rest l))) in
+    let other : d .id ≢ id = λ e. lt-irrefl id (subst (λ (n : ℕ). n < id) e (subst (λ (n : ℕ). d .id < n) (s .its-id) (above datapointId zeroDatapoint (d .id) ds rest i l))) in
     rw (ne-eqb (d .id) id other) (found-standing id (d .id) ds i rest (record { within = l; its-id = s .its-id }))
 
 found-none : (id : ℕ) (ds : List Datapoint) → ((i : ℕ) → Stands id i ds → ⊥) → found datapointId id ds ≡ []

@@ -21,6 +21,7 @@ use Rattle.dpt.specs.TwoOctet.{dividedBy100, twoOctet}
 use Rattle.dpt.specs.Single.{ofFourBytes, single}
 use Rattle.dpt.specs.Reading.{twoOctetReading, singleReading, isOf, octet, readingOf, replyOf, readingFor}
 use Rattle.dpt.specs.Numbers.{readingNumbers, readingReplyNumbers}
+use Rattle.dpt.proofs.ReadingLaws.{finite-number, odd-finite}
 
 -- ---- a reading
 ofCase : ℕ → ReadingNumbers → Reading
@@ -78,11 +79,6 @@ IsNumber x = T (not (isNan x))
 unfoldable HasNumber : Reading → Type 0
 HasNumber r = IsNumber (readingNumbers r .value)
 
-odd-number : (d : ℕ) (s : Bool) (q k l : ℕ) → IsNumber (odd d s q k l)
-unfolding odd isNan
-odd-number d s zero k l = tt
-odd-number d s (suc q) k l = tt
-
 -- what a fraction is rounded to: infinite, at most
 or-infinite : (b s : Bool) (x : Float) → IsNumber x → IsNumber (cond b x (inf s))
 unfolding isNan
@@ -92,7 +88,7 @@ or-infinite false s x h = tt
 units-number : (f : Format) (s : Bool) (q k : ℕ) → IsNumber (units f s q k)
 unfolding units
 units-number f s q k =
-    or-infinite (ltb (q * 2 ^ k) (2 ^ (low f + suc (emax f)))) s (odd (suc (prec f)) s q k (low f)) (odd-number (suc (prec f)) s q k (low f))
+    or-infinite (ltb (q * 2 ^ k) (2 ^ (low f + suc (emax f)))) s (odd (suc (prec f)) s q k (low f)) (finite-number (odd (suc (prec f)) s q k (low f)) (odd-finite (suc (prec f)) s q k (low f)))
 
 round-number : (f : Format) (s : Bool) (n d : ℕ) → IsNumber (round f s n d)
 unfolding round

@@ -6,10 +6,11 @@ use mathlib.Core.Bool.{Bool, true, false, not, cond}
 use mathlib.Core.List.{[], _∷_}
 use native.Mathlib.Omega.{arith}
 use lib.Dec.{T, eqb, leb}
-use lib.Ieee.{inf, nan, binary32, hid, top, odd, ofFields, ofBits, nanBits}
+use lib.Ieee.{Float, inf, nan, fin, isNan, binary32, hid, top, odd, ofFields, ofBits, nanBits}
 use mir.Val.{boolByte}
 use borrow.Author.Tests.{eq-eqb, ne-eqb}
 use Rattle.words.specs.Words.{ofTwoBytes, isYes, yesOrNo}
+use Rattle.words.proofs.WordLaws.{true-T}
 use Rattle.baos.specs.declared.datapoint.Datapoint.{Datapoint}
 use Rattle.baos.specs.Datapoint.{datapointId, isValid}
 use Rattle.baos.specs.Table.{found}
@@ -29,8 +30,15 @@ module _ (high low : ℕ) where
   unfolding twoOctetReading
   not-7FFF n = rw (ne-eqb (ofTwoBytes high low) 0x7FFF n) refl
 
+-- ---- a finite floating number is one
+pub finite-number : (x : Float) → isFinite x ≡ true → T (not (isNan x))
+unfolding isNan
+finite-number nan e = true-T e
+finite-number (inf s) e = tt
+finite-number (fin s m e) f = tt
+
 -- ---- DPT 14: the field of the exponent decides
-odd-finite : (d : ℕ) (s : Bool) (q k l : ℕ) → isFinite (odd d s q k l) ≡ true
+pub odd-finite : (d : ℕ) (s : Bool) (q k l : ℕ) → isFinite (odd d s q k l) ≡ true
 unfolding odd
 odd-finite d s zero k l = refl
 odd-finite d s (suc q) k l = refl

@@ -106,7 +106,7 @@ total-set (x ∷ s) (suc i) b h = omega (arith, total-set s i b (le-of-suc-le-su
 
 checksum-set : (s : List ℕ) (i b : ℕ) → i < length s → T (areBytes s) → b < 256 → b ≢ getD s i 0 → checksum s ≢ checksum (set s i b)
 unfolding checksum
-checksum-set s i b h t q r = λ e. r (omega (arith, e, total-set s i b h, bytes-at s i t h))
+checksum-set s i b h t q r = λ e. r (omega (arith, e, total-set s i b h, bytes-at s i t))
 
 -- ---- a list with one element changed or lost, in its front or its rest
 set-right : (p t : List ℕ) (i b : ℕ) → set (p ++ t) (length p + i) b ≡ p ++ set t i b

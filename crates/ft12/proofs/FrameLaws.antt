@@ -115,7 +115,7 @@ unfolding areBytes
 tested-begins g bytes t = go (ReceiverLaws.beginning-stands g t)
   where
     second : (a n : ℕ) (s : List ℕ) → g ≡ a ∷ n ∷ s → n < 256
-    second a n s e = bytes-at (a ∷ n ∷ s) 1 (rw e at bytes) (omega arith)
+    second a n s e = bytes-at (a ∷ n ∷ s) 1 (rw e at bytes)
 
     behind : (n : ℕ) (b : List ℕ) → g ≡ ReceiverLaws.headed n b → T (areBytes b)
     behind n b e = every-suffix (λ x. ltb x 256) (ReceiverLaws.headed n []) b (rw e at bytes)

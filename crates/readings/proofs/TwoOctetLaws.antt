@@ -1,16 +1,17 @@
 -- What the code works out for DPT 9, with 32-bit shifts and signed numbers as bit patterns, is what the definitions say.
 use mathlib.Core.Path.{_≡_, refl, sym, ap, _∙_, subst}
 use mathlib.Core.Bool.{Bool, true, false}
-use Prim.Native.Nat.{ℕ, zero, suc, _+_, _-_, _*_, _%_, _^_, _≤_, _<_}
+use Prim.Native.Nat.{ℕ, _-_, _*_, _%_, _^_, _≤_, _<_}
 use native.Mathlib.Nat.{mod-eq-of-lt, lt-irrefl, lt-of-lt-of-le}
 use native.Mathlib.Omega.{arith}
 use lib.Dec.{T, leb, le→leb, leb→le}
-use lib.IntN.{ℤ, pos, negℤ, natAbs, _-ℤ_, +ℤ-idl}
+use lib.IntN.{ℤ, pos, natAbs, _-ℤ_}
 use lib.Ieee.{Float, binary32, div, ofInt, ofBits, inFloat}
 use mir.Syntax.{w32}
 use mir.Val.{SFits, toZ, ofZ}
 use mir.ValLaws.{toZ-ofZ}
 use Rattle.words.proofs.WordLaws.{T-true, T-false}
+use Rattle.calls.proofs.NumberLaws.{fits-minus, is-minus, fits-plus, is-plus}
 use Rattle.dpt.specs.TwoOctet.{signIsSet, exponent, elevenBits, mantissa, hundredths, isBelowZero, IsWhole, twoOctet}
 use Rattle.dpt.proofs.HundredthsLaws.{signed, signed-again, size, size-le, hundredths-size, hundredths-below, hundredths-le}
 use Rattle.dpt.proofs.Distance.{hundredths-exact, hundred-is, divided}
@@ -41,36 +42,16 @@ module _ (high low : ℕ) (l : low < 256) where
   unfolding size
   size-positive h = shifted (elevenBits high low * 2 ^ exponent high) (rw (positive high h) refl)
 
--- ---- signed numbers
-small : (n : ℕ) → n ≤ 67108864 → n < 2147483648
-small n h = omega arith
-
-fits-pos : (n : ℕ) → n ≤ 67108864 → SFits w32 (pos n)
-fits-pos n h = record { sfits = small n h }
-
-read-pos : (n : ℕ) → n ≤ 67108864 → toZ w32 n ≡ pos n
-read-pos n h = toZ-ofZ w32 (pos n) (fits-pos n h)
-
-taken : (n : ℕ) → n ≤ 67108864 → pos 0 -ℤ toZ w32 n ≡ negℤ (pos n)
-taken n h = ap (λ (z : ℤ). pos 0 -ℤ z) (read-pos n h) ∙ +ℤ-idl (negℤ (pos n))
-
-fits-negated : (n : ℕ) → n ≤ 67108864 → SFits w32 (negℤ (pos n))
-fits-negated zero h = record { sfits = small zero h }
-fits-negated (suc n) h = record { sfits = less n h }
-  where
-    less : (n : ℕ) → suc n ≤ 67108864 → n < 2147483648
-    less n h = omega arith
-
--- n is the size of the hundredths
+-- ---- signed numbers: n is the size of the hundredths
 module _ (high low n : ℕ) (l : low < 256) (e : n ≡ natAbs (hundredths high low)) where
-  low-enough : n ≤ 67108864
-  low-enough = subst (λ (z : ℕ). z ≤ 67108864) (sym e) (hundredths-le high low l)
+  low-enough : n < 2147483648
+  low-enough = omega (arith, e, hundredths-le high low l)
 
   pub size-fits : SFits w32 (pos n)
-  size-fits = fits-pos n low-enough
+  size-fits = fits-plus n low-enough
 
   pub negated-fits : SFits w32 (pos 0 -ℤ toZ w32 n)
-  negated-fits = subst (λ (z : ℤ). SFits w32 z) (sym (taken n low-enough)) (fits-negated n low-enough)
+  negated-fits = fits-minus n low-enough
 
   by-sign : (s : Bool) → signIsSet high ≡ s → signed s n ≡ hundredths high low
   by-sign s q =
@@ -79,10 +60,10 @@ module _ (high low n : ℕ) (l : low < 256) (e : n ≡ natAbs (hundredths high l
       ∙ signed-again (hundredths high low)
 
   pub hundredths-negative : 128 ≤ high → toZ w32 (ofZ w32 (pos 0 -ℤ toZ w32 n)) ≡ hundredths high low
-  hundredths-negative h = toZ-ofZ w32 (pos 0 -ℤ toZ w32 n) negated-fits ∙ taken n low-enough ∙ by-sign true (negative high h)
+  hundredths-negative h = is-minus n low-enough ∙ by-sign true (negative high h)
 
   pub hundredths-positive : high < 128 → toZ w32 n ≡ hundredths high low
-  hundredths-positive h = read-pos n low-enough ∙ by-sign false (positive high h)
+  hundredths-positive h = is-plus n low-enough ∙ by-sign false (positive high h)
 
 -- ---- the floating number, and the division
 pub code-exact : (high low : ℕ) (z : ℤ) (x : Float) → low < 256 → z ≡ hundredths high low → SFits w32 z → x ≡ ofInt binary32 (toZ w32 (ofZ w32 z)) → IsWhole x (hundredths high low)

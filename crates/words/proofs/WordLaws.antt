@@ -5,7 +5,6 @@ use mathlib.Core.Logic.{_↔_}
 use mathlib.Core.Bool.{Bool, true, false, _&&_}
 use mathlib.Core.List.{List, [], _∷_, _++_, map}
 use native.Mathlib.Omega.{arith}
-use native.Mathlib.Nat.{not-suc-le-zero, le-of-suc-le-suc}
 use lib.ListN.{length, getD, take, drop, replicate, length-append, length-drop, length-replicate, take-append-drop}
 use lib.Seq.{take-all, take-append-seam, drop-append-seam, getD-drop, length-take-le}
 use lib.Dec.{T, eqb, leb, ltb, eqb→eq, eqb-refl, leb→le, le→leb, ltb→lt}
@@ -152,11 +151,12 @@ pad-padded places n s e h =
     (rw (← e) (rw (drop-append-seam s (replicate (places - length s) 0)) (zeros (places - length s))))
 
 -- ---- bytes
-pub bytes-at : (s : List ℕ) (i : ℕ) → T (areBytes s) → i < length s → getD s i 0 < 256
+-- at a place behind them 0 is had
+pub bytes-at : (s : List ℕ) (i : ℕ) → T (areBytes s) → getD s i 0 < 256
 unfolding areBytes
-bytes-at [] i t h = absurd (not-suc-le-zero h)
-bytes-at (x ∷ s) zero t h = ltb→lt x 256 (left (ltb x 256) (every (λ b. ltb b 256) s) t)
-bytes-at (x ∷ s) (suc i) t h = bytes-at s i (right (ltb x 256) (every (λ b. ltb b 256) s) t) (le-of-suc-le-suc h)
+bytes-at [] i t = omega arith
+bytes-at (x ∷ s) zero t = ltb→lt x 256 (left (ltb x 256) (every (λ b. ltb b 256) s) t)
+bytes-at (x ∷ s) (suc i) t = bytes-at s i (right (ltb x 256) (every (λ b. ltb b 256) s) t)
 
 pub bytes-take : (n : ℕ) (s : List ℕ) → T (areBytes s) → T (areBytes (take n s))
 unfolding areBytes
