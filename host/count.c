@@ -1,5 +1,5 @@
-/* Instructions: run under callgrind, which counts inside the calls and readings alone and writes a part at each dump,
- * named "EVENT DATAPOINTS ITEMS SIZE HELD FUNCTION CALLS". The scripts count and count_test read them.
+/* Instructions: run under callgrind, which counts inside the calls, readings and bursts alone and writes a part at each
+ * dump, named "EVENT DATAPOINTS ITEMS SIZE HELD FUNCTION CALLS". The scripts count and count_test read them.
  * Usage: count [ours]: the proved ones alone. */
 #include <stdbool.h>
 #include <stdio.h>
@@ -24,10 +24,14 @@ static const struct row {
     {"mid-frame-100", MID_FRAME, 40, 0, 100}, {"mid-frame-1000", MID_FRAME, 40, 0, 1000},
     {"strings-100", STRINGS, 20, 0, 100}, {"strings-1000", STRINGS, 5, 0, 1000}, {"strings-1000", STRINGS, 20, 0, 1000},
     {"reading", READING, 0, 0, 0},
+    /* the last six are on no table */
+    {"burst", BURST, 0, 0, 0}, {"burst", BURST, 261, 0, 0}, {"burst", BURST, 13, 0, 0},
+    {"exchanges", EXCHANGES, 13, 0, 0}, {"burst", BURST, 4, 0, 0}, {"burst", BURST, 1, 0, 0},
 };
-enum { ROWS = sizeof rows / sizeof *rows };
+enum { ROWS = sizeof rows / sizeof *rows, BURSTS = ROWS - 6, READINGS = BURSTS - 1 };
 
-static const struct functions proved = {tagobrelin_call, tagobrelin_read}, by_hand = {tuned_call, tuned_read};
+static const struct functions proved = {tagobrelin_call, tagobrelin_read, tagobrelin_read_burst},
+                              by_hand = {tuned_call, tuned_read, tuned_read_burst};
 
 static void count(const struct row *row, size_t datapoints, size_t items, const struct functions *f,
                   const char *function)
@@ -48,8 +52,8 @@ int main(int argc, char **argv)
 {
     static const struct {
         size_t datapoints, items, from, to; /* which rows */
-    } tables[] = {{0, 64, 0, ROWS},    {10, 64, 0, ROWS}, {100, 64, 0, ROWS},
-                  {1000, 64, 0, ROWS}, {0, 0, 0, 1},      {1, 0, ROWS - 1, ROWS}};
+    } tables[] = {{0, 64, 0, BURSTS}, {10, 64, 0, BURSTS},       {100, 64, 0, BURSTS}, {1000, 64, 0, BURSTS},
+                  {0, 0, 0, 1},       {1, 0, READINGS, BURSTS}, {0, 0, BURSTS, ROWS}};
     bool both = argc < 2 || strcmp(argv[1], "ours") != 0;
     for (size_t t = 0; t < sizeof tables / sizeof *tables; t++)
         for (size_t i = tables[t].from; i < tables[t].to; i++) {

@@ -1,8 +1,10 @@
 //! The archive's C functions against host/plain.rs, call by call: each thing through all its values, random walks of
 //! events on random tables, one broken thing at a time, several at once, and garbage. Compared are the answer, every
 //! byte of the output, and all memory that is lent, field by field; on a refusal byte by byte, padding too. A reading is
-//! a call as well: compared are its three members, the floating one by its bits, and every byte. The first difference
-//! ends the run, and so does an answer, the same on both sides, that is not the one aimed at.
+//! a call as well: compared are its three members, the floating one by its bits, and every byte. So is a burst: compared
+//! are its three members, the run of places to its end, and every byte around; and some bursts go through the call too,
+//! one byte after the other, for what the receiver finds. The first difference ends the run, and so does an answer, the
+//! same on both sides, that is not the one aimed at.
 //!
 //!     differential [SEED] [--calls N] [--episode E] [--upto N]
 //!
@@ -15,6 +17,8 @@ mod plain;
 mod bench;
 #[path = "differential_parts/broken.rs"]
 mod broken;
+#[path = "differential_parts/bursts.rs"]
+mod bursts;
 #[path = "differential_parts/counts.rs"]
 mod counts;
 #[path = "differential_parts/every.rs"]
@@ -90,5 +94,8 @@ fn main() {
         );
         std::process::exit(1);
     }
-    println!("differential: {} calls, {} of them readings, no difference", bench.calls, bench.readings);
+    println!(
+        "differential: {} calls, {} of them readings and {} bursts, no difference",
+        bench.calls, bench.readings, bench.bursts
+    );
 }

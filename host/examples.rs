@@ -4,7 +4,8 @@
 
 mod plain;
 
-use plain::{call, nearest_single, reading, Datapoint, Event, Item, Link, Outcome, Reading, Server};
+use plain::{burst, call, nearest_single, reading};
+use plain::{Burst, Datapoint, Ending, Event, Item, Link, Outcome, Reading, Server};
 use std::sync::atomic::{AtomicUsize, Ordering};
 
 // ------------------------------------------------------------------------------------------------------------- helpers
@@ -1300,6 +1301,107 @@ fn readings_refused() {
     }
 }
 
+/// A burst in a run of so many places: what it holds, and its starts. The places behind them stay as they were.
+fn read_burst(bytes: &[u8], places: u16) -> Result<(Burst, Vec<u16>), u8> {
+    let before: Vec<u16> = (0..places).map(|place| 40_000 + place).collect();
+    let mut run = before.clone();
+    let read = burst(bytes, &mut run);
+    let needed = read.as_ref().map_or(0, |burst| usize::from(burst.frames) + usize::from(burst.acknowledgements));
+    same("places not needed stay unaltered", &run[needed..], &before[needed..]);
+    run.truncate(needed);
+    read.map(|burst| (burst, run))
+}
+
+/// The burst holds so many frames and acknowledgements, which start there, and so it ends.
+fn holds(what: &str, bytes: &[u8], frames: u16, acknowledgements: u16, ending: Ending, starts: &[u16]) {
+    let want = (Burst { frames, acknowledgements, ending }, starts.to_vec());
+    same(what, read_burst(bytes, 2048), Ok(want));
+}
+
+/// (02) item 8: "how many sound frames (ignored ones too) and acknowledgements it found, where each starts (first byte
+/// 0), in order, [...] and whether the burst ended clean, in damage or in an unfinished frame."
+fn bursts() {
+    holds("no byte", &[], 0, 0, Ending::Clean, &[]);
+    holds("E5", &hex("E5"), 0, 1, Ending::Clean, &[0]);
+    holds("E5 three times", &hex("E5 E5 E5"), 0, 3, Ending::Clean, &[0, 1, 2]);
+    holds("a reset", &hex("10 40 40 16"), 1, 0, Ending::Clean, &[0]);
+    let frame = hex(ASK_ITEM_1);
+    holds("a frame", &frame, 1, 0, Ending::Clean, &[0]);
+    holds("a frame, then E5", &join(&[&frame, &[0xE5]]), 1, 1, Ending::Clean, &[0, 13]);
+    holds("E5, then a frame", &join(&[&[0xE5], &frame]), 1, 1, Ending::Clean, &[0, 1]);
+    let three = join(&[&hex("10 40 40 16"), &frame, &[0xE5], &frame]);
+    holds("a reset, a frame, E5, a frame", &three, 3, 1, Ending::Clean, &[0, 4, 17, 18]);
+    // (01) "L = 1 with 73 and checksum 73"; and the longest, with E5 for each of its bytes.
+    holds("L = 1", &hex("68 01 01 68 73 73 16"), 1, 0, Ending::Clean, &[0]);
+    let longest = framed(0x73, &[0xE5; 254]);
+    holds("L = 255", &join(&[&longest, &longest]), 2, 0, Ending::Clean, &[0, 261]);
+    // "ignored ones too": another C, another control byte.
+    for c in 0..=0xFF {
+        holds("any C", &[0x10, c, c, 0x16], 1, 0, Ending::Clean, &[0]);
+        holds("any control byte", &framed(c, &hex("F0 01 00 01 00 01")), 1, 0, Ending::Clean, &[0]);
+    }
+    // (01) example 9, "L = 0 is damage", at its first L; and example 11, 10 40 41 16.
+    for text in ["68 00", "68 00 00", "68 00 00 68", "68 00 00 68 00 16", "10 40 41", "10 40 41 16"] {
+        holds(text, &hex(text), 0, 0, Ending::Damaged, &[]);
+    }
+    // A whole frame that stands within another is none, whether that one is sound or damaged.
+    let outer = framed(0x73, &frame);
+    holds("a frame in a frame", &outer, 1, 0, Ending::Clean, &[0]);
+    let mut damaged = outer.clone();
+    damaged[1] += 1;
+    holds("a frame in a damaged frame", &damaged, 0, 0, Ending::Damaged, &[]);
+    // (01) "the rest is dropped up to the next idle mark": what is found before damage stays, and nothing is behind it.
+    let hidden = join(&[&[0xE5], &frame, &hex("10 40 41 16"), &frame, &[0xE5]]);
+    holds("sound frames behind damage", &hidden, 1, 1, Ending::Damaged, &[0, 1]);
+    // The byte at which damage is found starts nothing.
+    for text in ["68 07 68", "68 07 E5", "68 07 07 10", "10 40 68", "10 40 E5", "10 40 40 E5", "68 01 01 68 73 E5", "16"] {
+        holds(text, &join(&[&hex(text), &frame]), 0, 0, Ending::Damaged, &[]);
+    }
+    // (01) "A damaged frame may begin with E5": that byte is an acknowledgement.
+    let mut led = frame.clone();
+    led[0] = 0xE5;
+    holds("E5-led damage", &led, 0, 1, Ending::Damaged, &[0]);
+}
+
+/// Each cut of a frame is unfinished, behind whole ones too; and each byte changed, but for the first, is damage.
+fn bursts_cut_and_changed() {
+    let before = join(&[&hex(ASK_ITEM_1), &[0xE5]]);
+    for frame in [hex("10 40 40 16"), hex(ASK_ITEM_1), framed(0x53, &[]), framed(0x11, &[0x68; 254])] {
+        for cut in 1..frame.len() {
+            holds("unfinished", &frame[..cut], 0, 0, Ending::Unfinished, &[]);
+            holds("unfinished", &join(&[&before, &frame[..cut]]), 1, 1, Ending::Unfinished, &[0, 13]);
+        }
+        for at in 1..frame.len() {
+            for change in 1..=0xFF {
+                let mut bytes = join(&[&before, &frame, &before]);
+                bytes[14 + at] ^= change;
+                holds("damaged", &bytes, 1, 1, Ending::Damaged, &[0, 13]);
+            }
+        }
+    }
+}
+
+/// (02) item 8: "up to 2048 bytes", "a lent run of 2048 places"; "call number 8 for a longer burst or a shorter run; it
+/// leaves the run unaltered."
+fn bursts_refused() {
+    let all: Vec<u16> = (0..2048).collect();
+    holds("2048 acknowledgements in 2048 places", &[0xE5; 2048], 0, 2048, Ending::Clean, &all);
+    let want = (Burst { frames: 0, acknowledgements: 2048, ending: Ending::Clean }, all);
+    same("the same in 2100 places", read_burst(&[0xE5; 2048], 2100), Ok(want));
+    let full = [0x10, 0x40, 0x40, 0x16].repeat(512);
+    let starts: Vec<u16> = (0..512).map(|at| 4 * at).collect();
+    holds("2048 bytes", &full, 512, 0, Ending::Clean, &starts);
+    for (bytes, places) in [(2049, 2048), (2049, 2049), (5000, 2048), (2048, 2047), (0, 2047), (1, 0), (2049, 2047)] {
+        for byte in [0xE5, 0x10, 0x00] {
+            same("8", read_burst(&vec![byte; bytes], places), Err(8));
+        }
+    }
+    for bytes in 0..=2100 {
+        same("8 for a longer burst", read_burst(&vec![0xE5; bytes], 2048).is_err(), bytes > 2048);
+        same("8 for a shorter run", read_burst(&[0xE5], bytes as u16).is_err(), bytes < 2048);
+    }
+}
+
 fn gets() {
     let mut server = small_server();
     // Items.
@@ -2270,6 +2372,126 @@ fn receiver_range_at_random() {
     truth("both cases are many", yes > 50_000 && no > 50_000);
 }
 
+/// A burst once more, in another way: from piece to piece. At a frame start stands an acknowledgement; or a sound frame,
+/// which is the one that its own content makes; or bytes that begin one, to the end; or else damage.
+fn by_pieces(bytes: &[u8]) -> (Burst, Vec<u16>) {
+    let mut found = (Burst { frames: 0, acknowledgements: 0, ending: Ending::Clean }, Vec::new());
+    let mut at = 0;
+    while at < bytes.len() {
+        let rest = &bytes[at..];
+        let size = frame_size(rest);
+        if rest[0] == 0xE5 {
+            found.0.acknowledgements += 1;
+        } else if size > 0 {
+            found.0.frames += 1;
+        } else {
+            found.0.ending = if begins_some_frame(rest) { Ending::Unfinished } else { Ending::Damaged };
+            break;
+        }
+        found.1.push(at as u16);
+        at += size.max(1);
+    }
+    found
+}
+
+/// The size of the sound frame at the start of these bytes; 0: there is none.
+fn frame_size(bytes: &[u8]) -> usize {
+    if bytes.len() < 4 {
+        return 0;
+    }
+    let l = usize::from(bytes[1]);
+    let frame = match bytes[0] {
+        0x10 => vec![0x10, bytes[1], bytes[1], 0x16],
+        0x68 if l > 0 && bytes.len() >= l + 6 => framed(bytes[4], &bytes[5..4 + l]),
+        _ => return 0,
+    };
+    if bytes.starts_with(&frame) {
+        frame.len()
+    } else {
+        0
+    }
+}
+
+/// A burst once more, byte by byte through the call, "from a receiver at a frame start".
+fn by_the_receiver(server: &mut Server, bytes: &[u8]) -> (Burst, Vec<u16>) {
+    let mut found = (Burst { frames: 0, acknowledgements: 0, ending: Ending::Clean }, Vec::new());
+    for (at, byte) in bytes.iter().enumerate() {
+        let start = at - usize::from(server.link.received);
+        call(server, &Event::HostByte(*byte), &[], 262).expect("accepted");
+        // "After every idle mark, whole frame or acknowledgement the receiver is at a frame start"
+        if server.link.received == 0 && server.link.dropping == 0 {
+            found.1.push(start as u16);
+            if bytes[start] == 0xE5 {
+                found.0.acknowledgements += 1;
+            } else {
+                found.0.frames += 1;
+            }
+        }
+    }
+    if server.link.dropping == 1 {
+        found.0.ending = Ending::Damaged;
+    } else if server.link.received > 0 {
+        found.0.ending = Ending::Unfinished;
+    }
+    call(server, &Event::IdleMark, &[], 262).expect("accepted");
+    found
+}
+
+/// (02) item 8: "it finds the same frames, acknowledgements and damage as the byte-wise receiver given those bytes and
+/// then an idle mark, from a receiver at a frame start". And a burst in which nothing is found leaves the server as it
+/// was.
+fn bursts_three_ways() {
+    let mut numbers = Numbers(0xB0B5_7EAD_0000_0008);
+    let mut endings = [0, 0, 0];
+    for round in 0..40_000 {
+        let most = if round % 500 == 0 { 2048 } else { numbers.below(60) as usize };
+        let mut bytes = random_burst(&mut numbers, most);
+        bytes.truncate(2048);
+        let found = read_burst(&bytes, 2048).expect("read");
+        same("from piece to piece", by_pieces(&bytes), found.clone());
+        let mut server = item_1();
+        server.link.expected = numbers.below(2) as u8;
+        if numbers.below(2) == 0 {
+            held(&mut server, &hex(ITEM_1_ANSWER));
+        }
+        let before = server.clone();
+        same("byte by byte", by_the_receiver(&mut server, &bytes), found.clone());
+        truth("nothing found, nothing altered", !found.1.is_empty() || server == before);
+        endings[found.0.ending as usize] += 1;
+    }
+    truth("each ending is met often", endings.iter().all(|count| *count > 3_000));
+}
+
+/// Frames and acknowledgements side by side, some bytes of them altered, lost or added.
+fn random_burst(numbers: &mut Numbers, most: usize) -> Vec<u8> {
+    let mut bytes = Vec::new();
+    while bytes.len() < most {
+        let c = numbers.byte();
+        let length = if numbers.below(30) == 0 { numbers.below(255) } else { numbers.below(8) };
+        match numbers.below(5) {
+            0 => bytes.push(0xE5),
+            1 => bytes.extend([0x10, c, c, 0x16]),
+            2 => bytes.extend(hex(ASK_ITEM_1)),
+            _ => {
+                let message: Vec<u8> = (0..length).map(|_| numbers.byte()).collect();
+                bytes.extend(framed([0x73, 0x53, c][numbers.below(3) as usize], &message));
+            }
+        }
+    }
+    for _ in 0..numbers.below(3) {
+        let at = numbers.below(bytes.len() as u64 + 1) as usize;
+        let byte = [0xE5, 0x10, 0x68, 0x16, 0x00, numbers.byte()][numbers.below(6) as usize];
+        match numbers.below(4) {
+            0 => bytes.truncate(at),
+            1 => bytes.insert(at, byte),
+            2 if at < bytes.len() => drop(bytes.remove(at)),
+            _ if at < bytes.len() => bytes[at] = byte,
+            _ => {}
+        }
+    }
+    bytes
+}
+
 fn random_server(numbers: &mut Numbers) -> Server {
     let mut server = empty_server();
     let mut id = 0;
@@ -2500,7 +2722,7 @@ fn any_fields_at_random() {
 }
 
 fn main() {
-    let parts: [(&str, fn()); 31] = [
+    let parts: [(&str, fn()); 35] = [
         ("examples of 01", examples_of_01),
         ("exchange of 000", exchange_of_000),
         ("messages without answer", messages_without_answer),
@@ -2518,6 +2740,9 @@ fn main() {
         ("readings", readings),
         ("two-octet values", two_octet_values),
         ("readings refused", readings_refused),
+        ("bursts", bursts),
+        ("bursts cut and changed", bursts_cut_and_changed),
+        ("bursts refused", bursts_refused),
         ("gets", gets),
         ("limits 254 and 255", limits_254_and_255),
         ("acknowledgements", acknowledgements),
@@ -2530,6 +2755,7 @@ fn main() {
         ("polls", polls),
         ("refusals", refusals),
         ("receiver's range at random", receiver_range_at_random),
+        ("bursts in three ways, at random", bursts_three_ways),
         ("walks at random", walks_at_random),
         ("any fields at random", any_fields_at_random),
     ];

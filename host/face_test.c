@@ -1,8 +1,9 @@
-/* The face of tagobrelin.h, each function of it, and the README's example of a reading, compiled as C and as C++ by
- * host/face_test. Tells what is wrong. */
+/* The face of tagobrelin.h, each function of it, and the README's examples of a reading and of bursts, compiled as C
+ * and as C++ by host/face_test. Tells what is wrong. */
 #include <stdio.h>
 #include <string.h>
 
+#include "burst_example.c"
 #include "reading_example.c"
 #include "tagobrelin.h"
 
@@ -176,6 +177,76 @@ static void readings(void)
     EXPECT(TAGOBRELIN_BAD_TABLE == -1 && TAGOBRELIN_ABSENT == -4);
 }
 
+/* whether the bytes hold this, and these are the starts */
+static int holds(const char *bytes, size_t count, int32_t number, uint16_t frames, uint16_t acknowledgements,
+                 const char *wanted)
+{
+    static uint16_t starts[TAGOBRELIN_LONGEST_BURST];
+    struct tagobrelin_burst burst;
+    size_t i, found = (size_t)frames + acknowledgements;
+    memset(starts, 0xA5, sizeof starts);
+    burst = tagobrelin_burst_of((const uint8_t *)bytes, count, starts);
+    for (i = 0; i < TAGOBRELIN_LONGEST_BURST; i++)
+        if (starts[i] != (i < found ? (uint16_t)wanted[i] : 0xA5A5))
+            return 0;
+    return burst.number == number && burst.frames == frames && burst.acknowledgements == acknowledgements;
+}
+
+/* each ending, both refusals; and no byte at all, with a pointer and without */
+static void bursts(void)
+{
+    static const char longer[TAGOBRELIN_LONGEST_BURST + 1] = {0};
+    EXPECT(holds(NULL, 0, TAGOBRELIN_CLEAN, 0, 0, "") && holds("", 0, TAGOBRELIN_CLEAN, 0, 0, ""));
+    EXPECT(holds("\x10\x40\x40\x16\xE5\x68\x01\x01\x68\x73\x73\x16", 12, TAGOBRELIN_CLEAN, 2, 1, "\0\4\5"));
+    EXPECT(holds("\xE5\xE5\x10\x40\x41\x16\xE5", 7, TAGOBRELIN_DAMAGED, 0, 2, "\0\1"));
+    EXPECT(holds("\xE5\x10\x40\x40\x16\x68\x07", 7, TAGOBRELIN_UNFINISHED, 1, 1, "\0\1"));
+    EXPECT(holds(longer, TAGOBRELIN_LONGEST_BURST, TAGOBRELIN_DAMAGED, 0, 0, ""));
+    EXPECT(holds(longer, TAGOBRELIN_LONGEST_BURST + 1, TAGOBRELIN_BAD_BURST, 0, 0, ""));
+    EXPECT(holds(NULL, 1, TAGOBRELIN_BAD_BURST, 0, 0, "") && holds(NULL, 2048, TAGOBRELIN_BAD_BURST, 0, 0, ""));
+    EXPECT(TAGOBRELIN_CLEAN == 1 && TAGOBRELIN_DAMAGED == 2 && TAGOBRELIN_UNFINISHED == 3);
+    EXPECT(TAGOBRELIN_LONGEST_BURST == 2048 && TAGOBRELIN_BAD_BURST == -8);
+}
+
+static uint8_t sent[300];
+static size_t sent_count;
+
+void driver_send(const uint8_t *bytes, size_t count)
+{
+    memcpy(sent + sent_count, bytes, count);
+    sent_count += count;
+}
+
+/* whether the example sends these bytes for a burst */
+static int answers(const char *bytes, size_t count, const char *wanted, size_t wanted_count)
+{
+    sent_count = 0;
+    on_burst(&server, (const uint8_t *)bytes, count);
+    return sent_count == wanted_count && memcmp(sent, wanted, wanted_count) == 0 && !tagobrelin_is_receiving(&server) &&
+           !tagobrelin_is_dropping(&server);
+}
+
+#define ANSWERS(bytes, wanted) answers(bytes, sizeof bytes - 1, wanted, sizeof wanted - 1)
+#define REQUEST "\x68\x07\x07\x68\x73\xF0\x01\x00\x01\x00\x01\x66\x16"
+#define ITEM "\x68\x0C\x0C\x68\xF3\xF0\x81\x00\x01\x00\x01\x00\x01\x02\xC5\x00\x2E\x16"
+
+/* the README's example: frames are answered, bursts that hold nothing only counted, one that is too long is heard */
+static void burst_example(void)
+{
+    static char longer[TAGOBRELIN_LONGEST_BURST + 1] = "\x10\x40\x40\x16" REQUEST;
+    struct tagobrelin_link before;
+    EXPECT(ANSWERS("\x10\x40\x40\x16" REQUEST, "\xE5\xE5" ITEM) && tagobrelin_is_outstanding(&server));
+    memcpy(&before, &server.link, sizeof before); /* padding too */
+    EXPECT(ANSWERS("", "") && ANSWERS("\x68\x00" REQUEST, "") && ANSWERS("\x68\x07\x07\x68\x73", ""));
+    EXPECT(memcmp(&before, &server.link, sizeof before) == 0);
+    EXPECT(seen.frames == 2 && seen.acknowledgements == 0 && seen.damaged == 1 && seen.unfinished == 1);
+    EXPECT(ANSWERS("\xE5" REQUEST "\x68\x07", "\xE5") && !tagobrelin_is_outstanding(&server));
+    EXPECT(ANSWERS("\xE5\xE5\x68\x00", ""));
+    EXPECT(seen.frames == 3 && seen.acknowledgements == 3 && seen.damaged == 2 && seen.unfinished == 2);
+    EXPECT(answers(longer, sizeof longer, "\xE5\xE5" ITEM, sizeof "\xE5\xE5" ITEM - 1));
+    EXPECT(seen.frames == 3 && seen.damaged == 2 && seen.unfinished == 2 && seen.too_long == 1);
+    EXPECT(ANSWERS("\x10\x40\x40\x16", "\xE5"));
+}
+
 /* null pointers: no table at all is a server too, and a count without a table is refused */
 static void no_tables(void)
 {
@@ -214,6 +285,8 @@ int main(void)
     description_strings();
     bus_events();
     readings();
+    bursts();
+    burst_example();
     no_tables();
     EXPECT(TAGOBRELIN_MICROSECONDS(TAGOBRELIN_GAP_BITS, 19200) == 1719);
     EXPECT(TAGOBRELIN_MICROSECONDS(TAGOBRELIN_ACK_WAIT_BITS, 19200) == 26563);

@@ -1,9 +1,14 @@
 /* Sees each field of each struct of tagobrelin.h through the call, each value that the call returns, and that a refusal
- * changes no byte; and each member of a reading, in each case and refusal, and that a reading changes no byte. One line
- * for each test; the exit status tells whether all passed. */
+ * changes no byte; each member of a reading, in each case and refusal, and that a reading changes no byte; each member
+ * of a burst, in each ending and refused, and each place of its run. One line for each test; the exit status tells
+ * whether all passed. */
+#define _DEFAULT_SOURCE
 #include <stdbool.h>
 #include <stdio.h>
+#include <stdlib.h>
 #include <string.h>
+#include <sys/mman.h>
+#include <unistd.h>
 
 #include "tagobrelin.h"
 
@@ -794,6 +799,188 @@ static void readings(void)
     READS(2, TAGOBRELIN_COUNT, 0, 0);
 }
 
+/* A burst lies in memory that can only be read, its run of places in memory that can be written, and both end at a page
+ * that cannot be touched. Where pages have 4096 bytes, a run of 2048 places begins at such a page too. */
+enum { PLACES = TAGOBRELIN_LONGEST_BURST, BURST_ROOM = 8192, RUN_ROOM = PLACES * sizeof(uint16_t) };
+
+static uint8_t *burst_end;
+static uint16_t *run;
+
+/* so many bytes, between pages that cannot be touched; they end at the second */
+static uint8_t *walled(size_t size)
+{
+    size_t page = (size_t)sysconf(_SC_PAGESIZE), inside = (size + page - 1) / page * page;
+    uint8_t *at = mmap(NULL, inside + 2 * page, PROT_NONE, MAP_PRIVATE | MAP_ANONYMOUS, -1, 0);
+    if (at == MAP_FAILED || mprotect(at + page, inside, PROT_READ | PROT_WRITE) != 0) {
+        perror("layout_test: mmap");
+        exit(1);
+    }
+    return at + page + inside - size;
+}
+
+static void protect(void *at, size_t size, int how)
+{
+    size_t page = (size_t)sysconf(_SC_PAGESIZE);
+    uint8_t *end = (uint8_t *)at + size, *start = end - (size + page - 1) / page * page;
+    expect(mprotect(start, (size_t)(end - start), how) == 0, "memory is protected", __LINE__);
+}
+
+/* what the run holds before a burst is read */
+static uint16_t unneeded(size_t place)
+{
+    return (uint16_t)(0xA5A5 + place);
+}
+
+/* the burst as it lies before the wall */
+static const uint8_t *lend_burst(const uint8_t *bytes, size_t count)
+{
+    protect(burst_end - BURST_ROOM, BURST_ROOM, PROT_READ | PROT_WRITE);
+    if (count > 0)
+        memcpy(burst_end - count, bytes, count);
+    protect(burst_end - BURST_ROOM, BURST_ROOM, PROT_READ);
+    return burst_end - count;
+}
+
+/* The members of a burst are these, the first places its starts, and the places behind them as they were. */
+static void holds(const uint8_t *bytes, size_t count, int32_t number, uint16_t frames, uint16_t acknowledgements,
+                  const uint16_t *starts, int line)
+{
+    const uint8_t *lent = lend_burst(bytes, count);
+    size_t found = (size_t)frames + acknowledgements;
+    for (size_t i = 0; i < PLACES; i++)
+        run[i] = unneeded(i);
+    struct tagobrelin_burst burst = tagobrelin_read_burst(lent, count, run, PLACES);
+    if ((burst.number != number || burst.frames != frames || burst.acknowledgements != acknowledgements) && wrong < 10)
+        printf("    %zu bytes: %d, %u, %u, not %d, %u, %u\n", count, (int)burst.number, burst.frames,
+               burst.acknowledgements, (int)number, frames, acknowledgements);
+    expect(burst.number == number, "the burst's number", line);
+    expect(burst.frames == frames, "its frames", line);
+    expect(burst.acknowledgements == acknowledgements, "its acknowledgements", line);
+    for (size_t i = 0; i < PLACES; i++)
+        expect(run[i] == (i < found ? starts[i] : unneeded(i)), i < found ? "a start" : "a place not needed", line);
+}
+
+#define STARTS(...) (const uint16_t[]){__VA_ARGS__}
+#define HOLDS(...) holds(__VA_ARGS__, __LINE__)
+
+/* The burst is refused, and no place is written: the run lies where a write would be a fault. */
+static void burst_refused(size_t count, size_t places, int line)
+{
+    const uint8_t *lent = lend_burst((const uint8_t[BURST_ROOM]){0xE5}, count);
+    protect(run, RUN_ROOM, PROT_READ);
+    struct tagobrelin_burst burst = tagobrelin_read_burst(lent, count, run, places);
+    expect(burst.number == TAGOBRELIN_BAD_BURST && burst.number == -8, "the refusal's number", line);
+    expect(burst.frames == 0 && burst.acknowledgements == 0, "no frames, no acknowledgements", line);
+    protect(run, RUN_ROOM, PROT_READ | PROT_WRITE);
+}
+
+/* a frame of 7 bytes, a reset, a frame of 9 bytes with an E5 and a 16 within, an acknowledgement */
+static const uint8_t pieces[] = {0x68, 1, 1, 0x68, 0x73, 0x73, 0x16, 0x10, 0x40, 0x40, 0x16,
+                                 0x68, 3, 3, 0x68, 0x53, 0xE5, 0x16, 0x4E, 0x16, 0xE5};
+
+static void bursts(void)
+{
+    uint8_t many[TAGOBRELIN_LONGEST_BURST];
+    uint16_t starts[PLACES];
+    burst_end = walled(BURST_ROOM) + BURST_ROOM;
+    run = (uint16_t *)(void *)walled(RUN_ROOM);
+
+    begins("burst: number, frames, acknowledgements, starts");
+    EXPECT(TAGOBRELIN_CLEAN == 1 && TAGOBRELIN_DAMAGED == 2 && TAGOBRELIN_UNFINISHED == 3);
+    HOLDS(pieces, 0, TAGOBRELIN_CLEAN, 0, 0, NULL);
+    HOLDS(BYTES(0xE5), TAGOBRELIN_CLEAN, 0, 1, STARTS(0));
+    HOLDS(pieces, sizeof pieces, TAGOBRELIN_CLEAN, 3, 1, STARTS(0, 7, 11, 20));
+    HOLDS(BYTES(0xE5, 0xE5, 0x10, 0xC0, 0xC0, 0x16, 0xE5), TAGOBRELIN_CLEAN, 1, 3, STARTS(0, 1, 2, 6));
+    HOLDS(BYTES(0x00), TAGOBRELIN_DAMAGED, 0, 0, NULL);
+    HOLDS(BYTES(0xE5, 0xE5, 0x10, 0x40, 0x40, 0x16, 0x68, 0x00, 0xE5), TAGOBRELIN_DAMAGED, 1, 2, STARTS(0, 1, 2));
+    HOLDS(BYTES(0xE5, 0x10, 0x40, 0x40, 0x16, 0x10, 0x40, 0x41, 0x16, 0xE5), TAGOBRELIN_DAMAGED, 1, 1, STARTS(0, 1));
+    HOLDS(BYTES(0x68), TAGOBRELIN_UNFINISHED, 0, 0, NULL);
+    HOLDS(BYTES(0x10, 0x40, 0x40, 0x16, 0x10, 0x41, 0x41, 0x16, 0xE5, 0x68, 0xFF), TAGOBRELIN_UNFINISHED, 2, 1,
+          STARTS(0, 4, 8));
+
+    begins("burst: cut and changed at each byte");
+    for (size_t cut = 1; cut < sizeof pieces; cut++) {
+        bool is_clean = cut == 7 || cut == 11 || cut == 20;
+        uint16_t frames = cut < 7 ? 0 : cut < 11 ? 1 : cut < 20 ? 2 : 3;
+        HOLDS(pieces, cut, is_clean ? TAGOBRELIN_CLEAN : TAGOBRELIN_UNFINISHED, frames, 0, STARTS(0, 7, 11));
+    }
+    for (size_t at = 0; at < 20; at++)
+        for (int byte = 0; byte < 256; byte++) {
+            bool is_first = at == 0 || at == 7 || at == 11; /* each of the forms may begin there */
+            bool is_length = at == 1 || at == 12, is_content = at == 4 || at == 8 || (at > 14 && at < 18);
+            bool is_found_later = is_content || (is_length && byte != 0);
+            uint16_t frames = at < 7 ? 0 : at < 11 ? 1 : 2;
+            if (byte == pieces[at] || (is_first && (byte == 0xE5 || byte == 0x10 || byte == 0x68)))
+                continue;
+            memcpy(many, pieces, sizeof pieces);
+            many[at] = (uint8_t)byte;
+            HOLDS(many, sizeof pieces, TAGOBRELIN_DAMAGED, frames, 0, STARTS(0, 7));
+            /* and where it is the last byte: another C, control or data is found later, and another L that is not 0 */
+            HOLDS(many, at + 1, is_found_later ? TAGOBRELIN_UNFINISHED : TAGOBRELIN_DAMAGED, frames, 0, STARTS(0, 7));
+        }
+    for (size_t cut = 2; cut <= 6; cut++)
+        HOLDS((const uint8_t *)"\x68\0\0\x68\0\x16", cut, TAGOBRELIN_DAMAGED, 0, 0, NULL);
+
+    begins("burst: a frame of each length, whole and cut");
+    for (size_t count = 0; count < 255; count++) {
+        uint8_t message[254];
+        memset(message, 0xE5, sizeof message);
+        size_t size = framed(0x73, message, count, many);
+        many[size] = 0xE5;
+        HOLDS(many, size, TAGOBRELIN_CLEAN, 1, 0, STARTS(0));
+        HOLDS(many, size + 1, TAGOBRELIN_CLEAN, 1, 1, STARTS(0, (uint16_t)size));
+        for (size_t cut = 1; cut < size; cut++)
+            HOLDS(many, cut, TAGOBRELIN_UNFINISHED, 0, 0, NULL);
+    }
+
+    begins("burst: 2048 acknowledgements, 512 frames, and every place of the run");
+    memset(many, 0xE5, sizeof many);
+    for (size_t i = 0; i < PLACES; i++)
+        starts[i] = (uint16_t)i;
+    HOLDS(many, sizeof many, TAGOBRELIN_CLEAN, 0, 2048, starts);
+    HOLDS(many, 2047, TAGOBRELIN_CLEAN, 0, 2047, starts);
+    for (size_t i = 0; i < 512; i++) {
+        memcpy(many + 4 * i, "\x10\x40\x40\x16", 4);
+        starts[i] = (uint16_t)(4 * i);
+    }
+    HOLDS(many, sizeof many, TAGOBRELIN_CLEAN, 512, 0, starts);
+}
+
+/* This is read where a write would be a fault. */
+static const uint8_t burst_in_flash[] = {0xE5, 0x10, 0x40, 0x40, 0x16, 0xE5, 0x10};
+
+static void bursts_in_memory(void)
+{
+    begins("burst: at each address, and in a longer run");
+    for (size_t shift = 0; shift < 16; shift++) {
+        static uint8_t bytes[sizeof pieces + 16];
+        static uint16_t longer[3000], as_before[3000];
+        memcpy(bytes + shift, pieces, sizeof pieces);
+        memset(longer, 0x5A, sizeof longer);
+        memcpy(as_before, longer, sizeof longer);
+        memcpy(as_before + shift, STARTS(0, 7, 11, 20), 4 * sizeof(uint16_t));
+        struct tagobrelin_burst burst =
+            tagobrelin_read_burst(bytes + shift, sizeof pieces, longer + shift, COUNT(longer) - shift);
+        EXPECT(burst.number == TAGOBRELIN_CLEAN && burst.frames == 3 && burst.acknowledgements == 1);
+        EXPECT(memcmp(longer, as_before, sizeof longer) == 0);
+        EXPECT(memcmp(bytes + shift, pieces, sizeof pieces) == 0);
+    }
+
+    begins("burst: one that cannot be written, and a part of it");
+    struct tagobrelin_burst burst = tagobrelin_read_burst(burst_in_flash, sizeof burst_in_flash, run, PLACES);
+    EXPECT(burst.number == TAGOBRELIN_UNFINISHED && burst.frames == 1 && burst.acknowledgements == 2);
+    burst = tagobrelin_read_burst(burst_in_flash + 1, 5, run, PLACES);
+    EXPECT(burst.number == TAGOBRELIN_CLEAN && burst.frames == 1 && burst.acknowledgements == 1);
+
+    begins("burst, -8: more than 2048 bytes, less than 2048 places");
+    static const size_t counts[] = {0, 1, 2047, 2048, 2049, 2050, 4096, BURST_ROOM};
+    static const size_t places[] = {0, 1, 2, 1024, 2046, 2047, 2048};
+    for (size_t i = 0; i < COUNT(counts); i++)
+        for (size_t k = 0; k < COUNT(places); k++)
+            if (counts[i] > 2048 || places[k] < 2048)
+                burst_refused(counts[i], places[k], __LINE__);
+}
+
 int main(void)
 {
     fresh();
@@ -805,6 +992,8 @@ int main(void)
     texts();
     refusals();
     readings();
+    bursts();
+    bursts_in_memory();
     ends();
     return failed != 0;
 }

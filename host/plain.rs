@@ -6,8 +6,8 @@
 //!   (000)  000_feb9994ac7e2d72b.txt, the protocol paper;
 //!   (R)    docs/DECISIONS.md, how open points are read.
 //!
-//! Order of this file: the records; sizes; the texts; refusals 1 to 4; the link; the messages; the call; the readings.
-//! Nothing here is quick or clever: lists are searched from the front and bytes are gathered in a Vec<u8>.
+//! Order of this file: the records; sizes; the texts; refusals 1 to 4; the link; the messages; the call; the readings;
+//! the bursts. Nothing here is quick or clever: lists are searched from the front and bytes are gathered in a Vec<u8>.
 
 use std::collections::BTreeMap;
 
@@ -392,21 +392,25 @@ fn form_of(bytes: &[u8]) -> Form {
             return Form::Damage;
         }
     }
-    let length = bytes.len();
-    if length == 0 {
+    if !is_whole(bytes) {
         return Form::Beginning;
     }
-    if bytes[0] == 0xE5 {
-        return Form::Acknowledgement;
+    match bytes[0] {
+        0xE5 => Form::Acknowledgement,
+        0x10 => Form::Fixed(bytes[1]),
+        _ => Form::Data(bytes[4], bytes[5..bytes.len() - 2].to_vec()),
     }
-    if bytes[0] == 0x10 {
-        return if length < 4 { Form::Beginning } else { Form::Fixed(bytes[1]) };
+}
+
+/// Whether bytes of which none breaks the forms are an acknowledgement or a whole frame.
+fn is_whole(bytes: &[u8]) -> bool {
+    match bytes.first() {
+        None => false,
+        Some(0xE5) => true,
+        Some(0x10) => bytes.len() == 4,
+        // 68: the whole has 4 bytes, L bytes of control and data, and 2 bytes.
+        Some(_) => bytes.len() > 1 && bytes.len() == 4 + usize::from(bytes[1]) + 2,
     }
-    // 68: the whole has 4 bytes, L bytes of control and data, and 2 bytes.
-    if length < 2 || length < 4 + usize::from(bytes[1]) + 2 {
-        return Form::Beginning;
-    }
-    Form::Data(bytes[4], bytes[5..length - 2].to_vec())
 }
 
 /// Whether the byte at this place breaks the forms when none before it does.
@@ -1245,4 +1249,61 @@ fn single(bits: u32) -> Reading {
         return Reading::Unreadable;
     }
     Reading::Single(bits)
+}
+
+// --------------------------------------------------------------------------------------------------------- the bursts
+
+/// (02) item 8: "whether the burst ended clean, in damage or in an unfinished frame"
+#[derive(Clone, PartialEq, Debug)]
+pub enum Ending {
+    Clean,
+    Damaged,
+    Unfinished,
+}
+
+/// (02) item 8: "how many sound frames (ignored ones too) and acknowledgements it found", and how the burst ended.
+#[derive(Clone, PartialEq, Debug)]
+pub struct Burst {
+    pub frames: u16,
+    pub acknowledgements: u16,
+    pub ending: Ending,
+}
+
+/// (02) item 8: "The rack's serial driver hands us everything between two idle marks at once". It is read byte by byte,
+/// by the receiver's rules, "from a receiver at a frame start".
+/// Ok(what was found), with its starts in the first places of the run; or Err(refusal number) and no place changed.
+pub fn burst(bytes: &[u8], run: &mut [u16]) -> Result<Burst, u8> {
+    // "up to 2048 bytes"; "a lent run of 2048 places"; "call number 8 for a longer burst or a shorter run"
+    if bytes.len() > 2048 || run.len() < 2048 {
+        return Err(8);
+    }
+    let mut found = Burst { frames: 0, acknowledgements: 0, ending: Ending::Clean };
+    let mut needed = 0;
+    let mut gathered = Vec::new();
+    for (at, byte) in bytes.iter().enumerate() {
+        gathered.push(*byte);
+        // (01) "Any byte that breaks these forms is damage, found at that byte: the rest is dropped up to the next idle
+        // mark."
+        if breaks_the_forms(&gathered, gathered.len() - 1) {
+            found.ending = Ending::Damaged;
+            return Ok(found);
+        }
+        if is_whole(&gathered) {
+            if gathered == [0xE5] {
+                found.acknowledgements += 1;
+            } else {
+                found.frames += 1;
+            }
+            // "where each starts (first byte 0), in order"; "Places not needed stay unaltered."
+            run[needed] = (at + 1 - gathered.len()) as u16;
+            needed += 1;
+            // (01) "After every [...] whole frame or acknowledgement the receiver is at a frame start"
+            gathered.clear();
+        }
+    }
+    // (01) "An idle mark in mid-frame drops what was gathered."
+    if !gathered.is_empty() {
+        found.ending = Ending::Unfinished;
+    }
+    Ok(found)
 }

@@ -188,6 +188,35 @@ static void choose_marks(struct play *p, size_t size)
         }
 }
 
+/* One of the frames that bursts are made of, with any bytes in it. Answers its size. */
+static size_t put_burst_frame(uint8_t *at, size_t size)
+{
+    uint8_t message[254];
+    if (size == 1) {
+        at[0] = 0xe5;
+        return 1;
+    }
+    for (size_t i = 0; i < sizeof message; i++)
+        message[i] = (uint8_t)random_below(256);
+    if (size > 4)
+        return framed(0x73, message, size - 7, at);
+    at[0] = 0x10;
+    at[1] = at[2] = message[0];
+    at[3] = 0x16;
+    return 4;
+}
+
+static void make_burst(struct play *p, size_t size)
+{
+    size_t behind = p->kind == EXCHANGES, n = 0;
+    while (size && n + size + behind <= sizeof p->burst) {
+        n += put_burst_frame(p->burst + n, size);
+        if (behind)
+            n += put_burst_frame(p->burst + n, 1);
+    }
+    p->burst_size = (uint16_t)n;
+}
+
 static void add(struct play *p, uint8_t event, uint8_t byte, uint16_t id)
 {
     p->steps[p->step_count++] = (struct step){event, byte, id};
@@ -201,6 +230,7 @@ unsigned make_plays(enum kind kind, size_t size, size_t held)
         size_t n = 0, gathered = 0;
         bool whole = false;
         memset(p, 0, sizeof *p);
+        p->kind = kind;
         tagobrelin_fresh_link(&p->link);
         for (size_t i = 0; i < sizeof message; i++)
             message[i] = (uint8_t)(random_below(255) + 1);
@@ -267,6 +297,11 @@ unsigned make_plays(enum kind kind, size_t size, size_t held)
             /* without datapoints: refused */
             add(p, 0, 0, datapoint_count ? lent.readable[random_below(((uint32_t)datapoint_count + 2) / 3) * 3].id : 1);
             break;
+        case BURST:
+        case EXCHANGES:
+            make_burst(p, size);
+            p->step_count = 1;
+            break;
         }
         if (n && p->step_count == 0) {
             gathered = whole ? 0 : kind == CHECKSUM ? n - 2 : n - 1;
@@ -284,8 +319,10 @@ unsigned make_plays(enum kind kind, size_t size, size_t held)
 int32_t play(const struct play *p, const struct functions *f)
 {
     int32_t answer = 0;
-    if (p->steps[0].event == 0)
+    if (p->kind == READING)
         return f->read(p->steps[0].id, lent.readable, datapoint_count).number;
+    if (p->kind == BURST || p->kind == EXCHANGES)
+        return f->read_burst(p->burst, p->burst_size, lent.starts, TAGOBRELIN_LONGEST_BURST).number;
     memcpy(&lent.link, &p->link, sizeof lent.link);
     for (size_t i = 0; i < p->mark_count; i++)
         lent.datapoints[p->marks[i]].mark = 1;

@@ -1,4 +1,4 @@
-/* What is timed and counted: tables of a given size, and calls on them that can be played again and again. */
+/* What is timed and counted: tables of a given size, calls on them that can be played again and again; and bursts. */
 #ifndef PLAYS_H
 #define PLAYS_H
 
@@ -13,28 +13,15 @@ typedef int32_t call_function(uint8_t event, uint8_t byte, uint16_t id, uint8_t 
 typedef struct tagobrelin_reading read_function(uint16_t id, const struct tagobrelin_datapoint *datapoints,
                                                 size_t datapoint_count);
 
+typedef struct tagobrelin_burst read_burst_function(const uint8_t *burst, size_t byte_count,
+                                                    uint16_t *starts, size_t place_count);
+
 /* What plays are played by: the proved functions, or others in their place. */
 struct functions {
     call_function *call;
     read_function *read;
+    read_burst_function *read_burst;
 };
-
-/* Some calls: the link record that they begin with, the datapoints that have a report mark before them, and their events. */
-struct play {
-    struct tagobrelin_link link;
-    uint16_t marks[62];
-    uint16_t mark_count;
-    uint16_t step_count;
-    struct step {
-        uint8_t event, byte; /* event 0: a reading of the ID */
-        uint16_t id;
-    } steps[262];
-    uint8_t value[14], value_count;
-};
-
-/* Plays of one kind that differ in their IDs and values, so that no jump is learnt by heart. */
-enum { VARIANTS = 16 };
-extern struct play plays[VARIANTS];
 
 enum kind {
     MID_FRAME,      /* one host byte behind `size` gathered ones of a data frame of 261 bytes */
@@ -53,8 +40,31 @@ enum kind {
     OUTCOME,        /* an outcome of a transmission */
     RESEND,         /* ack wait over, a frame of `size` bytes outstanding */
     IDLE,           /* an idle mark behind `size` gathered bytes */
-    READING         /* a reading of a two-octet value */
+    READING,        /* a reading of a two-octet value */
+    BURST,          /* a burst of frames of `size` bytes, as many as it takes: data frames; 4: fixed ones; 1: E5; 0: none */
+    EXCHANGES       /* the same, with an E5 behind each frame */
 };
+
+/* Some calls: the link record that they begin with, the datapoints that have a report mark before them, and their
+ * events; or one reading or one burst. */
+struct play {
+    enum kind kind;
+    struct tagobrelin_link link;
+    uint16_t marks[62];
+    uint16_t mark_count;
+    uint16_t step_count;
+    struct step {
+        uint8_t event, byte; /* a reading has the ID alone */
+        uint16_t id;
+    } steps[262];
+    uint8_t value[14], value_count;
+    uint16_t burst_size;
+    uint8_t burst[TAGOBRELIN_LONGEST_BURST];
+};
+
+/* Plays of one kind that differ in their IDs and values, so that no jump is learnt by heart. */
+enum { VARIANTS = 16 };
+extern struct play plays[VARIANTS];
 
 /* Fills the tables: so many datapoints and items, some parameter bytes. The lists of texts are empty. */
 void make_tables(size_t datapoints, size_t items);
@@ -81,6 +91,7 @@ extern struct lent {
     struct tagobrelin_link link;
     uint8_t parameters[255], out[TAGOBRELIN_ROOM];
     uint8_t site_texts[33000], default_texts[33000];
+    uint16_t starts[TAGOBRELIN_LONGEST_BURST];
 } lent;
 
 #endif

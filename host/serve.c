@@ -1,6 +1,6 @@
 /* Serves the library's tables to a host on a serial line: host bytes, idle marks, acknowledgement waits and polls, one
- * call each. Bus values and outcomes can be typed on standard input, and readings asked for. `serve -h` tells how it is
- * called. */
+ * call each. Bus values and outcomes can be typed on standard input, readings asked for, and bursts looked into.
+ * `serve -h` tells how it is called. */
 #define _POSIX_C_SOURCE 200809L
 #include <errno.h>
 #include <fcntl.h>
@@ -299,7 +299,43 @@ static void obey_reading(struct words *words)
         show_reading(id, reading, unit);
 }
 
-/* value ID BYTES, or outcome ID sent|failed|in-progress, or reading ID [UNIT] */
+/* how many bytes the frame or acknowledgement has that starts there */
+static size_t piece_size(const uint8_t *at)
+{
+    return at[0] == 0xE5 ? 1 : at[0] == 0x10 ? 4 : at[1] + 6u;
+}
+
+/* Shows a burst, each frame and acknowledgement that it holds in brackets, and what it holds. */
+static void show_burst(const uint8_t *bytes, size_t count, struct tagobrelin_burst burst, const uint16_t *starts)
+{
+    static const char *const endings[] = {[TAGOBRELIN_CLEAN] = "clean",
+                                          [TAGOBRELIN_DAMAGED] = "damaged",
+                                          [TAGOBRELIN_UNFINISHED] = "unfinished"};
+    size_t found = (size_t)burst.frames + burst.acknowledgements, piece = 0, end = 0;
+    printf("burst:");
+    for (size_t i = 0; i < count; i++) {
+        bool is_start = piece < found && i == starts[piece];
+        if (is_start)
+            end = starts[piece++] + piece_size(bytes + i);
+        printf(is_start ? " [%02X" : " %02X", bytes[i]);
+        if (i + 1 == end)
+            putchar(']');
+    }
+    printf("\n%u frame%s, %u acknowledgement%s, %s\n", burst.frames, burst.frames == 1 ? "" : "s",
+           burst.acknowledgements, burst.acknowledgements == 1 ? "" : "s", endings[burst.number]);
+}
+
+/* No more bytes are taken than a burst may have, so that it is never refused. */
+static void obey_burst(struct words *words)
+{
+    static uint16_t starts[TAGOBRELIN_LONGEST_BURST];
+    uint8_t bytes[TAGOBRELIN_LONGEST_BURST];
+    size_t count;
+    if (read_bytes(words, bytes, sizeof bytes, &count))
+        show_burst(bytes, count, tagobrelin_burst_of(bytes, count, starts), starts);
+}
+
+/* value ID BYTES, or outcome ID sent|failed|in-progress, or reading ID [UNIT], or burst BYTES */
 static void obey(struct words *words)
 {
     const char *verb = next_word(words);
@@ -311,15 +347,18 @@ static void obey(struct words *words)
         obey_outcome(words);
     else if (strcmp(verb, "reading") == 0)
         obey_reading(words);
+    else if (strcmp(verb, "burst") == 0)
+        obey_burst(words);
     else
-        wrong(words, "'%s' is none of: value ID BYTES, outcome ID sent|failed|in-progress, reading ID [UNIT]", verb);
+        wrong(words, "'%s' is none of: value ID BYTES, outcome ID sent|failed|in-progress, reading ID [UNIT], burst BYTES",
+              verb);
     show_changes();
 }
 
 /* The line that is being typed. */
 static struct {
-    char text[256];
-    size_t count; /* of all its characters, also those that have no room */
+    char text[8192]; /* room for a burst of 2048 bytes */
+    size_t count;    /* of all its characters, also those that have no room */
 } typed;
 
 /* The line is over. One that is too long or holds a NUL is refused whole. */
@@ -340,7 +379,7 @@ static void take_line(void)
 /* What is typed; its last line also without a newline. Returns false at its end. */
 static bool listen_to_input(void)
 {
-    char bytes[256];
+    char bytes[4096];
     ssize_t count = read(STDIN_FILENO, bytes, sizeof bytes);
     if (count < 0 && (errno == EINTR || errno == EAGAIN))
         return true;
@@ -453,7 +492,8 @@ static void tell_usage(FILE *to)
           "  -v      shows each frame in both directions, with its meaning\n"
           "  -h      shows this\n"
           "Typed lines are bus events: value ID BYTES; outcome ID sent|failed|in-progress. Or they ask for a value as a\n"
-          "number: reading ID [UNIT]; the unit is shown behind the number. Ctrl-C ends the program.\n",
+          "number: reading ID [UNIT]; the unit is shown behind the number. Or for what bytes between two idle marks hold:\n"
+          "burst BYTES; frames and acknowledgements are shown in brackets. Ctrl-C ends the program.\n",
           to);
 }
 

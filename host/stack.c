@@ -1,5 +1,5 @@
-/* How much stack a call or a reading uses: each is made once on a stack of its own that is painted before, and the
- * deepest byte that it wrote is looked for. Counted are the bytes below the caller's frame, the return address among
+/* How much stack a call, a reading or a burst uses: each is made once on a stack of its own that is painted before, and
+ * the deepest byte that it wrote is looked for. Counted are the bytes below the caller's frame, the return address among
  * them, the arguments not. */
 #define _XOPEN_SOURCE 600
 #include <stdio.h>
@@ -34,6 +34,13 @@ static struct tagobrelin_reading no_read(uint16_t id, const struct tagobrelin_da
     return (struct tagobrelin_reading){0, 0, 0};
 }
 
+static struct tagobrelin_burst no_read_burst(const uint8_t *burst, size_t byte_count, uint16_t *starts,
+                                             size_t place_count)
+{
+    (void)burst, (void)byte_count, (void)starts, (void)place_count;
+    return (struct tagobrelin_burst){0, 0, 0};
+}
+
 static void on_the_stack(void)
 {
     play(played, functions);
@@ -59,8 +66,9 @@ static size_t untouched(const struct play *p, const struct functions *f)
 
 int main(void)
 {
-    static const struct functions proved = {tagobrelin_call, tagobrelin_read}, by_hand = {tuned_call, tuned_read},
-                                  none = {no_call, no_read};
+    static const struct functions proved = {tagobrelin_call, tagobrelin_read, tagobrelin_read_burst},
+                                  by_hand = {tuned_call, tuned_read, tuned_read_burst},
+                                  none = {no_call, no_read, no_read_burst};
     static const struct {
         const char *name;
         enum kind kind;
@@ -71,6 +79,7 @@ int main(void)
         {"248 parameter bytes", PARAMETERS, 248}, {"248 parameter bytes set", SET_PARAMETERS, 248},
         {"poll, 40 marks", POLL, 40}, {"bus value", BUS_VALUE, 0}, {"outcome", OUTCOME, 0},
         {"261 bytes sent again", RESEND, 261}, {"idle mark", IDLE, 40}, {"reading of a two-octet value", READING, 0},
+        {"burst of 157 frames", BURST, 13}, {"burst of frames and E5", EXCHANGES, 13},
     };
     make_tables(1000, 64);
     make_texts(1000);

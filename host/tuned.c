@@ -20,13 +20,6 @@ enum {
     FRAME_HEAD = 0x68000068      /* 68 L L 68 with L still 0, as a word */
 };
 
-static inline uint32_t two_bytes_as_they_lie(const void *at)
-{
-    uint16_t w;
-    memcpy(&w, at, sizeof w);
-    return w;
-}
-
 static inline uint32_t two_bytes(const uint8_t *at)
 {
     return (uint32_t)at[0] << 8 | at[1];

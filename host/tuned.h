@@ -1,4 +1,5 @@
-/* The call and the reading in hand-written C: tagobrelin_call's interface and tagobrelin_read's under other names. */
+/* The call, the reading and the reader of bursts in hand-written C: the interfaces of tagobrelin_call, tagobrelin_read and
+ * tagobrelin_read_burst under other names. */
 #ifndef TUNED_H
 #define TUNED_H
 
@@ -12,5 +13,8 @@ int32_t tuned_call(uint8_t event, uint8_t byte, uint16_t id, uint8_t outcome, co
 
 struct tagobrelin_reading tuned_read(uint16_t id, const struct tagobrelin_datapoint *datapoints,
                                      size_t datapoint_count);
+
+struct tagobrelin_burst tuned_read_burst(const uint8_t *burst, size_t byte_count,
+                                         uint16_t *starts, size_t place_count);
 
 #endif

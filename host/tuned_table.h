@@ -4,34 +4,11 @@
 #define TUNED_TABLE_H
 
 #include <stdbool.h>
-#include <string.h>
 
 #include "tagobrelin.h"
-
-_Static_assert(__BYTE_ORDER__ == __ORDER_LITTLE_ENDIAN__, "the masks are those of a little-endian machine");
+#include "tuned_words.h"
 
 typedef struct tagobrelin_datapoint datapoint;
-
-#define RARELY(fact) __builtin_expect(!!(fact), 0)
-
-static inline uint64_t word(const void *at)
-{
-    uint64_t w;
-    memcpy(&w, at, sizeof w);
-    return w;
-}
-
-static inline uint32_t half_word(const void *at)
-{
-    uint32_t w;
-    memcpy(&w, at, sizeof w);
-    return w;
-}
-
-static inline void put_word(void *at, uint64_t w)
-{
-    memcpy(at, &w, sizeof w);
-}
 
 /* by type code: the bits of a record's bytes 5 to 12 and 13 to 20 that have to be 0; those of the state and of the mark are among them */
 static const uint64_t unused_low[15] = {0xfffffffffffffee0, 0xfffffffffffffce0, 0xfffffffffffff8e0, 0xfffffffffffff0e0, 0xffffffffffffe0e0,

@@ -1,8 +1,9 @@
-/* Holds tuned.c and tuned_read.c against the archive: random tables, link records, events and readings; after each call
- * both have given the same answer and left the same bytes, padding included. Then every two-octet value is read.
+/* Holds tuned.c, tuned_read.c and tuned_burst.c against the archive: random tables, link records, events, readings and
+ * bursts; after each call both have given the same answer and left the same bytes, padding included. Then every
+ * two-octet value is read, and a frame of each length in a burst, cut and altered at each of its bytes.
  * Usage: tuned_test [CALLS [SEED]]. Prints how often each answer was met; the exit status tells whether all were the
- * same, whether description strings were answered with each code that they have, and whether each case of a reading and
- * both its refusals were met. */
+ * same, whether description strings were answered with each code that they have, and whether each case of a reading,
+ * each ending of a burst and the refusals of both were met. */
 #include <stdbool.h>
 #include <stdio.h>
 #include <stdlib.h>
@@ -27,6 +28,11 @@ static uint64_t state = 1;
 static unsigned long calls, limit = 1500000;
 static unsigned long refused[5], accepted[7], answered[8][11], sent_again, indications, longest;
 static unsigned long readings, cases[6], read_refused[5];
+
+/* a burst, of which some have more bytes than they may, and the run of places for each of the two */
+static uint8_t burst[2400];
+static uint16_t our_starts[2100], tuned_starts[2100];
+static unsigned long bursts, endings[4], bursts_refused, frames_found, acknowledgements_found;
 
 static uint32_t random_below(uint32_t n)
 {
@@ -103,6 +109,31 @@ static void read_by_both(uint16_t id)
         read_refused[-a.number]++;
     else
         cases[a.number]++;
+}
+
+/* one burst by both: the same three members, and the same places, those behind the last start too */
+static void read_burst_by_both(size_t byte_count, size_t place_count)
+{
+    struct tagobrelin_burst a, b;
+    memset(our_starts, 0xa5, sizeof our_starts);
+    memset(tuned_starts, 0xa5, sizeof tuned_starts);
+    a = tagobrelin_read_burst(burst, byte_count, our_starts, place_count);
+    b = tuned_read_burst(burst, byte_count, tuned_starts, place_count);
+    bursts++;
+    if (memcmp(&a, &b, sizeof a) || memcmp(our_starts, tuned_starts, sizeof our_starts)) {
+        printf("burst of %zu bytes: %d %u %u, tuned %d %u %u, or other places\n ", byte_count, (int)a.number, a.frames,
+               a.acknowledgements, (int)b.number, b.frames, b.acknowledgements);
+        for (size_t i = 0; i < byte_count; i++)
+            printf(" %02x", burst[i]);
+        printf("\n");
+        exit(1);
+    }
+    if (a.number < 0)
+        bursts_refused++;
+    else
+        endings[a.number]++;
+    frames_found += a.frames;
+    acknowledgements_found += a.acknowledgements;
 }
 
 static const uint8_t size_of[16] = {1, 1, 1, 1, 1, 1, 1, 1, 2, 3, 4, 6, 8, 10, 14, 5};
@@ -309,6 +340,67 @@ static void random_frame(void)
         call(TAGOBRELIN_HOST_BYTE, 0xe5, 0, 0);
 }
 
+static size_t put_fixed_frame(uint8_t *at)
+{
+    at[0] = 0x10;
+    at[1] = at[2] = (uint8_t)(one_in(3) ? 0x40 : random_below(256));
+    at[3] = 0x16;
+    return 4;
+}
+
+/* a data frame with any bytes in it, `length` of them control and data; it is sound where they are 1 or more */
+static size_t put_data_frame(uint8_t *at, size_t length)
+{
+    uint8_t sum = 0;
+    at[0] = at[3] = 0x68;
+    at[1] = at[2] = (uint8_t)length;
+    for (size_t i = 4; i < 4 + length; i++)
+        sum = (uint8_t)(sum + (at[i] = (uint8_t)random_below(256)));
+    at[4 + length] = sum;
+    at[5 + length] = 0x16;
+    return length + 6;
+}
+
+/* frames and acknowledgements side by side, of few or of many bytes each; answers how many bytes they have */
+static size_t put_pieces(uint8_t *at, size_t most)
+{
+    size_t n = 0;
+    uint32_t kinds = 1 + random_below(6), longest = one_in(2) ? 12 : 255;
+    while (n < most)
+        switch (random_below(kinds)) {
+        case 0:
+        case 1:
+            for (uint32_t k = one_in(8) ? 1 + random_below(40) : 1; k; k--)
+                at[n++] = 0xe5;
+            break;
+        case 2:
+            n += put_fixed_frame(at + n);
+            break;
+        default:
+            n += put_data_frame(at + n, one_in(50) ? 0 : 1 + random_below(longest));
+        }
+    return n;
+}
+
+/* Some pieces, of which the last are mostly cut or altered; and some bytes that are none. */
+static void random_burst(void)
+{
+    static const uint8_t forms[] = {0xe5, 0x10, 0x68, 0x16, 0x00, 0x01};
+    size_t most = one_in(4) ? random_below(8) : one_in(2) ? random_below(300) : random_below(2100);
+    size_t n = put_pieces(burst, most);
+    if (one_in(2))
+        n -= random_below((uint32_t)(n < 270 ? n : 270) + 1);
+    for (uint32_t k = random_below(3); k && n; k--) {
+        size_t at = one_in(2) ? random_below((uint32_t)n) : n - 1 - random_below((uint32_t)(n < 270 ? n : 270));
+        burst[at] = (uint8_t)(one_in(2) ? forms[random_below(sizeof forms)] : random_below(256));
+    }
+    for (uint32_t k = one_in(6) ? random_below(8) : 0; k; k--)
+        burst[n++] = (uint8_t)(one_in(2) ? forms[random_below(sizeof forms)] : random_below(256));
+    if (random_below(8) && n > TAGOBRELIN_LONGEST_BURST)
+        n = TAGOBRELIN_LONGEST_BURST;
+    read_burst_by_both(n, one_in(20) ? 2040 + random_below(20) : TAGOBRELIN_LONGEST_BURST);
+}
+
 static uint8_t random_event(void)
 {
     return (uint8_t)(1 + random_below(6));
@@ -447,7 +539,7 @@ static void random_bus_value(void)
 static void something(void)
 {
     static const uint8_t reset[4] = {0x10, 0x40, 0x40, 0x16};
-    switch (random_below(13)) {
+    switch (random_below(14)) {
     case 0:
     case 1:
     case 2:
@@ -485,6 +577,10 @@ static void something(void)
         for (uint32_t n = 1 + random_below(6); n; n--)
             read_by_both(some_id());
         break;
+    case 12:
+        for (uint32_t n = 1 + random_below(6); n; n--)
+            random_burst();
+        break;
     default:
         if (one_in(20))
             call((uint8_t)random_below(256), 0, 0, (uint8_t)random_below(4));
@@ -516,6 +612,31 @@ static void every_value(void)
     }
 }
 
+/* Frames of each length, an E5 behind each: cut at each byte; each byte another one, and the last. Then bursts of E5, and
+ * of fixed frames, of each size. */
+static void every_frame(void)
+{
+    for (size_t length = 0; length < 256; length++) {
+        size_t n = put_data_frame(burst, length);
+        burst[n++] = 0xe5;
+        for (size_t cut = 0; cut <= n; cut++)
+            read_burst_by_both(cut, TAGOBRELIN_LONGEST_BURST);
+        for (size_t at = 0; at < n; at++) {
+            uint8_t was = burst[at];
+            burst[at] = (uint8_t)(was + 1 + random_below(255));
+            read_burst_by_both(n, TAGOBRELIN_LONGEST_BURST);
+            read_burst_by_both(at + 1, TAGOBRELIN_LONGEST_BURST);
+            burst[at] = was;
+        }
+    }
+    memset(burst, 0xe5, sizeof burst);
+    for (size_t n = 0; n <= 2049; n++)
+        read_burst_by_both(n, TAGOBRELIN_LONGEST_BURST);
+    for (size_t n = 0; n < 2048; n += put_fixed_frame(burst + n))
+        read_burst_by_both(n, TAGOBRELIN_LONGEST_BURST);
+    read_burst_by_both(2048, TAGOBRELIN_LONGEST_BURST);
+}
+
 int main(int argc, char **argv)
 {
     if (argc > 1)
@@ -528,6 +649,7 @@ int main(int argc, char **argv)
             something();
     }
     every_value();
+    every_frame();
     printf("%lu calls, the same answers and the same bytes; the longest reply has %lu\n", calls, longest);
     printf("  refused: no event %lu, 1: %lu, 2: %lu, 3: %lu, 4: %lu\n", refused[0], refused[1], refused[2], refused[3], refused[4]);
     printf("  accepted: host byte %lu, idle mark %lu, ack wait over %lu (%lu sent again), poll %lu (%lu indications), bus value %lu, outcome %lu\n", accepted[1],
@@ -544,6 +666,12 @@ int main(int argc, char **argv)
     printf("; refused 1: %lu, 4: %lu\n", read_refused[1], read_refused[4]);
     if (!cases[1] || !cases[2] || !cases[3] || !cases[4] || !cases[5] || !read_refused[1] || !read_refused[4]) {
         printf("never met: a case of a reading, or a refusal\n");
+        return 1;
+    }
+    printf("  %lu bursts with %lu frames and %lu acknowledgements: clean %lu, damaged %lu, unfinished %lu; refused %lu\n",
+           bursts, frames_found, acknowledgements_found, endings[1], endings[2], endings[3], bursts_refused);
+    if (!endings[1] || !endings[2] || !endings[3] || !bursts_refused) {
+        printf("never met: an ending of a burst, or its refusal\n");
         return 1;
     }
     static const int codes[] = {0, 2, 3, 6, 10};

@@ -1,22 +1,26 @@
 /* Tagobrelin in C: what libtagobrelin.a exports, and over it the face that a program uses: struct tagobrelin_server,
- * one function an event and one for readings, at the end of this file.
+ * one function an event, one for readings and one for bursts, at the end of this file.
  *
- * The archive's three functions, tagobrelin_call, tagobrelin_fresh_link and tagobrelin_read, are proved to do what
- * crates/tagobrelin/src/exported.rt promises, for every content of the memory that they are lent. They keep no state of
- * their own, use no heap, and need memcpy and memset of the C library. The proof speaks of a caller that keeps the rules
- * below: nothing checks a C caller.
+ * The archive's four functions, tagobrelin_call, tagobrelin_fresh_link, tagobrelin_read and tagobrelin_read_burst, are
+ * proved to do what crates/tagobrelin/src/exported.rt promises, for every content of the memory that they are lent. They
+ * keep no state of their own, use no heap, and need memcpy and memset of the C library. The proof speaks of a caller that
+ * keeps the rules below: nothing checks a C caller.
  *
  * A caller guarantees, at each call:
  *   - No pointer is null, not even one whose count is 0: pass the address of any byte then. (The face does.)
  *   - Behind each pointer lies as much memory as its count says, and the counts are elements, not bytes. The size of a
  *     list of texts is bytes.
- *   - Datapoints, items and the link record lie at even addresses. (As C objects of these types they do.)
+ *   - Datapoints, items, the link record and a run of places lie at even addresses. (As C objects of these types they
+ *     do.)
  *   - Value and the two lists of texts are only read: they may lie in flash, and may overlap each other, but nothing
  *     else. All other runs of memory overlap nothing and lie in memory that can be written.
  *   - Nobody else writes to any of them while the call runs. So two calls for one server are never made at the same
  *     time, also not one of them in an interrupt or another thread; for two servers that share no memory they may be.
  *   - tagobrelin_read only reads its table, which may lie in flash. Two readings may be made at the same time, but
  *     none while a call with the same table runs, which may write there.
+ *   - tagobrelin_read_burst only reads its burst, which may lie in flash, and writes to its run of places. It knows no
+ *     server: two bursts may be read at the same time, each into a run of its own, and also while a call runs that
+ *     writes to neither.
  *   - While tagobrelin_read runs, which divides once, floating point rounds to nearest and traps nothing: so it is in a
  *     C program that has not changed it.
  * The contents may be anything: what is not in order is refused by number, and then no byte of anything is changed.
@@ -27,13 +31,13 @@
 #include <stddef.h>
 #include <stdint.h>
 
-/* By semver.org, for the face at the end of this file. What it stands on, tagobrelin_call, tagobrelin_read and the
- * records' layout, and what a host is answered may change in a minor version: header and archive are always taken
- * together. CHANGELOG.md tells what changed. */
+/* By semver.org, for the face at the end of this file. What it stands on, tagobrelin_call, tagobrelin_read,
+ * tagobrelin_read_burst and the records' layout, and what a host is answered may change in a minor version: header and
+ * archive are always taken together. CHANGELOG.md tells what changed. */
 #define TAGOBRELIN_VERSION_MAJOR 1
-#define TAGOBRELIN_VERSION_MINOR 5
+#define TAGOBRELIN_VERSION_MINOR 6
 #define TAGOBRELIN_VERSION_PATCH 0
-#define TAGOBRELIN_VERSION "1.5.0"
+#define TAGOBRELIN_VERSION "1.6.0"
 
 #ifdef __cplusplus
 extern "C" {
@@ -156,6 +160,35 @@ enum { TAGOBRELIN_ABSENT = -4 }; /* no datapoint has the ID */
 struct tagobrelin_reading tagobrelin_read(uint16_t id, const struct tagobrelin_datapoint *datapoints,
                                           size_t datapoint_count);
 
+/* A burst, everything that came between two idle marks, read at once: what it holds by the receiver's own rules, from a
+ * frame start on. Where it is refused, both counts are 0. */
+struct tagobrelin_burst {
+    int32_t number;            /* one of the three endings; or TAGOBRELIN_BAD_BURST */
+    uint16_t frames;           /* sound frames, those too that a server ignores */
+    uint16_t acknowledgements; /* E5 */
+};
+
+/* The three endings. */
+enum {
+    TAGOBRELIN_CLEAN = 1,     /* with the last byte of a frame or an acknowledgement, or there was no byte */
+    TAGOBRELIN_DAMAGED = 2,   /* a byte broke the forms: the frame that it stood in is dropped, and all behind it, whole
+                                 frames too */
+    TAGOBRELIN_UNFINISHED = 3 /* in mid-frame */
+};
+
+/* The most bytes of a burst, and the fewest places for its starts. */
+enum { TAGOBRELIN_LONGEST_BURST = 2048 };
+
+/* The refusal: more bytes, or fewer places. */
+enum { TAGOBRELIN_BAD_BURST = -8 };
+
+/* Reads a burst. Where each frame and each acknowledgement starts, counted in bytes from 0, goes into the first places
+ * of `starts`, in order; the places behind them are as they were. What starts at a place is an acknowledgement where its
+ * byte is E5, else a frame: of 4 bytes where its byte is 10, else of as many as its second byte says, and 6 more.
+ * Refused: no place was changed. */
+struct tagobrelin_burst tagobrelin_read_burst(const uint8_t *burst, size_t byte_count,
+                                              uint16_t *starts, size_t place_count);
+
 /* ---- The face. Later versions add members and functions and take none away.
  *
  * A server: the tables that it holds, its end of the line, and what it sends. It is static or zeroed before its members
@@ -255,6 +288,19 @@ static inline struct tagobrelin_reading tagobrelin_reading_of(const struct tagob
     return tagobrelin_read(id, server->datapoints ? server->datapoints : &no_datapoint, server->datapoint_count);
 }
 
+/* What a burst holds. It may be null where it has no byte; null with bytes is refused. `starts` has
+ * TAGOBRELIN_LONGEST_BURST places, which nothing checks. No server is asked, and none is told. */
+static inline struct tagobrelin_burst tagobrelin_burst_of(const uint8_t *burst, size_t byte_count,
+                                                          uint16_t starts[TAGOBRELIN_LONGEST_BURST])
+{
+    /* Something that exists stands where there is no byte. */
+    const uint8_t no_byte = 0;
+    const struct tagobrelin_burst no_burst = {TAGOBRELIN_BAD_BURST, 0, 0};
+    if (!burst && byte_count > 0)
+        return no_burst;
+    return tagobrelin_read_burst(burst ? burst : &no_byte, byte_count, starts, TAGOBRELIN_LONGEST_BURST);
+}
+
 /* 1 where a frame is outstanding: sent, and not acknowledged yet. */
 static inline int tagobrelin_is_outstanding(const struct tagobrelin_server *server)
 {
@@ -324,6 +370,10 @@ TAGOBRELIN_ASSERT(sizeof(struct tagobrelin_reading) == 12);
 TAGOBRELIN_AT(reading, number, 0);
 TAGOBRELIN_AT(reading, whole, 4);
 TAGOBRELIN_AT(reading, value, 8);
+TAGOBRELIN_ASSERT(sizeof(struct tagobrelin_burst) == 8);
+TAGOBRELIN_AT(burst, number, 0);
+TAGOBRELIN_AT(burst, frames, 4);
+TAGOBRELIN_AT(burst, acknowledgements, 6);
 #undef TAGOBRELIN_AT
 #undef TAGOBRELIN_ASSERT
 #undef TAGOBRELIN_ASSERT_AT

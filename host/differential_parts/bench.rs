@@ -1,8 +1,8 @@
 //! One call at a time on both sides, and their comparison. The first difference ends the run.
 
 use crate::counts::Counts;
-use crate::lent::{Call, Lent, Numbers, ROOM_AT_MOST};
-use crate::plain::{call, reading, Event, Outcome, Reading, Server};
+use crate::lent::{BurstNumbers, Call, Lent, LentBurst, Numbers, ROOM_AT_MOST};
+use crate::plain::{burst, call, reading, Burst, Ending, Event, Outcome, Reading, Server};
 use crate::random::Random;
 use crate::{seen, tables};
 
@@ -11,6 +11,9 @@ pub type Answer = Result<Vec<u8>, i32>;
 
 /// What a reading is: the case and what it carries, or the number below 0 that the C function returns.
 pub type Read = Result<Reading, i32>;
+
+/// What a burst holds: the counts, the ending and the starts; or the number below 0 that the C function returns.
+pub type Found = Result<(Burst, Vec<u16>), i32>;
 
 pub const NO_EVENT: i32 = -100;
 
@@ -22,9 +25,11 @@ pub struct Bench {
     pub counts: Counts,
     pub random: Random,
     pub calls: u64,
-    /// How many of the calls were readings.
+    /// How many of the calls were readings, and how many bursts.
     pub readings: u64,
+    pub bursts: u64,
     lent: Lent,
+    lent_burst: LentBurst,
     seed: u64,
     episode: u64,
     calls_before: u64,
@@ -47,7 +52,9 @@ impl Bench {
             random: Random::new(0),
             calls: 0,
             readings: 0,
+            bursts: 0,
             lent: Lent::new(),
+            lent_burst: LentBurst::new(),
             seed,
             episode: 0,
             calls_before: 0,
@@ -202,6 +209,35 @@ impl Bench {
         read
     }
 
+    /// Reads a burst by both, into a run of so many places, and compares: the same numbers, the same places, and no
+    /// other byte is changed.
+    pub fn burst(&mut self, bytes: &[u8], place_count: usize) -> Found {
+        self.calls += 1;
+        self.bursts += 1;
+        let told = || format!("burst of {} bytes into {place_count} places: {bytes:02X?}", bytes.len());
+        if self.upto == Some(self.calls) {
+            println!("call {}: {}", self.calls, told());
+        }
+        self.lent_burst.lay_out(bytes, place_count, self.random.next());
+        let archive = self.lent_burst.read();
+        let mut run = self.lent_burst.run_before();
+        let read = burst(bytes, &mut run).map_err(|number| -i32::from(number));
+        let plain = burst_numbers_of(&read);
+        if !self.lent_burst.is(&run) || archive != plain {
+            let mut differences = vec![format!("returned: archive {archive:?}, plain {plain:?}")];
+            differences.extend(self.lent_burst.differences());
+            self.fail(&told(), &differences);
+        }
+        run.truncate(usize::from(plain.frames) + usize::from(plain.acknowledgements));
+        let found = read.map(|read| (read, run));
+        seen::burst(&mut self.counts, bytes, place_count, &found);
+        if self.upto == Some(self.calls) {
+            println!("answer of both: {found:?}");
+            std::process::exit(0);
+        }
+        found
+    }
+
     fn call_both(&mut self, given: &Call) -> Answer {
         self.calls += 1;
         if self.upto == Some(self.calls) {
@@ -241,6 +277,10 @@ impl Bench {
 
     pub fn misread(&self, aim: &str, read: &Read) -> ! {
         self.fail(&format!("aimed at: {aim}"), &[format!("reading of both: {read:X?}")]);
+    }
+
+    pub fn misfound(&self, aim: &str, found: &Found) -> ! {
+        self.fail(&format!("aimed at: {aim}"), &[format!("found by both: {found:?}")]);
     }
 
     fn fail(&self, what: &str, differences: &[String]) -> ! {
@@ -303,6 +343,20 @@ fn numbers_of(read: &Read) -> Numbers {
         Ok(Reading::Unreadable) => (5, 0, 0),
     };
     Numbers { number, whole, bits }
+}
+
+fn burst_numbers_of(read: &Result<Burst, i32>) -> BurstNumbers {
+    match read {
+        Err(number) => BurstNumbers { number: *number, frames: 0, acknowledgements: 0 },
+        Ok(Burst { frames, acknowledgements, ending }) => {
+            let number = match ending {
+                Ending::Clean => 1,
+                Ending::Damaged => 2,
+                Ending::Unfinished => 3,
+            };
+            BurstNumbers { number, frames: *frames, acknowledgements: *acknowledgements }
+        }
+    }
 }
 
 fn told(call: &Call) -> String {

@@ -1,6 +1,7 @@
 //! The first episode: one thing at a time goes through all its values.
 
 use crate::bench::{Bench, Read, NO_EVENT};
+use crate::bursts;
 use crate::frames;
 use crate::lent::Call;
 use crate::plain::{Datapoint, Item, Reading, Server};
@@ -12,7 +13,7 @@ pub fn lists() -> Vec<(&'static str, Vec<&'static str>)> {
     vec![(NAME, EVERY.iter().map(|(label, _)| *label).collect())]
 }
 
-const EVERY: [(&str, fn(&mut Bench)); 31] = [
+const EVERY: [(&str, fn(&mut Bench)); 40] = [
     ("room 0 to 263, each event", rooms),
     ("event 0 to 255, outcome 0 to 255", events),
     ("host byte at each place of a frame", bytes_in_frames),
@@ -44,6 +45,15 @@ const EVERY: [(&str, fn(&mut Bench)); 31] = [
     ("readings: each DPT with each type, valid and not", dpts_and_types),
     ("readings: each ID of a table and those beside it; 0 to 40 and 999 to 1001 datapoints", ids_read),
     ("readings: each bit of a datapoint, each type code, state and mark", bits_read),
+    ("bursts: a frame of each L, 0 too, cut at each byte", bursts::cut_frames),
+    ("bursts: a frame of each L, each byte changed", bursts::changed_frames),
+    ("bursts: a frame of each L, each byte lost", bursts::lost_bytes),
+    ("bursts: as many frames of each L as there is room for", bursts::full_bursts),
+    ("bursts: E5 0 to 2048 times", bursts::acknowledgements),
+    ("bursts: a fixed frame of each C, cut, changed and with a byte lost", bursts::fixed_frames),
+    ("bursts: each byte behind a beginning of each form", bursts::last_bytes),
+    ("bursts: around 2048 bytes and 2048 places", bursts::sizes),
+    ("bursts: the same bytes through the call, one by one", bursts::one_by_one),
 ];
 
 /// All of them, each on small tables of its own.

@@ -28,6 +28,7 @@ extern "C" {
     ) -> i32;
     fn tagobrelin_fresh_link(link: *mut u8);
     fn tagobrelin_read(id: u16, datapoints: *const u8, datapoint_count: usize) -> Returned;
+    fn tagobrelin_read_burst(burst: *const u8, byte_count: usize, starts: *mut u8, place_count: usize) -> BurstNumbers;
 }
 
 /// struct tagobrelin_reading.
@@ -44,6 +45,15 @@ pub struct Numbers {
     pub number: i32,
     pub whole: u32,
     pub bits: u32,
+}
+
+/// struct tagobrelin_burst.
+#[repr(C)]
+#[derive(PartialEq, Debug)]
+pub struct BurstNumbers {
+    pub number: i32,
+    pub frames: u16,
+    pub acknowledgements: u16,
 }
 
 const DATAPOINT: usize = 22;
@@ -360,6 +370,77 @@ impl Lent {
 
     pub fn out(&self, count: usize) -> &[u8] {
         &self.memory[self.out..self.out + count.min(ROOM_AT_MOST)]
+    }
+}
+
+/// What a reader of bursts is lent: the burst and the run of places, one behind the other in one run of bytes; around
+/// both, bytes that no call may touch.
+pub struct LentBurst {
+    memory: Vec<u8>,
+    before: Vec<u8>,
+    burst: usize,
+    burst_size: usize,
+    run: usize,
+    place_count: usize,
+}
+
+impl LentBurst {
+    pub fn new() -> LentBurst {
+        LentBurst { memory: Vec::new(), before: Vec::new(), burst: 0, burst_size: 0, run: 0, place_count: 0 }
+    }
+
+    /// Lays the two out anew, at other addresses and in other bytes; the places hold any numbers.
+    pub fn lay_out(&mut self, bytes: &[u8], place_count: usize, seed: u64) {
+        let mut noise = Random::new(seed);
+        self.burst_size = bytes.len();
+        self.place_count = place_count;
+        let size = 2 * place_count;
+        self.memory.resize(bytes.len() + size + 3 * 32, 0);
+        let gaps = (noise.between(16, 31), noise.between(16, 31));
+        (self.burst, self.run) =
+            if noise.coin() { (gaps.0, gaps.0 + bytes.len() + gaps.1) } else { (gaps.0 + 1 + size + gaps.1, gaps.0) };
+        // places stand at even addresses
+        self.run += (self.memory.as_ptr() as usize + self.run) % 2;
+        noise.fill(&mut self.memory);
+        self.memory[self.burst..self.burst + bytes.len()].copy_from_slice(bytes);
+        self.before.clone_from(&self.memory);
+    }
+
+    /// Reads the burst by the C function.
+    pub fn read(&mut self) -> BurstNumbers {
+        let memory = self.memory.as_mut_ptr();
+        unsafe {
+            tagobrelin_read_burst(memory.add(self.burst), self.burst_size, memory.add(self.run), self.place_count)
+        }
+    }
+
+    /// The places before it was read.
+    pub fn run_before(&self) -> Vec<u16> {
+        let run = &self.before[self.run..self.run + 2 * self.place_count];
+        run.chunks_exact(2).map(|place| u16::from_ne_bytes([place[0], place[1]])).collect()
+    }
+
+    /// Whether the places are these now, and every other byte is as before.
+    pub fn is(&mut self, run: &[u16]) -> bool {
+        for (at, place) in run.iter().enumerate() {
+            self.before[self.run + 2 * at..][..2].copy_from_slice(&place.to_ne_bytes());
+        }
+        self.memory == self.before
+    }
+
+    /// Each byte that is not so, by name.
+    pub fn differences(&self) -> Vec<String> {
+        let name_of = |at: usize| match at {
+            _ if (self.burst..self.burst + self.burst_size).contains(&at) => format!("burst[{}]", at - self.burst),
+            _ if (self.run..self.run + 2 * self.place_count).contains(&at) => {
+                format!("starts[{}] (byte {})", (at - self.run) / 2, (at - self.run) % 2)
+            }
+            _ => format!("a byte that was not lent, at {at}"),
+        };
+        (0..self.memory.len())
+            .filter(|at| self.memory[*at] != self.before[*at])
+            .map(|at| format!("{}: archive {:02X}, plain {:02X}", name_of(at), self.memory[at], self.before[at]))
+            .collect()
     }
 }
 

@@ -1,9 +1,10 @@
 //! What a call did, told from the link record before it, the call, and its answer. It only counts.
 
-use crate::bench::{Answer, Read};
+use crate::bench::{Answer, Found, Read};
+use crate::bursts;
 use crate::counts::{Counts, Matrix};
 use crate::lent::Call;
-use crate::plain::{Datapoint, Link, Reading, Server};
+use crate::plain::{Burst, Datapoint, Ending, Link, Reading, Server};
 use crate::requests::{self, Texts};
 use crate::tables::{found, takes, texts_by_id, type_of, used_bits, SIZES};
 
@@ -179,10 +180,14 @@ pub fn lists() -> Vec<(&'static str, Vec<&'static str>)> {
         ("other events", EVENTS.to_vec()),
         ("requests carried out", REQUESTS.to_vec()),
         ("readings", READ.to_vec()),
+        ("bursts", BURSTS.to_vec()),
+        ("bursts, damage is found at", FOUND_AT.to_vec()),
+        ("bursts, unfinished behind", BROKEN_OFF.to_vec()),
         ("fresh link", vec!["made where another record stood"]),
         ("requests, by aim", requests::AIMS.to_vec()),
     ];
     lists.extend(crate::walk::lists());
+    lists.extend(bursts::lists());
     lists.extend(crate::broken::lists());
     lists.extend(crate::garbage::lists());
     lists.extend(crate::every::lists());
@@ -332,6 +337,175 @@ const READ: [&str; 36] = [
     "a single that is not a number",
 ];
 
+const BURSTS: [&str; 32] = [
+    "refused, 2049 bytes",
+    "refused, more bytes",
+    "refused, 2047 places",
+    "refused, fewer places",
+    "refused, for both",
+    "no byte",
+    "2048 bytes",
+    "2049 places",
+    "more places",
+    "clean, frames alone",
+    "clean, acknowledgements alone",
+    "clean, both",
+    "damaged, nothing found before",
+    "damaged behind a frame",
+    "damaged behind an acknowledgement",
+    "damaged, with a reset at the end",
+    "damaged, with E5 at the end",
+    "unfinished, nothing found before",
+    "unfinished behind a frame",
+    "unfinished behind an acknowledgement",
+    "one frame",
+    "100 frames or more",
+    "512 frames",
+    "2048 acknowledgements",
+    "the reset",
+    "a fixed frame with another C",
+    "a data frame with a host's control byte",
+    "a data frame with a server's control byte",
+    "a data frame with another control byte",
+    "a data frame of L = 1",
+    "a data frame of 261 bytes",
+    "a data frame with E5 within",
+];
+
+const BROKEN_OFF: [&str; 10] = [
+    "68",
+    "L",
+    "the second L",
+    "the head",
+    "a part of control and data",
+    "all of control and data",
+    "the checksum",
+    "10",
+    "C",
+    "the second C",
+];
+
+/// Counts a burst, by its refusal or by what it holds.
+pub fn burst(counts: &mut Counts, bytes: &[u8], place_count: usize, found: &Found) {
+    let (is_long, is_short) = (bytes.len() > bursts::MOST, place_count < bursts::MOST);
+    let Ok((burst, starts)) = found else {
+        let label = match (bytes.len(), place_count) {
+            _ if is_long && is_short => "refused, for both",
+            (2049, _) => "refused, 2049 bytes",
+            (_, 2047) => "refused, 2047 places",
+            _ if is_long => "refused, more bytes",
+            _ => "refused, fewer places",
+        };
+        return counts.hit("bursts", label);
+    };
+    let Burst { frames, acknowledgements, ending } = burst;
+    let pieces: Vec<&[u8]> = starts.iter().map(|start| piece_at(bytes, usize::from(*start))).collect();
+    let rest = &bytes[pieces.iter().map(|piece| piece.len()).sum()..];
+    let (is_clean, is_damaged) = (*ending == Ending::Clean, *ending == Ending::Damaged);
+    let is_unfinished = *ending == Ending::Unfinished;
+    let (is_behind_ack, is_behind_frame) =
+        pieces.last().map_or((false, false), |last| (last[0] == 0xE5, last[0] != 0xE5));
+    hit_of(
+        counts,
+        "bursts",
+        &[
+            ("no byte", bytes.is_empty()),
+            ("2048 bytes", bytes.len() == bursts::MOST),
+            ("2049 places", place_count == 2049),
+            ("more places", place_count > 2049),
+            ("clean, frames alone", is_clean && *frames > 0 && *acknowledgements == 0),
+            ("clean, acknowledgements alone", is_clean && *frames == 0 && *acknowledgements > 0),
+            ("clean, both", is_clean && *frames > 0 && *acknowledgements > 0),
+            ("damaged, nothing found before", is_damaged && pieces.is_empty()),
+            ("damaged behind a frame", is_damaged && is_behind_frame),
+            ("damaged behind an acknowledgement", is_damaged && is_behind_ack),
+            ("damaged, with a reset at the end", is_damaged && rest.ends_with(&[0x10, 0x40, 0x40, 0x16])),
+            ("damaged, with E5 at the end", is_damaged && rest.len() > 1 && rest.ends_with(&[0xE5])),
+            ("unfinished, nothing found before", is_unfinished && pieces.is_empty()),
+            ("unfinished behind a frame", is_unfinished && is_behind_frame),
+            ("unfinished behind an acknowledgement", is_unfinished && is_behind_ack),
+            ("one frame", *frames == 1),
+            ("100 frames or more", *frames >= 100),
+            ("512 frames", *frames == 512),
+            ("2048 acknowledgements", *acknowledgements == 2048),
+        ],
+    );
+    if let Some(frame) = pieces.iter().rfind(|piece| piece[0] != 0xE5) {
+        frame_found(counts, frame);
+    }
+    if is_damaged {
+        counts.hit("bursts, damage is found at", damaged_at(rest));
+    }
+    if is_unfinished {
+        counts.hit("bursts, unfinished behind", broken_off_behind(rest));
+    }
+}
+
+/// What starts at this place of a burst, where something sound does.
+fn piece_at(bytes: &[u8], start: usize) -> &[u8] {
+    let size = match bytes[start] {
+        0xE5 => 1,
+        0x10 => 4,
+        _ => 6 + usize::from(bytes[start + 1]),
+    };
+    &bytes[start..start + size]
+}
+
+/// Counts the last frame of a burst.
+fn frame_found(counts: &mut Counts, frame: &[u8]) {
+    let label = match (frame[0], frame[1], frame.get(4)) {
+        (0x10, 0x40, _) => "the reset",
+        (0x10, _, _) => "a fixed frame with another C",
+        (_, _, Some(0x73 | 0x53)) => "a data frame with a host's control byte",
+        (_, _, Some(0xF3 | 0xD3)) => "a data frame with a server's control byte",
+        _ => "a data frame with another control byte",
+    };
+    let is_data = frame[0] == 0x68;
+    hit_of(
+        counts,
+        "bursts",
+        &[
+            (label, true),
+            ("a data frame of L = 1", is_data && frame.len() == 7),
+            ("a data frame of 261 bytes", is_data && frame.len() == 261),
+            ("a data frame with E5 within", is_data && frame.contains(&0xE5)),
+        ],
+    );
+}
+
+/// Where these bytes break the forms, from a frame start on.
+fn damaged_at(rest: &[u8]) -> &'static str {
+    match rest[0] {
+        0x10 if rest[2] != rest[1] => "the second C",
+        0x10 => "the last byte of a fixed frame",
+        0x68 if rest[1] == 0 => "L, which is 0",
+        0x68 if rest[2] != rest[1] => "the second L",
+        0x68 if rest[3] != 0x68 => "the fourth byte",
+        0x68 => {
+            let (content, behind) = rest[4..].split_at(usize::from(rest[1]));
+            let sum = content.iter().fold(0_u8, |sum, byte| sum.wrapping_add(*byte));
+            if behind[0] != sum {
+                "the checksum"
+            } else {
+                "the last byte of a data frame"
+            }
+        }
+        _ => "the first byte",
+    }
+}
+
+/// How far a frame came that these bytes are the beginning of.
+fn broken_off_behind(rest: &[u8]) -> &'static str {
+    let length = rest.get(1).map_or(0, |length| usize::from(*length));
+    match (rest[0], rest.len()) {
+        (0x10, count) => ["10", "C", "the second C"][count - 1],
+        (_, count @ 1..=4) => ["68", "L", "the second L", "the head"][count - 1],
+        (_, count) if count < 4 + length => "a part of control and data",
+        (_, count) if count == 4 + length => "all of control and data",
+        _ => "the checksum",
+    }
+}
+
 /// Counts a reading, by its refusal or by what was read.
 pub fn read(counts: &mut Counts, server: &Server, id: u16, read: &Read) {
     let datapoints = &server.datapoints;
@@ -339,8 +513,9 @@ pub fn read(counts: &mut Counts, server: &Server, id: u16, read: &Read) {
     match (read, place) {
         (Err(-1), place) => {
             let count = datapoints.len();
-            hit_those(
+            hit_of(
                 counts,
+                "readings",
                 &[
                     ("refused 1", true),
                     ("refused 1, the ID is absent too", place.is_none()),
@@ -363,10 +538,11 @@ pub fn read(counts: &mut Counts, server: &Server, id: u16, read: &Read) {
     }
 }
 
-fn hit_those(counts: &mut Counts, labels: &[(&'static str, bool)]) {
+/// Counts in this list what is so.
+pub fn hit_of(counts: &mut Counts, list: &'static str, labels: &[(&'static str, bool)]) {
     for (label, is_so) in labels {
         if *is_so {
-            counts.hit("readings", label);
+            counts.hit(list, label);
         }
     }
 }
@@ -375,8 +551,9 @@ fn hit_those(counts: &mut Counts, labels: &[(&'static str, bool)]) {
 fn given(counts: &mut Counts, server: &Server, at: usize, read: &Read) {
     let (datapoint, count) = (&server.datapoints[at], server.datapoints.len());
     let (is_first, is_last) = (at == 0, at + 1 == count);
-    hit_those(
+    hit_of(
         counts,
+        "readings",
         &[
             ("given, the only datapoint", is_first && is_last),
             ("given, the first of several", is_first && !is_last),

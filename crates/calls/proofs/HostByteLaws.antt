@@ -14,7 +14,7 @@ use Rattle.words.specs.Words.{isEmpty, put}
 use Rattle.ft12.specs.Frame.{acknowledgement, longestMessage}
 use Rattle.ft12.specs.Record.{Line, lineOf, linkOf, serverControl, inRange}
 use Rattle.ft12.specs.Rules.{Up, message, Moved, gathering, atStart, expecting, heardAt, onHeard, onHostByte, unread, afterHostByte, onIdleMark, onMessage}
-use Rattle.words.proofs.WordLaws.{T-true}
+use Rattle.words.proofs.WordLaws.{T-true, some-filled}
 use Rattle.words.proofs.ByteLaws.{length-put, put-put, put-read}
 use Rattle.ft12.proofs.FrameLaws.{frame-length}
 use Rattle.ft12.proofs.EventLaws.{put-none}
@@ -104,10 +104,6 @@ asked-done b n l m t h u =
     ap (λ (x : Up). handedUp x (onHostByte b l .sent) t (onHostByte b l .line)) u ∙ ap (λ (s : List ℕ). saying s (carriedOut t m) (onHostByte b l .line)) (asked-sent b n l h)
 
 -- ---- the answer taken back: its frame, at most 261 bytes
-some-bytes : (m : List ℕ) → 0 < length m → isEmpty m ≡ false
-some-bytes [] h = absurd (omega arith)
-some-bytes (x ∷ m) h = refl
-
 pub taken-short : (m : List ℕ) (l : Line) → length (onMessage m l .sent) ≤ 261
 unfolding onMessage
 taken-short m l = go (isEmpty m) (ltb longestMessage (length m)) (isEmpty (l .outstanding)) refl refl refl
@@ -120,7 +116,7 @@ taken-short m l = go (isEmpty m) (ltb longestMessage (length m)) (isEmpty (l .ou
 
 taken-frame : (m : List ℕ) (l : Line) → 7 ≤ length m → length m ≤ 254 → isEmpty (l .outstanding) ≡ true → length (onMessage m l .sent) ≡ length m + 7
 unfolding onMessage
-taken-frame m l h r e = simp (some-bytes m (omega arith), le-ltb 254 (length m) r, e) (frame-length (serverControl (l .send)) m)
+taken-frame m l h r e = simp (some-filled m (omega arith), le-ltb 254 (length m) r, e) (frame-length (serverControl (l .send)) m)
 
 taken-nothing : (m : List ℕ) (l : Line) → m ≡ [] → onMessage m l .sent ≡ []
 unfolding onMessage

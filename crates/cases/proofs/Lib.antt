@@ -1,2 +1,3 @@
+pub mod BurstLaws
 pub mod LentLaws
 pub mod ScriptLaws

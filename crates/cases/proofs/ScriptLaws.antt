@@ -19,6 +19,7 @@ use Rattle.bench.proofs.SameLaws.{false-true, refuted, shown, left-to}
 use Rattle.script.specs.declared.line.Line.{Line}
 use Rattle.script.specs.Line.{lines, lineEnd, readLine}
 use Rattle.script.specs.Record.{raised}
+use Rattle.cases.specs.Burst.{FindsAs}
 use Rattle.cases.specs.Lent.{built, bussed}
 use Rattle.cases.specs.Script.{listed, standing, started, marked, numbered, acted, Damaged, Right, AllRight, Played}
 use Rattle.script.proofs.LineLaws.{lines-next, end-within, end-some}
@@ -58,36 +59,42 @@ module _ (l : Line) (w : Bench) (s : Stand) (q : s .quiet ≡ true) where
   pub replied : {r : Bool} → l .letter ≡ 0x72 → Decides r (Sends (s .bench) (listed l)) → Decides r (Right l w s)
   replied e d =
       left-to d
-      (λ p. record { silent = q; reply = λ _. p; damage = λ x. absurd (omega (arith, e, x)); link = λ x. absurd (omega (arith, e, x)); tables = λ x. absurd (omega (arith, e, x)); reading = λ x. absurd (omega (arith, e, x)) })
+      (λ p. record { silent = q; reply = λ _. p; damage = λ x. absurd (omega (arith, e, x)); link = λ x. absurd (omega (arith, e, x)); tables = λ x. absurd (omega (arith, e, x)); reading = λ x. absurd (omega (arith, e, x)); burst = λ x. absurd (omega (arith, e, x)) })
       (λ y. y .reply e)
 
   pub damage-found : {r : Bool} → l .letter ≡ 0x78 → Decides r (Damaged (getD (l .bytes) 0 0) (s .place) (s .bench)) → Decides r (Right l w s)
   damage-found e d =
       left-to d
-      (λ p. record { silent = q; reply = λ x. absurd (omega (arith, e, x)); damage = λ _. p; link = λ x. absurd (omega (arith, e, x)); tables = λ x. absurd (omega (arith, e, x)); reading = λ x. absurd (omega (arith, e, x)) })
+      (λ p. record { silent = q; reply = λ x. absurd (omega (arith, e, x)); damage = λ _. p; link = λ x. absurd (omega (arith, e, x)); tables = λ x. absurd (omega (arith, e, x)); reading = λ x. absurd (omega (arith, e, x)); burst = λ x. absurd (omega (arith, e, x)) })
       (λ y. y .damage e)
 
   pub linked : {r : Bool} → l .letter ≡ 0x6C → Decides r (LinkIs (s .bench .link) (listed l)) → Decides r (Right l w s)
   linked e d =
       left-to d
-      (λ p. record { silent = q; reply = λ x. absurd (omega (arith, e, x)); damage = λ x. absurd (omega (arith, e, x)); link = λ _. p; tables = λ x. absurd (omega (arith, e, x)); reading = λ x. absurd (omega (arith, e, x)) })
+      (λ p. record { silent = q; reply = λ x. absurd (omega (arith, e, x)); damage = λ x. absurd (omega (arith, e, x)); link = λ _. p; tables = λ x. absurd (omega (arith, e, x)); reading = λ x. absurd (omega (arith, e, x)); burst = λ x. absurd (omega (arith, e, x)) })
       (λ y. y .link e)
 
   pub compared : {r : Bool} → l .letter ≡ 0x74 → Decides r (SameTables (s .bench) w) → Decides r (Right l w s)
   compared e d =
       left-to d
-      (λ p. record { silent = q; reply = λ x. absurd (omega (arith, e, x)); damage = λ x. absurd (omega (arith, e, x)); link = λ x. absurd (omega (arith, e, x)); tables = λ _. p; reading = λ x. absurd (omega (arith, e, x)) })
+      (λ p. record { silent = q; reply = λ x. absurd (omega (arith, e, x)); damage = λ x. absurd (omega (arith, e, x)); link = λ x. absurd (omega (arith, e, x)); tables = λ _. p; reading = λ x. absurd (omega (arith, e, x)); burst = λ x. absurd (omega (arith, e, x)) })
       (λ y. y .tables e)
 
   pub given : {r : Bool} → l .letter ≡ 0x67 → Decides r (ReadsAs (s .bench) (raised (l .bytes) 0 0) (take 7 (drop 2 (l .bytes)))) → Decides r (Right l w s)
   given e d =
       left-to d
-      (λ p. record { silent = q; reply = λ x. absurd (omega (arith, e, x)); damage = λ x. absurd (omega (arith, e, x)); link = λ x. absurd (omega (arith, e, x)); tables = λ x. absurd (omega (arith, e, x)); reading = λ _. p })
+      (λ p. record { silent = q; reply = λ x. absurd (omega (arith, e, x)); damage = λ x. absurd (omega (arith, e, x)); link = λ x. absurd (omega (arith, e, x)); tables = λ x. absurd (omega (arith, e, x)); reading = λ _. p; burst = λ x. absurd (omega (arith, e, x)) })
       (λ y. y .reading e)
 
-  pub nothing-asked : (l .letter ≡ 0x72 → ⊥) → (l .letter ≡ 0x78 → ⊥) → (l .letter ≡ 0x6C → ⊥) → (l .letter ≡ 0x74 → ⊥) → (l .letter ≡ 0x67 → ⊥) → Decides true (Right l w s)
-  nothing-asked nr nx nl nt ng =
-      shown (record { silent = q; reply = λ e. absurd (nr e); damage = λ e. absurd (nx e); link = λ e. absurd (nl e); tables = λ e. absurd (nt e); reading = λ e. absurd (ng e) })
+  pub found : {r : Bool} → l .letter ≡ 0x75 → Decides r (FindsAs (listed l)) → Decides r (Right l w s)
+  found e d =
+      left-to d
+      (λ p. record { silent = q; reply = λ x. absurd (omega (arith, e, x)); damage = λ x. absurd (omega (arith, e, x)); link = λ x. absurd (omega (arith, e, x)); tables = λ x. absurd (omega (arith, e, x)); reading = λ x. absurd (omega (arith, e, x)); burst = λ _. p })
+      (λ y. y .burst e)
+
+  pub nothing-asked : (l .letter ≡ 0x72 → ⊥) → (l .letter ≡ 0x78 → ⊥) → (l .letter ≡ 0x6C → ⊥) → (l .letter ≡ 0x74 → ⊥) → (l .letter ≡ 0x67 → ⊥) → (l .letter ≡ 0x75 → ⊥) → Decides true (Right l w s)
+  nothing-asked nr nx nl nt ng nu =
+      shown (record { silent = q; reply = λ e. absurd (nr e); damage = λ e. absurd (nx e); link = λ e. absurd (nl e); tables = λ e. absurd (nt e); reading = λ e. absurd (ng e); burst = λ e. absurd (nu e) })
 
 pub damage-decided : (asked place n : ℕ) (b : Bench) → place ≡ asked → b .link .dropping ≡ 1 → n ≡ countSent (b .reply) → Decides (eqb n 0) (Damaged asked place b)
 unfolding quiet

@@ -17,6 +17,7 @@ use Rattle.bench.specs.Same.{SameTables, LinkIs}
 use Rattle.script.specs.declared.line.Line.{Line}
 use Rattle.script.specs.Line.{lines, readLine}
 use Rattle.script.specs.Record.{raised}
+use Rattle.cases.specs.Burst.{FindsAs}
 use Rattle.cases.specs.Lent.{built, bussed}
 
 -- the bytes of a line
@@ -55,7 +56,7 @@ pub record Damaged (asked place : ℕ) (b : Bench) : Type 0 where
   pub drops : b .link .dropping ≡ 1
   pub silent : quiet b ≡ true
 
--- what was to be quiet was, and what the line l asks holds after it: the letters r, x, l, t and g
+-- what was to be quiet was, and what the line l asks holds after it: the letters r, x, l, t, g and u
 pub record Right (l : Line) (wanted : Bench) (s : Stand) : Type 0 where
   pub silent : s .quiet ≡ true
   pub reply : l .letter ≡ 0x72 → Sends (s .bench) (listed l)
@@ -63,6 +64,7 @@ pub record Right (l : Line) (wanted : Bench) (s : Stand) : Type 0 where
   pub link : l .letter ≡ 0x6C → LinkIs (s .bench .link) (listed l)
   pub tables : l .letter ≡ 0x74 → SameTables (s .bench) wanted
   pub reading : l .letter ≡ 0x67 → ReadsAs (s .bench) (raised (l .bytes) 0 0) (take 7 (drop 2 (l .bytes)))
+  pub burst : l .letter ≡ 0x75 → FindsAs (listed l)
 
 -- all that the lines ask holds, each after what the lines up to it did
 unfoldable pub AllRight : List (List ℕ) → Bench → Stand → Type 0

@@ -7,8 +7,10 @@ ghost use Rattle.bench.specs.Read.{ReadsAs};
 ghost use Rattle.bench.specs.Run.{Sends, standAfter};
 ghost use Rattle.bench.specs.Same.{Decides, LinkIs};
 ghost use Rattle.script.specs.Record.{raised};
+ghost use Rattle.cases.specs.Burst.{FindsAs};
 ghost use Rattle.cases.specs.Lent.{bussed};
 ghost use Rattle.cases.specs.Script.{listed, standing, started, marked, numbered, acted, Damaged, Right, Played};
+use crate::burst::has_found;
 use crate::lent::after_bus;
 use crate::lent::told;
 use crate::print::noted;
@@ -54,6 +56,9 @@ const TABLES: u8 = b't';
 // The reading of an ID is to be this: the ID; the case, or 00; the refusal, or 00; the whole number; the bits of the
 // floating one.
 const READING: u8 = b'g';
+// A burst is to hold this: how it ended, 01 to 03; how many sound frames; how many acknowledgements; where each starts.
+// Its bytes stand behind these.
+const BURST: u8 = b'u';
 
 // A server starts with the tables that are wanted.
 fn started(wanted: Bench, line: Line) -> Stand
@@ -176,6 +181,15 @@ fn given(bench: Bench, line: Line) -> bool
     has_read(bench, raised(a[0], a[1], 0), &a[2..9])
 }
 
+fn found(line: Line) -> bool
+    requires { ⌜ line .size ≤ 264 ⌝ }
+    ensures { λ r. ⌜ Decides r (FindsAs (listed line)) ⌝ }
+{
+    let a = line.bytes;
+    let n = line.size;
+    has_found(&a[..n])
+}
+
 // Whether what this line asks holds.
 fn holds(stand: Stand, wanted: Bench, line: Line) -> bool
     requires { ⌜ line .size ≤ 264 ⌝ }
@@ -199,6 +213,9 @@ fn holds(stand: Stand, wanted: Bench, line: Line) -> bool
     }
     if line.letter == READING {
         return given(b, line);
+    }
+    if line.letter == BURST {
+        return found(line);
     }
     true
 }

@@ -15,3 +15,4 @@ pub mod ClosedLaws
 pub mod ParametersLaws
 pub mod StringsLaws
 pub mod ReadingsLaws
+pub mod BurstsLaws

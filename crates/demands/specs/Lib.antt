@@ -12,3 +12,4 @@ pub mod Closed
 pub mod Parameters
 pub mod Strings
 pub mod Readings
+pub mod Bursts

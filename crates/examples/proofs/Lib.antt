@@ -5,3 +5,4 @@ pub mod Examples
 pub mod SecondRequest
 pub mod Demand3Met
 pub mod PremisesNeeded
+pub mod BurstsNeeded

@@ -55,7 +55,7 @@ stops : (g : List ℕ) (x : ℕ) (xs : List ℕ) → isMore (judged g x) ≡ fal
 unfolding isBeginning gathers
 stops g x xs e = gathers-append [] g (x ∷ xs) ∙ simp (e, and-false)
 
-damages : (g : List ℕ) (x : ℕ) (xs : List ℕ) → judged g x ≡ Damage → isBeginning (g ++ x ∷ xs) ≡ false
+pub damages : (g : List ℕ) (x : ℕ) (xs : List ℕ) → judged g x ≡ Damage → isBeginning (g ++ x ∷ xs) ≡ false
 damages g x xs e = stops g x xs (ap isMore e ∙ (unfold isMore in refl))
 
 part-begins : (xs ys : List ℕ) → T (isBeginning (xs ++ ys)) → isBeginning xs ≡ true
@@ -71,7 +71,7 @@ front-2 g h = front-1 g (omega arith) ∙ rw (drop-cons g 1 0 h)
 front-3 : (g : List ℕ) → 3 ≤ length g → g ≡ getD g 0 0 ∷ getD g 1 0 ∷ getD g 2 0 ∷ drop 3 g
 front-3 g h = front-2 g (omega arith) ∙ rw (drop-cons g 2 0 h)
 
-front-4 : (g : List ℕ) → 4 ≤ length g → g ≡ getD g 0 0 ∷ getD g 1 0 ∷ getD g 2 0 ∷ getD g 3 0 ∷ drop 4 g
+pub front-4 : (g : List ℕ) → 4 ≤ length g → g ≡ getD g 0 0 ∷ getD g 1 0 ∷ getD g 2 0 ∷ getD g 3 0 ∷ drop 4 g
 front-4 g h = front-3 g (omega arith) ∙ rw (drop-cons g 3 0 h)
 
 all-1 : (g : List ℕ) → length g ≡ 1 → g ≡ getD g 0 0 ∷ []

@@ -8,7 +8,7 @@ use lib.ListN.{length, take, getD}
 use lib.Seq.{take-suc}
 use Rattle.ft12.specs.Frame.{total, checksum}
 
-total-append : (xs ys : List ℕ) → total (xs ++ ys) ≡ total xs + total ys
+pub total-append : (xs ys : List ℕ) → total (xs ++ ys) ≡ total xs + total ys
 unfolding total
 total-append [] ys = omega arith
 total-append (x ∷ xs) ys = omega (arith, total-append xs ys)

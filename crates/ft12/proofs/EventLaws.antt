@@ -14,7 +14,7 @@ use Rattle.ft12.specs.Frame.{fixedFrame, dataFrame}
 use Rattle.ft12.specs.Record.{Line, linkWith, lineOf, linkOf, serverControl, memoryOk, inRange}
 use Rattle.ft12.specs.Rules.{Moved, nothing, dropped, still, atStart, cleared, holding, onIdleMark, onAckWaitOver, onMessage}
 use Rattle.ft12.specs.Promise.{AckWaited, MessageTaken}
-use Rattle.words.proofs.WordLaws.{left}
+use Rattle.words.proofs.WordLaws.{left, some-filled}
 use Rattle.words.proofs.ByteLaws.{put-read}
 use Rattle.ft12.proofs.FrameLaws.{frame-length}
 use Rattle.ft12.proofs.RecordLaws.{linkOf-lineOf}
@@ -164,10 +164,6 @@ message-length out at n h r s = length-take-le n (drop (at + 5) out) (omega (ari
 message-long : (out : List ℕ) (at n : ℕ) → at ≤ 1 → 262 ≤ length out → 254 < n → 254 < length (take n (drop (at + 5) out))
 message-long out at n h r s = omega (arith, length-take n (drop (at + 5) out), length-drop (at + 5) out)
 
-some-message : (m : List ℕ) → 0 < length m → isEmpty m ≡ false
-some-message [] h = absurd (omega arith)
-some-message (x ∷ m) h = refl
-
 module _ (k : Link) (out : List ℕ) (at n : ℕ) (t : T (inRange k)) (h : at ≤ 1) (r : 262 ≤ length out) where
   abbrev m : List ℕ
   m = take n (drop (at + 5) out)
@@ -188,7 +184,7 @@ module _ (k : Link) (out : List ℕ) (at n : ℕ) (t : T (inRange k)) (h : at �
   unfolding onMessage
   framed e s z =
       let l : length m ≡ n = message-length out at n h r s in
-      simp (held-empty k t, z, some-message m (omega arith), le-ltb 254 (length m) (omega arith)) (unfold lineOf in refl)
+      simp (held-empty k t, z, some-filled m (omega arith), le-ltb 254 (length m) (omega arith)) (unfold lineOf in refl)
 
   pub taken-framed : (control : ℕ) (out′ outstanding : List ℕ) → (n ≡ 0 → ⊥) → n ≤ 254 → k .held ≡ 0 → control ≡ c → out′ ≡ put out at (dataFrame control m)
       → outstanding ≡ put (k .outstanding) 0 (take (n + 7) (drop at out′))

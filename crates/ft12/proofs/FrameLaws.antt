@@ -153,6 +153,10 @@ pub frame-sound : (c : ℕ) (m : List ℕ) → T (areBytes (c ∷ m)) → length
 frame-sound c m t h = carries c m t h refl
 
 -- ---- Whole and its test
+pub fixed-length : (c : ℕ) → length (fixedFrame c) ≡ 4
+unfolding fixedFrame
+fixed-length c = refl
+
 pub frame-length : (c : ℕ) (m : List ℕ) → length (dataFrame c m) ≡ length m + 7
 unfolding dataFrame
 frame-length c m = omega (arith, length-append m (checksum (c ∷ m) ∷ 0x16 ∷ []))

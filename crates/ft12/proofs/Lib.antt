@@ -12,3 +12,5 @@ pub mod RequestLaws
 pub mod RulesLaws
 pub mod Types
 pub mod ChecksumLaws
+pub mod FrontLaws
+pub mod BurstLaws

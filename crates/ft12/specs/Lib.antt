@@ -4,3 +4,4 @@ pub mod Record
 pub mod Rules
 pub mod Promise
 pub mod Delivery
+pub mod Burst

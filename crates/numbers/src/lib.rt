@@ -1,2 +1,3 @@
-// Events and replies as the numbers that firmware gives and gets.
+// Events, replies and what a burst holds, as the numbers that firmware gives and gets.
+pub mod burst;
 pub mod numbers;

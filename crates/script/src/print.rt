@@ -10,21 +10,31 @@ fn number(n: u8) {
     io::print_decimal(STDOUT_FILENO, n as u64);
 }
 
-// A label and bytes in hexadecimal, 24 in a line.
+// What stands in front of the byte at place i: nothing, a blank, or a new line, which has 24 bytes.
+pub fn gap(i: usize) {
+    if i % 24 != 0 {
+        text(b" ");
+        return;
+    }
+    if i != 0 {
+        text(b"\n            ");
+    }
+}
+
+// A byte in hexadecimal.
+pub fn byte(b: u8) {
+    let high = b / 16;
+    let low = b % 16;
+    text(&[b'0' + high + high / 10 * 7, b'0' + low + low / 10 * 7]);
+}
+
+// A label and bytes.
 fn bytes(label: &[u8], s: &[u8]) {
     text(label);
     let mut i: usize = 0;
     while i < s.len() {
-        if i % 24 == 0 {
-            if i != 0 {
-                text(b"\n            ");
-            }
-        } else {
-            text(b" ");
-        }
-        let high = s[i] / 16;
-        let low = s[i] % 16;
-        text(&[b'0' + high + high / 10 * 7, b'0' + low + low / 10 * 7]);
+        gap(i);
+        byte(s[i]);
         i = i + 1;
     }
     text(b"\n");

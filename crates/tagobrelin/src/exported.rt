@@ -1,6 +1,7 @@
 // What firmware links.
 ghost use mathlib.Core.Path.{_≡_};
 ghost use Rattle.ft12.specs.Record.{linkOf};
+ghost use Rattle.ft12.specs.Burst.{readBurst, BurstGives};
 ghost use Rattle.baos.specs.Text.{textLists};
 ghost use Rattle.baos.specs.Table.{tablesOf};
 ghost use Rattle.calls.specs.Exported.{calledBy, Gives, freshLine};
@@ -8,8 +9,11 @@ ghost use Rattle.dpt.specs.Reading.{readingFor};
 ghost use Rattle.dpt.specs.Numbers.{readingReplyNumbers};
 use baos::datapoint::Datapoint;
 use baos::item::Item;
+use bursts::burst::read_burst;
 use dpt::reading::ReadingNumbers;
+use ft12::burst::BurstNumbers;
 use ft12::record::Link;
+use numbers::burst::burst_numbers;
 use numbers::numbers::event_numbered;
 use numbers::numbers::is_event;
 use numbers::numbers::reply_number;
@@ -65,6 +69,15 @@ pub extern "C" fn tagobrelin_read(id: u16, datapoints: &[Datapoint]) -> ReadingN
 {
     let reply = reading(id, datapoints);
     reply_numbers(reply)
+}
+
+// What a burst holds, by numbers: where each frame and each acknowledgement starts goes into the run.
+#[no_mangle]
+pub extern "C" fn tagobrelin_read_burst(burst: &[u8], starts: &mut [u16]) -> BurstNumbers
+    ensures { λ r. ⌜ BurstGives (readBurst (now (burst .entry)) (now (starts .entry))) r (now (starts .exit)) ⌝ }
+{
+    let reply = read_burst(burst, starts);
+    burst_numbers(reply)
 }
 
 // The link record that a reset leaves, by value.

@@ -2,7 +2,7 @@
 use Prim.Native.Nat.{ℕ, zero, suc, _+_, _-_, _≤_, _<_}
 use mathlib.Core.Path.{_≡_, refl, sym, _∙_, ap}
 use mathlib.Core.Logic.{_↔_}
-use mathlib.Core.Bool.{Bool, true, false, _&&_}
+use mathlib.Core.Bool.{Bool, true, false, not, _&&_}
 use mathlib.Core.List.{List, [], _∷_, _++_, map}
 use native.Mathlib.Omega.{arith}
 use lib.ListN.{length, getD, take, drop, replicate, length-append, length-drop, length-replicate, take-append-drop}
@@ -102,6 +102,25 @@ pub every-suffix : {A : Type 0} (p : A → Bool) (xs ys : List A) → T (every p
 every-suffix p [] ys t = t
 every-suffix p (x ∷ xs) ys t = every-suffix p xs ys (right (p x) (every p (xs ++ ys)) t)
 
+-- ---- what is kept
+pub keep-append : {A : Type 0} (p : A → Bool) (xs ys : List A) → keep p (xs ++ ys) ≡ keep p xs ++ keep p ys
+keep-append p [] ys = refl
+keep-append {A} p (x ∷ xs) ys = go (p x) refl (keep-append p xs ys)
+  where
+    go : (u : Bool) → p x ≡ u → keep p (xs ++ ys) ≡ keep p xs ++ keep p ys → keep p ((x ∷ xs) ++ ys) ≡ keep p (x ∷ xs) ++ keep p ys
+    go true e r = simp e (ap (λ (l : List A). x ∷ l) r)
+    go false e r = simp e r
+
+-- what passes a test and what does not are all
+pub kept-and-not : {A : Type 0} (p : A → Bool) (xs : List A) → length (keep (λ x. not (p x)) xs) + length (keep p xs) ≡ length xs
+kept-and-not p [] = refl
+kept-and-not {A} p (x ∷ xs) = go (p x) refl (kept-and-not p xs)
+  where
+    go : (u : Bool) → p x ≡ u → length (keep (λ (y : A). not (p y)) xs) + length (keep p xs) ≡ length xs
+        → length (keep (λ (y : A). not (p y)) (x ∷ xs)) + length (keep p (x ∷ xs)) ≡ length (x ∷ xs)
+    go true e r = simp e (omega (arith, r))
+    go false e r = simp e (omega (arith, r))
+
 -- ---- lists compared
 pub sameBy→eq : {A : Type 0} (eq : A → A → Bool) → ((x y : A) → T (eq x y) → x ≡ y) → (xs ys : List A) → T (sameBy eq xs ys) → xs ≡ ys
 sameBy→eq eq h [] [] t = refl
@@ -111,6 +130,10 @@ sameBy→eq {A} eq h (x ∷ xs) (y ∷ ys) t =
     let p : x ≡ y = h x y (left (eq x y) (sameBy eq xs ys) t) in
     let q : xs ≡ ys = sameBy→eq eq h xs ys (right (eq x y) (sameBy eq xs ys) t) in
     λ i. p i ∷ q i
+
+pub some-filled : {A : Type 0} (s : List A) → 0 < length s → isEmpty s ≡ false
+some-filled [] h = absurd (omega arith)
+some-filled (x ∷ s) h = refl
 
 pub empty-eq : {A : Type 0} (s : List A) → isEmpty s ≡ true → s ≡ []
 empty-eq [] e = refl

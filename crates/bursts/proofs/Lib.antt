@@ -1,0 +1,3 @@
+pub mod PieceLaws
+pub mod LoopLaws
+pub mod SumLaws

@@ -1,0 +1,113 @@
+-- A burst is read: what the reader answers and leaves decides whether the burst holds what a line says.
+use Prim.Native.Nat.{ℕ, _+_, _-_, _≤_, _<_, _^_}
+use mathlib.Core.Path.{_≡_, sym, _∙_, ap}
+use mathlib.Core.Bool.{Bool, false}
+use mathlib.Core.List.{List}
+use native.Mathlib.Omega.{arith}
+use lib.IntN.{ℤ, pos}
+use lib.ListN.{length, getD, take, drop, length-map, length-drop}
+use lib.Seq.{take-at, length-take-le}
+use lib.Dec.{eqb}
+use borrow.Author.Tests.{le-ltb, eqb-true, eq-eqb}
+use mir.Syntax.{w32}
+use mir.Val.{SFits, ofZ, toZ}
+use mir.Facts.{toZ-ofZ, toZ-pos}
+use Rattle.words.specs.Words.{put}
+use Rattle.words.proofs.WordLaws.{rest-whole, kept-and-not}
+use Rattle.ft12.specs.Burst.{Piece, contents, isAcknowledgement, figuresOf, startsOf, burstRefused, BurstCalled, readBurst, endingNumber, threeNumbers, burstNumbers, BurstLeaves}
+use Rattle.ft12.specs.declared.burst.BurstNumbers.{BurstNumbers}
+use Rattle.ft12.specs.declared.burst.BurstReply.{BurstReply}
+use Rattle.ft12.specs.declared.burst.BurstReply.the-variants.{Read}
+use Rattle.bench.specs.Same.{Decides}
+use Rattle.bench.proofs.SameLaws.{failed, left-to}
+use Rattle.cases.specs.Burst.{startCount, burstStart, burstOf, FindsAs}
+
+-- ---- three numbers, compared
+-- the code compares the bits of the first
+pub bits-tell : (z : ℤ) (n : ℕ) → SFits w32 z → n < 2 ^ 31 → ofZ w32 z ≡ n → z ≡ pos n
+bits-tell z n f l e = sym (toZ-ofZ f) ∙ ap (toZ w32) e ∙ toZ-pos w32 l
+
+module _ (n : BurstNumbers) (e f a : ℕ) where
+  pub numbers-decided : n .number ≡ pos e → n .frames ≡ f → Decides (eqb (n .acknowledgements) a) (n ≡ threeNumbers (pos e) f a)
+  numbers-decided p q = (
+    (λ t. let r = eqb-true (n .acknowledgements) a t in λ i. record { number = p i; frames = q i; acknowledgements = r i }),
+    (λ s. eq-eqb (n .acknowledgements) a (ap (λ (m : BurstNumbers). m .acknowledgements) s)),
+  )
+
+-- ---- the reader's answer n and its run
+pub record WasRead (a : List ℕ) (from : ℕ) (n : BurstNumbers) (run : List ℕ) : Type 0 where
+  pub at : from ≡ burstStart a
+  pub whole : from ≤ length a
+  pub short : length a - from ≤ 2048
+  pub lent : List ℕ
+  pub room : length lent ≡ 2048
+  pub reply : BurstReply
+  pub leaves : BurstLeaves (readBurst (take (length a - from) (drop from a)) lent) reply run
+  pub told : n ≡ burstNumbers reply
+
+-- the numbers that the line says, and the starts as they are lent
+abbrev pub numbersSaid : List ℕ → BurstNumbers
+numbersSaid a = threeNumbers (pos (getD a 0 0)) (getD a 1 0) (getD a 2 0)
+
+abbrev pub startsSaid : List ℕ → ℕ → List ℕ
+startsSaid a from = take (from - 3) (drop 3 a)
+
+module _ (a : List ℕ) (from : ℕ) (n : BurstNumbers) (run : List ℕ) (w : WasRead a from n run) where
+  abbrev B : List ℕ
+  B = burstOf a
+
+  short-burst : length B ≤ 2048
+  short-burst = omega (arith, w .at, w .short, length-drop (burstStart a) a)
+
+  burst-lent : take (length a - from) (drop from a) ≡ B
+  burst-lent = rest-whole from a ∙ ap (λ (k : ℕ). drop k a) (w .at)
+
+  read : readBurst (take (length a - from) (drop from a)) (w .lent) ≡ record { reply = Read (figuresOf (contents B)); run = put (w .lent) 0 (startsOf (contents B)) }
+  unfolding readBurst burstRefused
+  read = rw burst-lent (simp (le-ltb 2048 (length B) short-burst, le-ltb (length (w .lent)) 2048 (omega (arith, w .room))))
+
+  numbers-are : n ≡ threeNumbers (pos (endingNumber (contents B .ending))) (figuresOf (contents B) .frames) (figuresOf (contents B) .acknowledgements)
+  unfolding burstNumbers figuresOf
+  numbers-are = w .told ∙ w .leaves .reply ∙ ap (λ (c : BurstCalled). burstNumbers (c .reply)) read
+
+  pub other-numbers : {b : Bool} → Decides b (n ≡ numbersSaid a) → b ≡ false → Decides false (FindsAs a)
+  other-numbers d e = failed d e (λ f. numbers-are ∙ (λ i. threeNumbers (pos (f .ending i)) (f .frames i) (f .acknowledgements i)))
+
+  pub starts-long : length (startsSaid a from) ≡ startCount a
+  starts-long =
+      omega (arith, w .at, w .whole, length-drop 3 a, length-take-le (from - 3) (drop 3 a) (omega (arith, w .at, w .whole, length-drop 3 a)))
+
+  starts-said : startsSaid a from ≡ take (startCount a) (drop 3 a)
+  starts-said = ap (λ (k : ℕ). take k (drop 3 a)) {x = from - 3} {y = startCount a} (omega (arith, w .at))
+
+  starts-count : length (startsOf (contents B)) ≡ figuresOf (contents B) .frames + figuresOf (contents B) .acknowledgements
+  unfolding startsOf figuresOf
+  starts-count = length-map (contents B .pieces) (λ (p : Piece). p .start) ∙ sym (kept-and-not isAcknowledgement (contents B .pieces))
+
+  -- as many places as there are starts
+  first-places : (k : ℕ) → length (startsOf (contents B)) ≡ k → take k run ≡ startsOf (contents B)
+  unfolding put
+  first-places k e =
+      ap (take k) (w .leaves .run ∙ ap (λ (c : BurstCalled). c .run) read)
+      ∙ take-at (startsOf (contents B)) (drop (0 + length (startsOf (contents B))) (w .lent)) k e
+
+  pub starts-decide : {b : Bool} → n ≡ numbersSaid a → Decides b (take (length (startsSaid a from)) run ≡ startsSaid a from) → Decides b (FindsAs a)
+  starts-decide e d =
+      left-to d
+      (λ p. record { whole = omega (arith, w .at, w .whole); short = short-burst; ending = ending; frames = frames; acknowledgements = acknowledgements; starts = sym places ∙ p ∙ starts-said })
+      (λ f. places ∙ f .starts ∙ sym starts-said)
+    where
+      same : threeNumbers (pos (endingNumber (contents B .ending))) (figuresOf (contents B) .frames) (figuresOf (contents B) .acknowledgements) ≡ numbersSaid a
+      same = sym numbers-are ∙ e
+
+      ending : endingNumber (contents B .ending) ≡ getD a 0 0
+      ending = let p = ap (λ (m : BurstNumbers). m .number) same in cc
+
+      frames : figuresOf (contents B) .frames ≡ getD a 1 0
+      frames = ap (λ (m : BurstNumbers). m .frames) same
+
+      acknowledgements : figuresOf (contents B) .acknowledgements ≡ getD a 2 0
+      acknowledgements = ap (λ (m : BurstNumbers). m .acknowledgements) same
+
+      places : take (length (startsSaid a from)) run ≡ startsOf (contents B)
+      places = first-places (length (startsSaid a from)) (omega (arith, starts-count, frames, acknowledgements, starts-long))
