@@ -6,19 +6,19 @@ use mathlib.Core.List.{List, [], _∷_, _++_, append-nil, map, map-append}
 use native.Mathlib.Omega.{arith}
 use native.Mathlib.Decide.{ℕ-discrete}
 use lib.ListN.{length, getD, take, drop, set, length-append, length-map, length-drop, drop-of-length-le}
-use lib.Seq.{append-snoc, drop-cons, drop-drop, getD-drop, set-at}
+use lib.Seq.{append-snoc, drop-drop, getD-drop}
 use lib.Dec.{eqb}
-use borrow.Author.Tests.{le-ltb, lt-ltb, eq-eqb, ne-eqb}
+use borrow.Author.Tests.{eq-eqb, ne-eqb}
 use Rattle.words.specs.Words.{if_then_else_, yesOrNo, put, keep}
 use Rattle.words.proofs.WordLaws.{rest-whole, keep-append, kept-and-not}
-use Rattle.words.proofs.ByteLaws.{length-put}
+use Rattle.words.proofs.ByteLaws.{length-put, put-sets, put-put}
 use Rattle.ft12.specs.Receiver.{isBeginning}
-use Rattle.ft12.specs.Burst.{Piece, Contents, before, justEnds, contentsFrom, contents, firstSize, isAcknowledgement, isFrame, figuresOf, startsOf, burstRefused, readBurst, burstNumbers, BurstLeaves}
+use Rattle.ft12.specs.Burst.{Piece, Contents, before, justEnds, contentsFrom, contents, firstSize, isAcknowledgement, isFrame, figuresOf, startsOf, readBurst, burstNumbers, BurstLeaves}
 use Rattle.ft12.specs.declared.burst.Ending.{Ending}
 use Rattle.ft12.specs.declared.burst.Ending.the-variants.{Clean, Damaged, Unfinished}
 use Rattle.ft12.specs.declared.burst.BurstReply.{BurstReply}
 use Rattle.ft12.specs.declared.burst.BurstReply.the-variants.{Refused, Read}
-use Rattle.ft12.proofs.BurstLaws.{piece, Step, step, no-step, none-left, form-kind}
+use Rattle.ft12.proofs.BurstLaws.{piece, Step, step, no-step, none-left, form-kind, burst-read, burst-long, run-short}
 use Rattle.bursts.proofs.PieceLaws.{first, acknowledgement-first}
 
 abbrev pub startOf : Piece → ℕ
@@ -30,12 +30,9 @@ behind ps c = record { pieces = ps ++ c .pieces; ending = c .ending }
 
 -- the run with one start more
 put-next : (l vs : List ℕ) (x : ℕ) → length vs < length l → set (put l 0 vs) (length vs) x ≡ put l 0 (vs ++ x ∷ [])
-unfolding put
 put-next l vs x h =
-    let n : ℕ = length vs in
-    let a : drop (0 + n) l ≡ getD l n 0 ∷ drop (suc n) l = ap (λ (k : ℕ). drop k l) {x = 0 + n} {y = n} (omega arith) ∙ drop-cons l n 0 h in
-    let b : drop (suc n) l ≡ drop (0 + length (vs ++ x ∷ [])) l = ap (λ (k : ℕ). drop k l) {x = suc n} {y = 0 + length (vs ++ x ∷ [])} (omega (arith, length-append vs (x ∷ []))) in
-    rw a (set-at vs (getD l n 0) (drop (suc n) l) x n refl ∙ rw (← b) (sym (append-snoc vs x (drop (suc n) l))))
+    put-sets (x ∷ []) (put l 0 vs) (length vs) (omega (arith, h, length-put l 0 vs (omega (arith, h))))
+    ∙ put-put l 0 (length vs) vs (x ∷ []) (omega arith) (omega (arith, h))
 
 unfoldable pub acknowledgementsIn : List Piece → ℕ
 acknowledgementsIn ps = length (keep isAcknowledgement ps)
@@ -118,6 +115,12 @@ module _ (bs lent : List ℕ) where
       }
 
   module _ (short : length bs ≤ 2048) (room : 2048 ≤ length lent) where
+    -- the run is as long as it was
+    pub same-run : (at found acks : ℕ) (run : List ℕ) → SoFar bs lent at run found acks → length run ≡ length lent
+    same-run at found acks run f =
+        ap length (f .placed)
+        ∙ length-put lent 0 (map startOf (f .past)) (omega (arith, length-map (f .past) startOf, f .count, f .few, f .within))
+
     module _ (at found acks : ℕ) (run : List ℕ) (f : SoFar bs lent at run found acks) (h : at < length bs) where
       first-there : first (drop at bs) ≡ getD bs at 0
       first-there = getD-drop at bs 0 0 ∙ ap (λ (i : ℕ). getD bs i 0) {x = at + 0} {y = at} (omega arith)
@@ -165,8 +168,7 @@ module _ (bs lent : List ℕ) where
       room-left = omega (arith, h, size-fits (drop at bs), length-drop at bs)
 
       pub place-left : found < length run
-      place-left =
-          omega (arith, h, short, room, f .few, f .count, length-map (f .past) startOf, ap length (f .placed), length-put lent 0 (map startOf (f .past)) (omega (arith, h, short, room, length-map (f .past) startOf, f .count, f .few)))
+      place-left = omega (arith, h, short, room, f .few, same-run at found acks run f)
 
       -- the byte at `at`, as the functions are lent it
       pub first-lent : first (take (length bs - at) (drop at bs)) ≡ getD bs at 0
@@ -175,16 +177,6 @@ module _ (bs lent : List ℕ) where
       pub lent-filled : 0 < length (take (length bs - at) (drop at bs))
       lent-filled = omega (arith, h, ap length (rest-whole at bs), length-drop at bs)
 
-    -- the run is as long as it was
-    pub same-run : (at found acks : ℕ) (run : List ℕ) → SoFar bs lent at run found acks → length run ≡ length lent
-    same-run at found acks run f =
-        ap length (f .placed)
-        ∙ length-put lent 0 (map startOf (f .past)) (omega (arith, length-map (f .past) startOf, f .count, f .few, f .within))
-
-    read : readBurst bs lent ≡ record { reply = Read (figuresOf (contents bs)); run = put lent 0 (startsOf (contents bs)) }
-    unfolding readBurst burstRefused
-    read = simp (le-ltb 2048 (length bs) short, le-ltb (length lent) 2048 room)
-
     -- the loop ends here, with the reply r
     ends :
         (at found acks : ℕ) (run : List ℕ) (e : Ending) (r : BurstReply) → SoFar bs lent at run found acks → contentsFrom at [] (drop at bs) ≡ justEnds e
@@ -192,7 +184,7 @@ module _ (bs lent : List ℕ) where
     unfolding startsOf
     ends at found acks run e r f q told-is =
         let h : contents bs ≡ record { pieces = f .past; ending = e } = f .holds ∙ ap (behind (f .past)) q ∙ last (f .past) e in
-        rw read
+        rw (burst-read bs lent short room)
         (record {
           reply = ap burstNumbers (told-is ∙ ap Read (told found acks e (f .past) (f .count) (f .acknowledged) ∙ ap figuresOf (sym h)));
           run = f .placed ∙ ap (λ (w : Contents). put lent 0 (startsOf w)) (sym h);
@@ -214,9 +206,7 @@ module _ (bs lent : List ℕ) where
         ends at found acks run e r f (ended-at at s (omega (arith, h, length-drop at bs)) i ∙ ap justEnds j) told-is
 
   pub refused-long : 2048 < length bs → BurstLeaves (readBurst bs lent) (Refused 8) lent
-  unfolding readBurst burstRefused
-  refused-long h = simp (lt-ltb 2048 (length bs) h) (record { reply = refl; run = refl })
+  refused-long h = rw (burst-long bs lent h) (record { reply = refl; run = refl })
 
-  pub refused-short : length bs ≤ 2048 → length lent < 2048 → BurstLeaves (readBurst bs lent) (Refused 8) lent
-  unfolding readBurst burstRefused
-  refused-short h k = simp (le-ltb 2048 (length bs) h, lt-ltb (length lent) 2048 k) (record { reply = refl; run = refl })
+  pub refused-short : length lent < 2048 → BurstLeaves (readBurst bs lent) (Refused 8) lent
+  refused-short h = rw (run-short bs lent h) (record { reply = refl; run = refl })

@@ -5,19 +5,20 @@ use mathlib.Core.Bool.{Bool, false}
 use mathlib.Core.List.{List}
 use native.Mathlib.Omega.{arith}
 use lib.IntN.{ℤ, pos}
-use lib.ListN.{length, getD, take, drop, length-map, length-drop}
+use lib.ListN.{length, getD, take, drop, length-drop}
 use lib.Seq.{take-at, length-take-le}
 use lib.Dec.{eqb}
-use borrow.Author.Tests.{le-ltb, eqb-true, eq-eqb}
+use borrow.Author.Tests.{eqb-true, eq-eqb}
 use mir.Syntax.{w32}
 use mir.Val.{SFits, ofZ, toZ}
 use mir.Facts.{toZ-ofZ, toZ-pos}
 use Rattle.words.specs.Words.{put}
-use Rattle.words.proofs.WordLaws.{rest-whole, kept-and-not}
-use Rattle.ft12.specs.Burst.{Piece, contents, isAcknowledgement, figuresOf, startsOf, burstRefused, BurstCalled, readBurst, endingNumber, threeNumbers, burstNumbers, BurstLeaves}
+use Rattle.words.proofs.WordLaws.{rest-whole}
+use Rattle.ft12.specs.Burst.{contents, figuresOf, startsOf, BurstCalled, readBurst, endingNumber, threeNumbers, burstNumbers, BurstLeaves}
 use Rattle.ft12.specs.declared.burst.BurstNumbers.{BurstNumbers}
 use Rattle.ft12.specs.declared.burst.BurstReply.{BurstReply}
 use Rattle.ft12.specs.declared.burst.BurstReply.the-variants.{Read}
+use Rattle.ft12.proofs.BurstLaws.{starts-length, figures-sum, burst-read}
 use Rattle.bench.specs.Same.{Decides}
 use Rattle.bench.proofs.SameLaws.{failed, left-to}
 use Rattle.cases.specs.Burst.{startCount, burstStart, burstOf, FindsAs}
@@ -63,8 +64,7 @@ module _ (a : List ℕ) (from : ℕ) (n : BurstNumbers) (run : List ℕ) (w : Wa
   burst-lent = rest-whole from a ∙ ap (λ (k : ℕ). drop k a) (w .at)
 
   read : readBurst (take (length a - from) (drop from a)) (w .lent) ≡ record { reply = Read (figuresOf (contents B)); run = put (w .lent) 0 (startsOf (contents B)) }
-  unfolding readBurst burstRefused
-  read = rw burst-lent (simp (le-ltb 2048 (length B) short-burst, le-ltb (length (w .lent)) 2048 (omega (arith, w .room))))
+  read = rw burst-lent (burst-read B (w .lent) short-burst (omega (arith, w .room)))
 
   numbers-are : n ≡ threeNumbers (pos (endingNumber (contents B .ending))) (figuresOf (contents B) .frames) (figuresOf (contents B) .acknowledgements)
   unfolding burstNumbers figuresOf
@@ -81,8 +81,7 @@ module _ (a : List ℕ) (from : ℕ) (n : BurstNumbers) (run : List ℕ) (w : Wa
   starts-said = ap (λ (k : ℕ). take k (drop 3 a)) {x = from - 3} {y = startCount a} (omega (arith, w .at))
 
   starts-count : length (startsOf (contents B)) ≡ figuresOf (contents B) .frames + figuresOf (contents B) .acknowledgements
-  unfolding startsOf figuresOf
-  starts-count = length-map (contents B .pieces) (λ (p : Piece). p .start) ∙ sym (kept-and-not isAcknowledgement (contents B .pieces))
+  starts-count = starts-length (contents B) ∙ sym (figures-sum (contents B))
 
   -- as many places as there are starts
   first-places : (k : ℕ) → length (startsOf (contents B)) ≡ k → take k run ≡ startsOf (contents B)

@@ -2,22 +2,21 @@
 use Prim.Native.Nat.{ℕ, zero, suc, _+_, _-_, _≤_, _<_}
 use mathlib.Core.Path.{_≡_, refl, sym, _∙_, ap, subst}
 use mathlib.Core.Logic.{_⊎_, inl, inr}
-use mathlib.Core.Bool.{Bool, true, false, not, _&&_, _||_, or-true}
+use mathlib.Core.Bool.{Bool, true, false, not, _&&_, _||_}
 use mathlib.Core.List.{List, [], _∷_, _++_, append-nil}
 use native.Mathlib.Omega.{arith}
-use lib.ListN.{length, getD, take, drop, length-append, length-map, length-drop, take-append-drop, List·getD-map}
+use lib.ListN.{length, getD, take, drop, length-append, length-drop, take-append-drop, List·getD-map}
 use lib.Seq.{append-snoc, drop-append-add, take-at, getD-drop}
 use lib.Dec.{T, ltb, eqb}
-use borrow.Author.Tests.{le-ltb, lt-ltb}
 use Rattle.words.specs.Words.{if_then_else_, isEmpty, put, areBytes}
-use Rattle.words.proofs.WordLaws.{every-prefix, every-suffix, kept-and-not, some-filled, bytes-at}
+use Rattle.words.proofs.WordLaws.{every-prefix, every-suffix, some-filled, bytes-at}
 use Rattle.words.proofs.ByteLaws.{length-put, getD-put-within, getD-put-behind}
 use Rattle.ft12.specs.Frame.{acknowledgement, fixedFrame, checksum, dataFrame, longestMessage, Sound, fixed, carries}
 use Rattle.ft12.specs.Receiver.{judged, isMore, isBeginning}
 use Rattle.ft12.specs.Record.{Line, hostControl, serverControl}
 use Rattle.ft12.specs.Rules.{Moved, still, nothing, caseOf, caseOfAcknowledgement, caseOfFixed, caseOfData, heardAt, onHeard, onHostByte, onMessage, onIdleMark, atStart, startDropping, gathering, cleared, holding, expecting}
 use Rattle.ft12.specs.Delivery.{delivered}
-use Rattle.ft12.specs.Burst.{Piece, Contents, before, justEnds, gatheredAfter, withByte, contentsFrom, contents, isAcknowledgement, figuresOf, startsOf, burstRefused, BurstCalled, readBurst, BurstLeaves, BurstGives}
+use Rattle.ft12.specs.Burst.{Piece, Contents, before, justEnds, gatheredAfter, withByte, contentsFrom, contents, isAcknowledgement, figuresOf, startsOf, BurstCalled, readBurst, BurstLeaves, BurstGives}
 use Rattle.ft12.specs.declared.receiver.Judgement.{Judgement}
 use Rattle.ft12.specs.declared.receiver.Judgement.the-variants.{More, Damage, Acknowledgement, Fixed, Data}
 use Rattle.ft12.specs.declared.rules.Heard.{Heard}
@@ -32,7 +31,7 @@ use Rattle.ft12.proofs.ReceiverLaws.{beginning-on}
 use Rattle.ft12.proofs.BeginningLaws.{damages}
 use Rattle.ft12.proofs.FrameLaws.{begins-tested, tested-begins, fixed-length, frame-length}
 use Rattle.ft12.proofs.FrontLaws
-use Rattle.ft12.proofs.BurstLaws.{piece, none-left, stops-contents, broken-contents, form-contents, form-kind, by-pieces, reply-told}
+use Rattle.ft12.proofs.BurstLaws.{piece, none-left, stops-contents, broken-contents, form-contents, form-kind, by-pieces, starts-length, figures-sum, burst-read, burst-long, run-short, reply-told}
 use Rattle.demands.specs.Bursts
 
 -- ---- the receiver of the line
@@ -421,34 +420,25 @@ each-there burst k l =
     first-byte = ap (λ (i : ℕ). getD burst i 0) {x = o} {y = o + 0} (omega arith) ∙ sym (getD-drop o burst 0 0) ∙ ap (λ (l : List ℕ). getD l 0 0) stands
 
 -- ---- what is returned
-read-is : (burst run : List ℕ) → length burst ≤ 2048 → 2048 ≤ length run
-    → readBurst burst run ≡ record { reply = Read (figuresOf (contents burst)); run = put run 0 (startsOf (contents burst)) }
-unfolding readBurst burstRefused
-read-is burst run h k = simp (le-ltb 2048 (length burst) h, le-ltb (length run) 2048 k)
-
-starts-length : (burst : List ℕ) → length (startsOf (contents burst)) ≡ Bursts.found burst
-unfolding startsOf
-starts-length burst = length-map (contents burst .pieces) (λ (p : Piece). p .start)
-
 each-read : Bursts.EachBurstRead
 each-read burst run h k =
     record {
       reply = ap (λ (c : BurstCalled). c .reply) is;
-      counted = unfold figuresOf in (kept-and-not isAcknowledgement (contents burst .pieces));
+      counted = figures-sum (contents burst);
       room = omega (arith, h, k, found-few);
-      starts = λ i l. ap (λ (c : BurstCalled). getD (c .run) i 0) is ∙ getD-put-within run 0 (startsOf (contents burst)) fits i (omega arith) (omega (arith, l, starts-length burst)) ∙ start-at (i - 0) i (omega arith);
-      unaltered = λ i l. ap (λ (c : BurstCalled). getD (c .run) i 0) is ∙ getD-put-behind run 0 (startsOf (contents burst)) fits i (omega (arith, l, starts-length burst));
+      starts = λ i l. ap (λ (c : BurstCalled). getD (c .run) i 0) is ∙ getD-put-within run 0 (startsOf (contents burst)) fits i (omega arith) (omega (arith, l, starts-length (contents burst))) ∙ start-at (i - 0) i (omega arith);
+      unaltered = λ i l. ap (λ (c : BurstCalled). getD (c .run) i 0) is ∙ getD-put-behind run 0 (startsOf (contents burst)) fits i (omega (arith, l, starts-length (contents burst)));
       as-long = ap (λ (c : BurstCalled). length (c .run)) is ∙ length-put run 0 (startsOf (contents burst)) fits;
     }
   where
     is : readBurst burst run ≡ record { reply = Read (figuresOf (contents burst)); run = put run 0 (startsOf (contents burst)) }
-    is = read-is burst run h k
+    is = burst-read burst run h k
 
     found-few : Bursts.found burst ≤ length burst
     found-few = unfold contents in (few 0 burst)
 
     fits : 0 + length (startsOf (contents burst)) ≤ length run
-    fits = omega (arith, h, k, found-few, starts-length burst)
+    fits = omega (arith, h, k, found-few, starts-length (contents burst))
 
     start-at : (j i : ℕ) → j ≡ i → getD (startsOf (contents burst)) j 0 ≡ Bursts.pieceAt i burst .start
     start-at j i e =
@@ -457,9 +447,8 @@ each-read burst run h k =
         ap (λ (n : ℕ). getD (startsOf (contents burst)) n 0) e ∙ at
 
 each-refused : Bursts.EachBurstRefused
-unfolding readBurst burstRefused
-each-refused burst run (inl h) = simp (lt-ltb 2048 (length burst) h)
-each-refused burst run (inr h) = simp (lt-ltb (length run) 2048 h, or-true)
+each-refused burst run (inl h) = burst-long burst run h
+each-refused burst run (inr h) = run-short burst run h
 
 -- ---- one outcome
 one-outcome : Bursts.OneOutcome
@@ -490,7 +479,7 @@ each-byte-wise given l burst =
         → (r ≡ Read (figuresOf (Bursts.watched given 0 l burst))) × (run′ ≡ put run 0 (startsOf (Bursts.watched given 0 l burst)))
     finds-the-same run run′ r s h k p =
         let e : contents burst ≡ Bursts.watched given 0 l burst = sym (same-contents given l burst s) in
-        let q : readBurst burst run ≡ record { reply = Read (figuresOf (contents burst)); run = put run 0 (startsOf (contents burst)) } = read-is burst run h k in (
+        let q : readBurst burst run ≡ record { reply = Read (figuresOf (contents burst)); run = put run 0 (startsOf (contents burst)) } = burst-read burst run h k in (
           reply-told r (readBurst burst run .reply) (p .reply) ∙ ap (λ (c : BurstCalled). c .reply) q ∙ ap (λ (c : Contents). Read (figuresOf c)) e,
           p .run ∙ ap (λ (c : BurstCalled). c .run) q ∙ ap (λ (c : Contents). put run 0 (startsOf c)) e,
         )

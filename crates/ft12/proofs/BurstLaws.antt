@@ -1,18 +1,19 @@
 -- What a burst holds, a piece at a time: the byte-wise receiver over a whole frame is one step.
 use Prim.Native.Nat.{ℕ, zero, suc, _+_, _-_, _≤_, _<_}
 use mathlib.Core.Path.{_≡_, refl, sym, _∙_, ap}
-use mathlib.Core.Bool.{false}
+use mathlib.Core.Bool.{or-true}
 use mathlib.Core.List.{List, [], _∷_, _++_, append-nil}
 use native.Mathlib.Omega.{arith}
-use lib.ListN.{length, getD, drop, length-append}
+use lib.ListN.{length, getD, drop, length-append, length-map}
 use lib.Seq.{append-snoc, drop-at}
 use lib.Dec.{T, eqb}
+use borrow.Author.Tests.{le-ltb, lt-ltb}
 use lib.IntN.{ℤ, pos, negsuc}
-use Rattle.words.specs.Words.{if_then_else_, isEmpty}
-use Rattle.words.proofs.WordLaws.{left, right, T-true, some-filled}
+use Rattle.words.specs.Words.{if_then_else_, isEmpty, put}
+use Rattle.words.proofs.WordLaws.{left, right, T-true, kept-and-not, some-filled}
 use Rattle.ft12.specs.Frame.{fixedFrame, dataFrame}
 use Rattle.ft12.specs.Receiver.{judged, isMore, gathers, isBeginning}
-use Rattle.ft12.specs.Burst.{Piece, Contents, before, justEnds, gatheredAfter, withByte, contentsFrom, contents, firstSize, isAcknowledgement, endingNumber, burstNumbers}
+use Rattle.ft12.specs.Burst.{Piece, Contents, before, justEnds, gatheredAfter, withByte, contentsFrom, contents, firstSize, isAcknowledgement, figuresOf, startsOf, burstRefused, readBurst, endingNumber, burstNumbers}
 use Rattle.ft12.specs.declared.receiver.Judgement.the-variants.{More, Damage}
 use Rattle.ft12.specs.declared.burst.Ending.{Ending}
 use Rattle.ft12.specs.declared.burst.Ending.the-variants.{Clean, Damaged, Unfinished}
@@ -168,6 +169,31 @@ module _ (P : ℕ → List ℕ → Type 0) (none : (at : ℕ) (s : List ℕ) →
 
   pub by-pieces : (at : ℕ) (s : List ℕ) → P at s
   by-pieces at s = up-to (length s) at s (omega arith)
+
+-- ---- what is told
+-- a start for each piece, and each of one kind
+pub starts-length : (c : Contents) → length (startsOf c) ≡ length (c .pieces)
+unfolding startsOf
+starts-length c = length-map (c .pieces) (λ (p : Piece). p .start)
+
+pub figures-sum : (c : Contents) → figuresOf c .frames + figuresOf c .acknowledgements ≡ length (c .pieces)
+unfolding figuresOf
+figures-sum c = kept-and-not isAcknowledgement (c .pieces)
+
+-- a burst that is taken, and the two that are not
+module _ (burst run : List ℕ) where
+  pub burst-read : length burst ≤ 2048 → 2048 ≤ length run
+      → readBurst burst run ≡ record { reply = Read (figuresOf (contents burst)); run = put run 0 (startsOf (contents burst)) }
+  unfolding readBurst burstRefused
+  burst-read h k = simp (le-ltb 2048 (length burst) h, le-ltb (length run) 2048 k)
+
+  pub burst-long : 2048 < length burst → readBurst burst run ≡ record { reply = Refused 8; run = run }
+  unfolding readBurst burstRefused
+  burst-long h = simp (lt-ltb 2048 (length burst) h)
+
+  pub run-short : length run < 2048 → readBurst burst run ≡ record { reply = Refused 8; run = run }
+  unfolding readBurst burstRefused
+  run-short h = simp (lt-ltb (length run) 2048 h, or-true)
 
 -- ---- the numbers of a reply
 pub ending-small : (e : Ending) → endingNumber e ≤ 3
