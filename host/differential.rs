@@ -3,8 +3,9 @@
 //! byte of the output, and all memory that is lent, field by field; on a refusal byte by byte, padding too. A reading is
 //! a call as well: compared are its three members, the floating one by its bits, and every byte. So is a burst: compared
 //! are its three members, the run of places to its end, and every byte around; and some bursts go through the call too,
-//! one byte after the other, for what the receiver finds. The first difference ends the run, and so does an answer, the
-//! same on both sides, that is not the one aimed at.
+//! one byte after the other, for what the receiver finds. Set requests are also cut at every entry boundary, and come
+//! in pairs in both orders: then what the tables hold is compared with what they hold the other way. The first
+//! difference ends the run, and so does an answer, the same on both sides, that is not the one aimed at.
 //!
 //!     differential [SEED] [--calls N] [--episode E] [--upto N]
 //!
@@ -21,6 +22,8 @@ mod broken;
 mod bursts;
 #[path = "differential_parts/counts.rs"]
 mod counts;
+#[path = "differential_parts/cutting.rs"]
+mod cutting;
 #[path = "differential_parts/every.rs"]
 mod every;
 #[path = "differential_parts/frames.rs"]
@@ -95,7 +98,8 @@ fn main() {
         std::process::exit(1);
     }
     println!(
-        "differential: {} calls, {} of them readings and {} bursts, no difference",
-        bench.calls, bench.readings, bench.bursts
+        "differential: {} calls, {} of them readings and {} bursts, {} requests cut and {} pairs in both orders, \
+         no difference",
+        bench.calls, bench.readings, bench.bursts, bench.cuts, bench.pairs
     );
 }

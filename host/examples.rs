@@ -4,7 +4,7 @@
 
 mod plain;
 
-use plain::{burst, call, nearest_single, reading};
+use plain::{burst, call, carry_out, nearest_single, reading};
 use plain::{Burst, Datapoint, Ending, Event, Item, Link, Outcome, Reading, Server};
 use std::sync::atomic::{AtomicUsize, Ordering};
 
@@ -731,6 +731,105 @@ fn retired_command() {
         is_error("5 before an absent ID", &mut server, &set_values(1, &[(1, 5, &[]), (4, 1, &[1])]), 1, 8);
         is_error("10 before 5", &mut server, &join(&[&set_values(1, &[(1, 5, &[])]), &[0]]), 1, 10);
     }
+}
+
+/// The requests are accepted one after the other; what they leave.
+fn accepted(before: &Server, messages: &[&[u8]]) -> Server {
+    let mut server = before.clone();
+    for message in messages {
+        let start = u16::from_be_bytes([message[2], message[3]]);
+        same("accepted", ask(&mut server, message), Some(error(message[1], start, 0)));
+    }
+    server
+}
+
+/// Entries of a set request as they stand in it.
+fn entries_of(messages: &[Vec<u8>]) -> Vec<u8> {
+    messages.iter().flat_map(|message| message[6..].to_vec()).collect()
+}
+
+/// (02) item 11. "if a request is accepted, then its two non-empty parts, each with its own start and number, are
+/// accepted one after the other with nothing between, and leave the same tables."
+fn cut_requests() {
+    let before = small_open_server();
+    let whole = accepted(&before, &[&hex("F0 06 00 11 00 03 00 11 03 01 05 00 12 04 00 00 11 01 01 06")]);
+    let mut want = before.clone();
+    want.datapoints[7] = flagged(0x44, datapoint(17, 7, 0x17, &[6]));
+    want.datapoints[8] = flagged(0x44, datapoint(18, 8, 0x0C, &[1, 1]));
+    truth("three entries", tables_stand(&want, &whole));
+    let two = [hex("F0 06 00 11 00 01 00 11 03 01 05"), hex("F0 06 AB CD 00 02 00 12 04 00 00 11 01 01 06")];
+    truth("cut behind the first", tables_stand(&want, &accepted(&before, &[&two[0], &two[1]])));
+    let two = [hex("F0 06 00 00 00 02 00 11 03 01 05 00 12 04 00"), hex("F0 06 00 00 00 01 00 11 01 01 06")];
+    truth("cut behind the second", tables_stand(&want, &accepted(&before, &[&two[0], &two[1]])));
+    // the parts the other way round leave the other value
+    want.datapoints[7].value[0] = 5;
+    truth("turned round", tables_stand(&want, &accepted(&before, &[&two[1], &two[0]])));
+    // cut elsewhere; a part without entries; with the whole's number
+    let mut server = before.clone();
+    is_error("cut behind the ID", &mut server, &hex("F0 06 00 11 00 01 00 11"), 0x11, 10);
+    is_error("cut in front of the value", &mut server, &hex("F0 06 00 11 00 01 00 11 03 01"), 0x11, 10);
+    is_error("no entry", &mut server, &hex("F0 06 00 11 00 00"), 0x11, 6);
+    is_error("the whole's number", &mut server, &hex("F0 06 00 11 00 03 00 11 03 01 05"), 0x11, 10);
+
+    // each three of these entries, each a request of one, at both boundaries
+    let values: [(u16, u8, &[u8]); 8] = [
+        (17, 0, &[]),
+        (17, 1, &[5]),
+        (17, 2, &[9]),
+        (17, 3, &[6]),
+        (17, 4, &[]),
+        (18, 1, &[1, 2]),
+        (18, 3, &[3, 4]),
+        (18, 2, &[]),
+    ];
+    let items: [(u16, &[u8]); 4] = [(2, &[1]), (2, &[2]), (4, &[3; 16]), (4, &[4; 16])];
+    let values: Vec<Vec<u8>> = values.iter().map(|entry| set_values(7, &[*entry])).collect();
+    let items: Vec<Vec<u8>> = items.iter().map(|entry| set_items(7, &[*entry])).collect();
+    for singles in [&values, &items] {
+        let sub = singles[0][1];
+        let joined = |entries: &[Vec<u8>]| join(&[&get(sub, 7, entries.len() as u16), &entries_of(entries)]);
+        for at in 0..singles.len().pow(3) {
+            let place = |power: u32| at / singles.len().pow(power) % singles.len();
+            let three = [singles[place(0)].clone(), singles[place(1)].clone(), singles[place(2)].clone()];
+            let whole = accepted(&before, &[&joined(&three)]);
+            for boundary in [1, 2] {
+                let (head, tail) = three.split_at(boundary);
+                let parts = accepted(&before, &[&joined(head), &joined(tail)]);
+                truth("the parts leave what the whole leaves", tables_stand(&whole, &parts));
+            }
+        }
+        // 400 entries, which no frame holds, as a message; and in parts of ten
+        let many: Vec<Vec<u8>> = (0..400).map(|at| singles[at * at % 37 % singles.len()].clone()).collect();
+        let mut whole = before.clone();
+        same("400 entries", carry_out(&mut whole, &joined(&many)), Some(error(sub, 7, 0)));
+        let tens: Vec<Vec<u8>> = many.chunks(10).map(joined).collect();
+        let tens: Vec<&[u8]> = tens.iter().map(|part| &part[..]).collect();
+        truth("400 entries in parts", tables_stand(&whole, &accepted(&before, &tens)));
+    }
+}
+
+/// (02) item 11. "two accepted set requests with no ID in common leave the same tables in either order."
+fn both_orders() {
+    let mut before = small_open_server();
+    // an item and a datapoint of the same ID have nothing in common
+    before.items.push(item(17, true, &[0xAA]));
+    let seventeen = [set_values(1, &[(17, 3, &[5]), (17, 4, &[])]), set_values(1, &[(17, 1, &[6])])];
+    let eighteen = [set_values(2, &[(18, 1, &[7, 8])]), set_values(2, &[(18, 2, &[]), (18, 0, &[1, 1])])];
+    let items = [set_items(3, &[(17, &[0xBB])]), set_items(3, &[(2, &[0xCC]), (4, &[0xDD; 16])])];
+    let is_seen = |one: &[u8], other: &[u8]| {
+        !tables_stand(&accepted(&before, &[one, other]), &accepted(&before, &[other, one]))
+    };
+    for one in &seventeen {
+        for other in eighteen.iter().chain(&items) {
+            truth("no ID in common", !is_seen(one, other));
+        }
+    }
+    truth("two items", !is_seen(&items[0], &items[1]));
+    // with an ID in common: where both write a value, and not the same
+    truth("two values", is_seen(&seventeen[0], &seventeen[1]));
+    truth("a value and none", !is_seen(&eighteen[0], &eighteen[1]));
+    truth("one value twice", !is_seen(&seventeen[0], &seventeen[0]));
+    truth("two values of an item", is_seen(&items[0], &set_items(3, &[(17, &[0xEE])])));
 }
 
 /// (02) item 2. "commands 2 and 3 need config bits 2 and 6, command 4 needs bit 2; others as before."; "a command whose
@@ -2722,7 +2821,7 @@ fn any_fields_at_random() {
 }
 
 fn main() {
-    let parts: [(&str, fn()); 35] = [
+    let parts: [(&str, fn()); 37] = [
         ("examples of 01", examples_of_01),
         ("exchange of 000", exchange_of_000),
         ("messages without answer", messages_without_answer),
@@ -2730,6 +2829,8 @@ fn main() {
         ("rows 7 to 8", rows_7_to_8),
         ("commands", commands),
         ("the retired command", retired_command),
+        ("requests cut", cut_requests),
+        ("requests in both orders", both_orders),
         ("closed datapoints", closed_datapoints),
         ("closed and open alike", closed_and_open_alike),
         ("a failed status", failed_status),

@@ -611,8 +611,8 @@ fn head(sub: u8, start: u16, count: u16) -> Vec<u8> {
     vec![0xF0, sub, high_byte(start), low_byte(start), high_byte(count), low_byte(count)]
 }
 
-/// Carries out a message; gives its answer, if any.
-fn carry_out(server: &mut Server, message: &[u8]) -> Option<Vec<u8>> {
+/// Carries out a message; gives its answer, if any. The link hands up none above 254 bytes; here it may have more.
+pub fn carry_out(server: &mut Server, message: &[u8]) -> Option<Vec<u8>> {
     // (01) "Shorter than 6 bytes, first byte not F0, or sub 80 and above: no answer."
     if message.len() < 6 || message[0] != 0xF0 || message[1] >= 0x80 {
         return None;

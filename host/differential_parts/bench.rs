@@ -28,6 +28,9 @@ pub struct Bench {
     /// How many of the calls were readings, and how many bursts.
     pub readings: u64,
     pub bursts: u64,
+    /// How many requests were cut, and how many pairs of them came in both orders.
+    pub cuts: u64,
+    pub pairs: u64,
     lent: Lent,
     lent_burst: LentBurst,
     seed: u64,
@@ -53,6 +56,8 @@ impl Bench {
             calls: 0,
             readings: 0,
             bursts: 0,
+            cuts: 0,
+            pairs: 0,
             lent: Lent::new(),
             lent_burst: LentBurst::new(),
             seed,
@@ -281,6 +286,11 @@ impl Bench {
 
     pub fn misfound(&self, aim: &str, found: &Found) -> ! {
         self.fail(&format!("aimed at: {aim}"), &[format!("found by both: {found:?}")]);
+    }
+
+    /// What requests leave is not what was aimed at; told are the requests, their answers and the records.
+    pub fn misleft(&self, aim: &str, told: &[String]) -> ! {
+        self.fail(&format!("aimed at: {aim}"), told);
     }
 
     fn fail(&self, what: &str, differences: &[String]) -> ! {

@@ -1,11 +1,10 @@
 //! The first episode: one thing at a time goes through all its values.
 
 use crate::bench::{Bench, Read, NO_EVENT};
-use crate::bursts;
-use crate::frames;
 use crate::lent::Call;
 use crate::plain::{Datapoint, Item, Reading, Server};
 use crate::tables::{self, SIZES};
+use crate::{bursts, cutting, frames};
 
 const NAME: &str = "every value, one thing at a time, by calls";
 
@@ -13,7 +12,7 @@ pub fn lists() -> Vec<(&'static str, Vec<&'static str>)> {
     vec![(NAME, EVERY.iter().map(|(label, _)| *label).collect())]
 }
 
-const EVERY: [(&str, fn(&mut Bench)); 40] = [
+const EVERY: [(&str, fn(&mut Bench)); 48] = [
     ("room 0 to 263, each event", rooms),
     ("event 0 to 255, outcome 0 to 255", events),
     ("host byte at each place of a frame", bytes_in_frames),
@@ -54,6 +53,14 @@ const EVERY: [(&str, fn(&mut Bench)); 40] = [
     ("bursts: each byte behind a beginning of each form", bursts::last_bytes),
     ("bursts: around 2048 bytes and 2048 places", bursts::sizes),
     ("bursts: the same bytes through the call, one by one", bursts::one_by_one),
+    ("requests cut: each two entries of a datapoint, or of two; each two items", cutting::two_entries),
+    ("requests cut: 2 to 62 entries at every boundary", cutting::entry_counts),
+    ("requests cut: bad entries of each way at each place, one or two", cutting::bad_entries),
+    ("requests cut: at each byte, by several numbers", cutting::every_byte),
+    ("requests cut: each size of 255 to 502 bytes in two parts; up to 1000 entries", cutting::long_ones),
+    ("both orders: each two entries of a datapoint, or of two; each two items", cutting::two_requests),
+    ("both orders: each entry of a datapoint, with an item of the same ID or another", cutting::both_services),
+    ("both orders: requests of 254 bytes", cutting::full_requests),
 ];
 
 /// All of them, each on small tables of its own.

@@ -135,7 +135,7 @@ pub const AIMS: &[&str] = &[
     "set parameters: 7, 254 bytes, the last one behind the end",
 ];
 
-fn head(sub: u8, start: u16, number: u16) -> Vec<u8> {
+pub fn head(sub: u8, start: u16, number: u16) -> Vec<u8> {
     let (start, number) = (start.to_be_bytes(), number.to_be_bytes());
     vec![0xF0, sub, start[0], start[1], number[0], number[1]]
 }
@@ -552,30 +552,30 @@ fn get_strings(random: &mut Random, server: &Server) -> Option<Request> {
 
 // ------------------------------------------------------------------------------------------------------------ the sets
 
-/// A set request in the making.
-struct Set {
-    sub: u8,
-    start: u16,
-    entries: Vec<Entry>,
+/// A set request of items (sub 02) or datapoints (06) in the making. An item's entry has no command.
+pub struct Set {
+    pub sub: u8,
+    pub start: u16,
+    pub entries: Vec<Entry>,
 }
 
 #[derive(Clone)]
-struct Entry {
-    id: u16,
-    command: u8,
-    value: Vec<u8>,
+pub struct Entry {
+    pub id: u16,
+    pub command: u8,
+    pub value: Vec<u8>,
 }
 
 impl Set {
-    fn size_of(&self, entry: &Entry) -> usize {
+    pub fn size_of(&self, entry: &Entry) -> usize {
         entry.value.len() + if self.sub == 6 { 4 } else { 3 }
     }
 
-    fn size(&self) -> usize {
+    pub fn size(&self) -> usize {
         6 + self.entries.iter().map(|entry| self.size_of(entry)).sum::<usize>()
     }
 
-    fn message(&self) -> Vec<u8> {
+    pub fn message(&self) -> Vec<u8> {
         let mut message = head(self.sub, self.start, self.entries.len() as u16);
         for entry in &self.entries {
             message.extend_from_slice(&entry.id.to_be_bytes());
@@ -617,12 +617,22 @@ impl Set {
     }
 
     /// Good entries up to exactly 254 bytes.
-    fn filled(mut self, random: &mut Random, good: impl Fn(&mut Random) -> Option<Entry>) -> Option<Request> {
-        for _ in 0..400 {
-            let room = 254 - self.size().min(254);
-            if room == 0 && self.size() == 254 {
-                let start = self.start;
-                return self.made("set: answered, 254 bytes", 0, start);
+    fn filled(self, random: &mut Random, good: impl Fn(&mut Random) -> Option<Entry>) -> Option<Request> {
+        let start = self.start;
+        self.grown(random, 254, good)?.made("set: answered, 254 bytes", 0, start)
+    }
+
+    /// The request with such entries behind its own, up to exactly so many bytes.
+    pub fn grown(
+        mut self,
+        random: &mut Random,
+        bytes: usize,
+        good: impl Fn(&mut Random) -> Option<Entry>,
+    ) -> Option<Set> {
+        for _ in 0..2 * bytes {
+            let room = bytes.checked_sub(self.size())?;
+            if room == 0 {
+                return Some(self);
             }
             let entry = good(random)?;
             if self.size_of(&entry) <= room {

@@ -1,12 +1,12 @@
 //! What a call did, told from the link record before it, the call, and its answer. It only counts.
 
 use crate::bench::{Answer, Found, Read};
-use crate::bursts;
 use crate::counts::{Counts, Matrix};
 use crate::lent::Call;
 use crate::plain::{Burst, Datapoint, Ending, Link, Reading, Server};
-use crate::requests::{self, Texts};
+use crate::requests::{self, Entry, Texts};
 use crate::tables::{found, takes, texts_by_id, type_of, used_bits, SIZES};
+use crate::{bursts, cutting};
 
 // The matrices, and their rows.
 pub const ERRORS: usize = 0;
@@ -17,6 +17,7 @@ const PARAMETERS: usize = 4;
 const STRINGS: usize = 5;
 const TEXT_SIZES: usize = 6;
 const READINGS: usize = 7;
+const CUT_ENTRIES: usize = 8;
 
 pub const BUS_TAKEN: usize = 0;
 pub const BUS_LENGTH: usize = 1;
@@ -170,6 +171,21 @@ pub fn matrices() -> Vec<Matrix> {
                 ("not valid, unreadable", &[0, 1, 2, 3, 4, 5, 6]),
             ],
         ),
+        // in the order of cutting::KINDS
+        Matrix::new(
+            "Entries of requests that were cut, by type code",
+            &type_names,
+            &[
+                ("command 0, no value", &all_types),
+                ("command 0", &all_types),
+                ("command 1", &all_types),
+                ("command 2, no value", &all_types),
+                ("command 2", &all_types),
+                ("command 3", &all_types),
+                ("command 4, no value", &all_types),
+                ("command 4", &all_types),
+            ],
+        ),
     ]
 }
 
@@ -188,6 +204,7 @@ pub fn lists() -> Vec<(&'static str, Vec<&'static str>)> {
     ];
     lists.extend(crate::walk::lists());
     lists.extend(bursts::lists());
+    lists.extend(cutting::lists());
     lists.extend(crate::broken::lists());
     lists.extend(crate::garbage::lists());
     lists.extend(crate::every::lists());
@@ -1109,6 +1126,16 @@ fn set_carried_out(counts: &mut Counts, message: &[u8], start: u16, after: &Serv
             if let Some(typecode) = type_of(&after.datapoints, id) {
                 counts.cell(TYPES, SET_TAKEN, usize::from(typecode));
             }
+        }
+    }
+}
+
+/// Counts the entries of a set of datapoints that was cut.
+pub fn cut_entries(counts: &mut Counts, server: &Server, entries: &[Entry]) {
+    for entry in entries {
+        let kind = cutting::KINDS.iter().position(|kind| *kind == (entry.command, !entry.value.is_empty()));
+        if let (Some(row), Some(typecode)) = (kind, type_of(&server.datapoints, entry.id)) {
+            counts.cell(CUT_ENTRIES, row, usize::from(typecode));
         }
     }
 }

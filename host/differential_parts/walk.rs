@@ -3,7 +3,7 @@
 use crate::bench::Bench;
 use crate::plain::Reading;
 use crate::requests::{self, Request, Wants};
-use crate::{broken, bursts, frames, garbage, tables};
+use crate::{broken, bursts, cutting, frames, garbage, tables};
 
 pub fn lists() -> Vec<(&'static str, Vec<&'static str>)> {
     vec![("damage, by what happened to the frame", DAMAGE.to_vec()), ("on the way", ON_THE_WAY.to_vec())]
@@ -64,7 +64,7 @@ pub fn episode(bench: &mut Bench) {
 }
 
 fn step(bench: &mut Bench) {
-    match bench.random.below(104) {
+    match bench.random.below(106) {
         0..=43 => ask(bench),
         44..=53 => damage(bench),
         54..=56 => led_by_e5(bench),
@@ -81,7 +81,8 @@ fn step(bench: &mut Bench) {
         89..=97 => broken::some(bench),
         98..=99 => garbage::some(bench),
         100..=101 => readings(bench),
-        _ => bursts::some(bench),
+        102..=103 => bursts::some(bench),
+        _ => cutting::some(bench),
     }
 }
 

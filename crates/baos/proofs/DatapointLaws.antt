@@ -147,21 +147,22 @@ command-ok c v d i t = go (eqb c 1) (eqb c 2) (eqb c 3) (eqb c 4) refl refl refl
     go false false false true e1 e2 e3 e4 = simp (e1, e2, e3, e4, commanded) (state-ok (withRequest (d .state)) d (omega (arith, small)) t)
     go false false false false e1 e2 e3 e4 = simp (e1, e2, e3, e4, commanded) t
 
--- no change touches the ID or the type code
+-- no change touches the ID, the type code or the config flags
 pub record Same (d d′ : Datapoint) : Type 0 where
   pub id : d′ .id ≡ d .id
   pub typecode : d′ .typecode ≡ d .typecode
+  pub flags : d′ .flags ≡ d .flags
 
 pub command-same : (c : ℕ) (v : List ℕ) (d : Datapoint) → Same d (commanded c v d)
 unfolding commanded withValue withState
 command-same c v d = go (eqb c 1) (eqb c 2) (eqb c 3) (eqb c 4) refl refl refl refl
   where
     go : (p q r s : Bool) → eqb c 1 ≡ p → eqb c 2 ≡ q → eqb c 3 ≡ r → eqb c 4 ≡ s → Same d (commanded c v d)
-    go true q r s e1 e2 e3 e4 = simp (e1, commanded) (record { id = refl; typecode = refl })
-    go false true r s e1 e2 e3 e4 = simp (e1, e2, commanded) (record { id = refl; typecode = refl })
-    go false false true s e1 e2 e3 e4 = simp (e1, e2, e3, commanded) (record { id = refl; typecode = refl })
-    go false false false true e1 e2 e3 e4 = simp (e1, e2, e3, e4, commanded) (record { id = refl; typecode = refl })
-    go false false false false e1 e2 e3 e4 = simp (e1, e2, e3, e4, commanded) (record { id = refl; typecode = refl })
+    go true q r s e1 e2 e3 e4 = simp (e1, commanded) (record { id = refl; typecode = refl; flags = refl })
+    go false true r s e1 e2 e3 e4 = simp (e1, e2, commanded) (record { id = refl; typecode = refl; flags = refl })
+    go false false true s e1 e2 e3 e4 = simp (e1, e2, e3, commanded) (record { id = refl; typecode = refl; flags = refl })
+    go false false false true e1 e2 e3 e4 = simp (e1, e2, e3, e4, commanded) (record { id = refl; typecode = refl; flags = refl })
+    go false false false false e1 e2 e3 e4 = simp (e1, e2, e3, e4, commanded) (record { id = refl; typecode = refl; flags = refl })
 
 -- commands 2 and 3 send: the status is 11 then; no other command touches it
 pub command-status : (c : ℕ) (v : List ℕ) (d : Datapoint) → commanded c v d .state % 4 ≡ (if isSend c then 3 else d .state % 4)

@@ -1,13 +1,13 @@
 -- Well-formed tables stay well formed, whatever message is carried out and whatever is indicated.
 use Prim.Native.Nat.{ℕ, suc, _-_}
-use mathlib.Core.Path.{_≡_, refl, sym, ap, subst}
+use mathlib.Core.Path.{_≡_, refl, sym, _∙_, ap, subst}
 use mathlib.Core.Bool.{Bool, true, false, not, _||_}
 use mathlib.Core.List.{List, [], _∷_, map}
-use native.Mathlib.Omega.{arith}
 use lib.ListN.{length, drop}
 use lib.Dec.{T, leb, eqb, eqb→eq}
+use borrow.Author.Tests.{eq-eqb}
 use Rattle.words.specs.Words.{if_then_else_, isYes, isEmpty, every, put}
-use Rattle.words.proofs.WordLaws.{left, right, both, parts3, parts4, join3, join4, T-true, every-imp, every-true}
+use Rattle.words.proofs.WordLaws.{left, right, both, parts3, parts4, join3, join4, true-T, T-true, every-imp, every-true}
 use Rattle.baos.specs.declared.datapoint.Datapoint.{Datapoint}
 use Rattle.baos.specs.declared.item.Item.{Item}
 use Rattle.baos.specs.Datapoint.{datapointId, datapointOk, sizeOf, unusedBitsOk, isValue, withState, withMark, handedOut}
@@ -15,9 +15,9 @@ use Rattle.baos.specs.Item.{itemId, itemOk, withBytes}
 use Rattle.baos.specs.Lookup.{lookupOf, isPresent}
 use Rattle.baos.specs.Text.{textListsOk}
 use Rattle.baos.specs.Table.{Tables, withDatapoints, withParameters, rising, tableOk, wellFormed, found}
-use Rattle.baos.specs.Message.{startOf, numberOf, Finding, fine, bad, Served, afterOf, served}
+use Rattle.baos.specs.Message.{startOf, numberOf, Finding, fine, bad, verdictOf, Served, afterOf, served}
 use Rattle.baos.specs.Get.{roomForEntries, getting, getServerItem, getDatapointDescription, getDescriptionString, asked, handingOut, getDatapointValue, getParameterByte}
-use Rattle.baos.specs.Set.{SetEntry, firstItemEntry, firstDatapointEntry, fills, setEntries, itemCode, takesCommand, datapointCode, judgedItem, judgedDatapoint, firstBad, setFinding, setting, setItem, setServerItem, setDatapoint, setDatapointValue, setParameterByte}
+use Rattle.baos.specs.Set.{SetEntry, firstItemEntry, firstDatapointEntry, setEntries, itemCode, takesCommand, datapointCode, judgedItem, judgedDatapoint, firstBad, setFinding, setting, setItem, setServerItem, setDatapoint, setDatapointValue, setParameterByte}
 use Rattle.baos.specs.Inner.Gather.{getDatapoints}
 use Rattle.baos.specs.Service.{service, carriedOut}
 use Rattle.baos.proofs.LookupLaws.{present-one}
@@ -26,6 +26,8 @@ use Rattle.baos.proofs.TableLaws
 use Rattle.baos.proofs.DispatchLaws.{by-service, by-message}
 use Rattle.baos.proofs.ServiceLaws.{items-leave-all, strings-leave-all, parameters-leave-all, datapoints-keep-texts, set-datapoints-keep-texts, set-items-keep-texts, set-parameters-keep-texts}
 use Rattle.baos.proofs.SetParameterLaws.{set-length}
+use Rattle.baos.proofs.LeftLaws.{each-fine}
+use Rattle.baos.proofs.SettingLaws.{code-passes}
 use Rattle.baos.proofs.DatapointLaws
 
 -- ---- the tables
@@ -83,13 +85,7 @@ out-keeps m t w =
 
 -- ---- sets: where no entry is bad, each was judged 0
 none-bad : (judge : SetEntry → ℕ) (os : List SetEntry) → firstBad judge os ≡ fine → T (every (λ o. eqb (judge o) 0) os)
-unfolding firstBad
-none-bad judge [] e = tt
-none-bad judge (o ∷ os) e = go (eqb (judge o) 0) refl (none-bad judge os)
-  where
-    go : (u : Bool) → eqb (judge o) 0 ≡ u → (firstBad judge os ≡ fine → T (every (λ p. eqb (judge p) 0) os)) → T (every (λ p. eqb (judge p) 0) (o ∷ os))
-    go true d r = simp d (r (simp d at e))
-    go false d r = let z : _≡_ {A = ℕ} 0 1 = cc (simp d at e) in absurd (omega arith)
+none-bad judge os e = true-T (each-fine judge (λ o. eqb (judge o) 0) (λ o z. true-T (eq-eqb (judge o) 0 z)) os e)
 
 set-keeps : (h : ℕ) (first : List ℕ → SetEntry) (judge : SetEntry → ℕ) (done : List SetEntry → Tables) (t : Tables) (m : List ℕ) → T (wellFormed t)
     → ((os : List SetEntry) → T (every (λ o. eqb (judge o) 0) os) → T (wellFormed (done os))) → T (wellFormed (setting h first judge done t m .after))
@@ -99,18 +95,8 @@ set-keeps h first judge done t m w g = after-keeps (setFinding h first judge m) 
     os : List SetEntry
     os = setEntries first h (numberOf m) (drop 6 m)
 
-    never : (id code : ℕ) → bad id code ≡ fine → ⊥
-    never id code e = let z : _≡_ {A = ℕ} 0 1 = cc in omega arith
-
     fits : setFinding h first judge m ≡ fine → T (every (λ o. eqb (judge o) 0) os)
-    fits e = unfold setFinding in go (fills h (numberOf m) (drop 6 m)) (eqb (numberOf m) 0) refl refl (unfold setFinding in e)
-      where
-        go : (u v : Bool) → fills h (numberOf m) (drop 6 m) ≡ u → eqb (numberOf m) 0 ≡ v
-            → (if not (fills h (numberOf m) (drop 6 m)) then bad (startOf m) 10 else if eqb (numberOf m) 0 then bad (startOf m) 6 else firstBad judge os) ≡ fine
-            → T (every (λ o. eqb (judge o) 0) os)
-        go false v a b d = absurd (never (startOf m) 10 (simp a at d))
-        go true true a b d = absurd (never (startOf m) 6 (simp (a, b) at d))
-        go true false a b d = none-bad judge os (simp (a, b) at d)
+    fits e = none-bad judge os (code-passes h first judge m (ap (λ (f : Finding). verdictOf f .code) e ∙ unfold verdictOf in refl) .judged)
 
 -- ---- items
 itemFits : SetEntry → Item → Bool

@@ -19,9 +19,10 @@ use Rattle.baos.specs.Item.{itemId, itemOk, withBytes}
 use Rattle.baos.specs.Lookup.{lookupOf, isPresent}
 use Rattle.baos.specs.Table.{rising, tableOk, found, changedAt}
 use Rattle.baos.proofs.SetLaws.{span-head}
+use Rattle.baos.proofs.TableLaws.{applied-first}
 use Rattle.baos.proofs.DatapointLaws as DatapointLaws
 
-fills-one : (h n : ℕ) (s : List ℕ) → fills h (suc n) s ≡ true → (span h s ≤ length s) × (fills h n (drop (span h s) s) ≡ true)
+pub fills-one : (h n : ℕ) (s : List ℕ) → fills h (suc n) s ≡ true → (span h s ≤ length s) × (fills h n (drop (span h s) s) ≡ true)
 unfolding fills
 fills-one h n s f = go (leb h (length s)) (leb (span h s) (length s)) refl f
   where
@@ -85,8 +86,7 @@ module _ (h at n : ℕ) (s : List ℕ) (more : 1 ≤ n) where
         )
 
     pub applied-next : {A : Type 0} (idOf : A → ℕ) (f : SetEntry → A → A) (xs : List A) → applied idOf f (setEntries first h n (drop at s)) xs ≡ applied idOf f rest (changedAt idOf (entry .id) (f entry) xs)
-    unfolding applied
-    applied-next idOf f xs = ap (λ (es : List SetEntry). applied idOf f es xs) entries-next
+    applied-next idOf f xs = ap (λ (es : List SetEntry). applied idOf f es xs) entries-next ∙ applied-first idOf f entry rest xs
 
 module _ (first : List ℕ → SetEntry) (h n : ℕ) (s : List ℕ) (over : n ≤ 0) where
   pub none-left : setEntries first h n s ≡ []
@@ -101,7 +101,7 @@ module _ (first : List ℕ → SetEntry) (h n : ℕ) (s : List ℕ) (over : n �
   unfolding applied
   applied-all idOf f xs = ap (λ (es : List SetEntry). applied idOf f es xs) none-left
 
-bad-fine : {id code : ℕ} → bad id code ≡ fine → ⊥
+pub bad-fine : {id code : ℕ} → bad id code ≡ fine → ⊥
 bad-fine z = subst is-bad z tt
   where
     is-bad : Finding → Type 0

@@ -4,6 +4,7 @@ pub mod AnsweredLaws
 pub mod BusLaws
 pub mod ApplyLaws
 pub mod CarryJoins
+pub mod CutLaws
 pub mod DatapointLaws
 pub mod DispatchLaws
 pub mod EntriesLaws
@@ -21,6 +22,7 @@ pub mod LeftLaws
 pub mod ListedLaws
 pub mod LookupLaws
 pub mod MeasureLaws
+pub mod OrderLaws
 pub mod Pairs
 pub mod ParameterLaws
 pub mod PassLaws

@@ -1,7 +1,7 @@
 -- A text list in the paper's words: bytes pass the test exactly if they are a list of entries, and what such a list names
 -- an ID is what is found for the ID.
 use Prim.Native.Nat.{ℕ, zero, suc, _+_, _*_, _/_, _%_, _≤_, _<_}
-use mathlib.Core.Path.{_≡_, refl, sym, _∙_, ap, subst}
+use mathlib.Core.Path.{_≡_, refl, sym, _∙_, ap}
 use mathlib.Core.Logic.{_↔_}
 use mathlib.Core.Bool.{Bool, true, false, _&&_, and-false}
 use mathlib.Core.List.{List, [], _∷_, _++_, map, flatten}
@@ -11,7 +11,7 @@ use lib.Seq.{drop-drop, drop-append-seam, take-append-seam, length-take-le}
 use lib.Dec.{T, ltb, eqb, ltb→lt}
 use borrow.Author.Tests.{lt-ltb, le-ltb, le-leb, eq-eqb, eqb-true}
 use Rattle.words.specs.Words.{if_then_else_, ofTwoBytes, keep, every, areBytes}
-use Rattle.words.proofs.WordLaws.{left, right, both, T-true, true-T, every-suffix}
+use Rattle.words.proofs.WordLaws.{left, right, both, T-true, true-T, bytes-drop}
 use Rattle.baos.specs.TextList.{ListEntry, listEntryBytes, listBytes, MadeOf, EntryAt, spanOf, isEntry, firstEntry, entriesFrom, entriesAt, entriesIn, bytesTaken, riseFrom, textListOk}
 use Rattle.baos.specs.Text.{entriesFor}
 use Rattle.baos.proofs.TextListLaws.{is-entry, entry-short, entry-whole, from-none, from-one, no-bytes, kept-other, kept-none, rise-first, rise-least, isFor}
@@ -129,10 +129,6 @@ passes es s l =
 abbrev firstNamed : List ℕ → ListEntry
 firstNamed s = record { id = ofTwoBytes (getD s 0 0) (getD s 1 0); text = take (getD s 2 0) (drop 3 s) }
 
-bytes-behind : (n : ℕ) (s : List ℕ) → T (areBytes s) → T (areBytes (drop n s))
-unfolding areBytes
-bytes-behind n s t = every-suffix (λ x. ltb x 256) (take n s) (drop n s) (subst (λ (r : List ℕ). T (every (λ x. ltb x 256) r)) (sym (take-append-drop n s)) t)
-
 first-named : (s : List ℕ) → T (areBytes s) → isEntry s ≡ true → (s ≡ entryThen (firstNamed s) (drop (spanOf s) s)) × (firstNamed s .id < 65536) × (length (firstNamed s .text) ≡ getD s 2 0)
 unfolding areBytes
 first-named [] t e = absurd (omega (arith, entry-whole [] e))
@@ -163,7 +159,7 @@ record Spelt (least : ℕ) (s : List ℕ) : Type 0 where
 spells : (n at least : ℕ) (s : List ℕ) → T (areBytes s) → riseFrom least (entriesFrom n at s) ≡ true → bytesTaken (entriesFrom n at s) ≡ length s → Spelt least s
 unfolding entriesFrom bytesTaken
 spells zero at least s t u v = record { names = []; whole = no-length s (sym v) ∙ sym listed-none; rising = tt }
-spells (suc n) at least s t u v = go (isEntry s) refl (λ k p q. spells n (at + spanOf s) k (drop (spanOf s) s) (bytes-behind (spanOf s) s t) p q) u v
+spells (suc n) at least s t u v = go (isEntry s) refl (λ k p q. spells n (at + spanOf s) k (drop (spanOf s) s) (bytes-drop (spanOf s) s t) p q) u v
   where
     rest : List EntryAt
     rest = entriesFrom n (at + spanOf s) (drop (spanOf s) s)

@@ -6,7 +6,7 @@ use mathlib.Core.List.{List, [], _∷_, map}
 use native.Mathlib.Omega.{arith}
 use lib.ListN.{length, getD, drop, length-map}
 use lib.Dec.{leb, ltb, eqb}
-use borrow.Author.Tests.{eq-eqb, ne-eqb, ltb-false, leb-false}
+use borrow.Author.Tests.{eq-eqb, ne-eqb, ltb-false, leb-false, eqb-true}
 use Rattle.words.specs.Words.{if_then_else_, keep, put}
 use Rattle.words.proofs.WordLaws.{true-T}
 use Rattle.baos.specs.declared.datapoint.Datapoint.{Datapoint}
@@ -239,6 +239,9 @@ module _ (m : List ℕ) (u : unanswered m ≡ false) where
 
   pub answered-long : 6 ≤ length m
   answered-long = omega (arith, ltb-false (length m) 6 (three .0))
+
+  pub answered-main : mainService m ≡ 0xF0
+  answered-main = eqb-true (mainService m) 0xF0 (three .1)
 
   pub answered-sub : subService m < 0x80
   answered-sub = omega (arith, leb-false 0x80 (subService m) (three .2))

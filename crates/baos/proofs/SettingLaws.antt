@@ -1,5 +1,5 @@
 -- What a set answers and leaves, by the verdict before its entries are judged and the verdict of the entries: one law for datapoints and items.
-use Prim.Native.Nat.{ℕ}
+use Prim.Native.Nat.{ℕ, _≤_}
 use mathlib.Core.Path.{_≡_, refl, sym, _∙_, ap, subst}
 use mathlib.Core.Logic.{_≢_}
 use mathlib.Core.Bool.{Bool, true, false}
@@ -8,6 +8,7 @@ use native.Mathlib.Omega.{arith}
 use native.Mathlib.Decide.{ℕ-discrete}
 use lib.ListN.{drop}
 use lib.Dec.{eqb}
+use borrow.Author.Tests.{ne-eqb, eqb-false}
 use Rattle.baos.specs.Table.{Tables}
 use Rattle.baos.specs.Message.{startOf, numberOf, coded, Finding, fine, bad, verdictOf, Served, answerOf, afterOf, served}
 use Rattle.baos.specs.Set.{SetEntry, fills, setEntries, firstBad, setFinding, setting, filledFinding}
@@ -98,3 +99,24 @@ module _ (h : ℕ) (first : List ℕ → SetEntry) (judge : SetEntry → ℕ) (d
       go (no n) x = subst P (sym (set-refused n)) (error (verdictOf earlier .id) (verdictOf earlier .code) n)
       go (yes z) (no n) = subst P (sym (set-bad z n)) (error (verdictOf later .id) (verdictOf later .code) n)
       go (yes z) (yes y) = subst P (sym (set-done z y)) (positive (fine-code judge entries y))
+
+-- ---- rows 10 and 6 passed and no entry bad: exactly then nothing is found
+module _ (h : ℕ) (first : List ℕ → SetEntry) (judge : SetEntry → ℕ) (m : List ℕ) where
+  pub record Passes : Type 0 where
+    pub filled : fills h (numberOf m) (drop 6 m) ≡ true
+    pub some : 1 ≤ numberOf m
+    pub judged : firstBad judge (setEntries first h (numberOf m) (drop 6 m)) ≡ fine
+
+  pub passes-fine : Passes → setFinding h first judge m ≡ fine
+  unfolding setFinding
+  passes-fine p = simp (p .filled, ne-eqb (numberOf m) 0 (λ z. omega (arith, z, p .some))) (p .judged)
+
+  pub code-passes : verdictOf (setFinding h first judge m) .code ≡ 0 → Passes
+  unfolding setFinding verdictOf
+  code-passes z = go (fills h (numberOf m) (drop 6 m)) (eqb (numberOf m) 0) refl refl
+    where
+      go : (a b : Bool) → fills h (numberOf m) (drop 6 m) ≡ a → eqb (numberOf m) 0 ≡ b → Passes
+      go false b e f = absurd (omega (arith, simp e at z))
+      go true true e f = absurd (omega (arith, simp (e, f) at z))
+      go true false e f =
+          record { filled = e; some = omega (arith, eqb-false (numberOf m) 0 f); judged = fine-code judge (setEntries first h (numberOf m) (drop 6 m)) (simp (e, f) at z) }

@@ -128,6 +128,11 @@ module _ {A : Type 0} (idOf : A → ℕ) where
       go false e r = both (at n fit x) (every (at n fit) xs) (simp e tt) (r (simp e at j))
 
   -- ---- entries of a set applied in turn
+  -- "entries apply in order": the first one first
+  pub applied-first : (f : SetEntry → A → A) (o : SetEntry) (os : List SetEntry) (xs : List A) → applied idOf f (o ∷ os) xs ≡ applied idOf f os (changedAt idOf (o .id) (f o) xs)
+  unfolding applied
+  applied-first f o os xs = refl
+
   fit-kept : (fit : SetEntry → A → Bool) (f : SetEntry → A → A) → ((o : SetEntry) (x : A) → idOf (f o x) ≡ idOf x) → ((o p : SetEntry) (x : A) → fit p (f o x) ≡ fit p x)
       → (o p : SetEntry) (xs : List A) → every (at (p .id) (fit p)) (changedAt idOf (o .id) (f o) xs) ≡ every (at (p .id) (fit p)) xs
   unfolding at changedAt

@@ -37,7 +37,7 @@ none-kept p (x ∷ xs) e n = go (p x) (left (not (p x)) (every (λ y. not (p y))
     go true o rest n = o
     go false o rest n = rest n
 
-coded-error : (m : List ℕ) (i c : ℕ) → c ≢ 0 → ErrorAnswer (coded m i c)
+pub coded-error : (m : List ℕ) (i c : ℕ) → c ≢ 0 → ErrorAnswer (coded m i c)
 unfolding coded
 coded-error m i c n = record { seven = refl; no-entries = (refl, refl); code = n }
 

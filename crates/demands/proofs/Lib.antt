@@ -16,3 +16,5 @@ pub mod ParametersLaws
 pub mod StringsLaws
 pub mod ReadingsLaws
 pub mod BurstsLaws
+pub mod CuttingLaws
+pub mod PartsLaws

@@ -13,3 +13,4 @@ pub mod Parameters
 pub mod Strings
 pub mod Readings
 pub mod Bursts
+pub mod Cutting

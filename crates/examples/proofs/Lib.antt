@@ -6,3 +6,4 @@ pub mod SecondRequest
 pub mod Demand3Met
 pub mod PremisesNeeded
 pub mod BurstsNeeded
+pub mod CuttingNeeded

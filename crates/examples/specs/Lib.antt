@@ -1,3 +1,4 @@
 pub mod Example
 pub mod Needed
 pub mod BurstsNeeded
+pub mod CuttingNeeded

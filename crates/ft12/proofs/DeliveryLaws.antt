@@ -10,7 +10,7 @@ use native.Mathlib.Decide.{ℕ-discrete, decLt}
 use native.Mathlib.Nat.{zero-add, suc-add, not-suc-le-zero, le-of-suc-le-suc}
 use lib.ListN.{List·getD-append, length, getD, take, drop, set, replicate, length-append, length-set, length-drop}
 use lib.Seq.{getD-append-add, set-append-left, take-append-le, drop-append-le, length-take-le, append-snoc}
-use lib.Dec.{T, ltb, lt→ltb}
+use lib.Dec.{T}
 use borrow.Author.Tests.{ne-eqb}
 use Rattle.ft12.specs.declared.receiver.Judgement.the-variants.{Damage}
 use Rattle.words.specs.Words.{if_then_else_, isEmpty, areBytes}
@@ -19,7 +19,7 @@ use Rattle.ft12.specs.Receiver.{only, judgedFirst, judgedData, judged, g
 use Rattle.ft12.specs.Record.{Line, hostControl}
 use Rattle.ft12.specs.Rules.{acknowledged, message, atStart, startDropping, gathering, cleared, expecting, caseOfAcknowledgement, caseOfData, caseOf, heardAt, onHeard, onHostByte}
 use Rattle.ft12.specs.Delivery.{Delivery, sound, changed, lost, isSound, arrives, Possible, Hearing, upFirst, hearing, delivered}
-use Rattle.words.proofs.WordLaws.{both, true-T, bytes-at}
+use Rattle.words.proofs.WordLaws.{true-T, bytes-at, byte-first}
 use Rattle.ft12.proofs.ReceiverLaws.{headed, judged-start, judged-fixed-2, judged-fixed-3, judged-data-1, judged-data-2, judged-data-3, judged-sum, judged-end, beginning-prefix}
 use Rattle.ft12.proofs.FrameLaws.{frame-length, head-gathers, body-beginning, summed-beginning, fixed-beginning}
 use Rattle.ft12.proofs.HearingLaws.{Fails, stops, breaks, failing-nothing, Echoes, once, again, echoes-acknowledge}
@@ -181,10 +181,6 @@ module _ (c : ℕ) (host : (c ≡ 0x73) ⊎ (c ≡ 0x53)) where
   not68 : c ≢ 0x68
   not68 = is-not 0x68 (λ h. omega (arith, h)) (λ h. omega (arith, h))
 
-  body-bytes : (m : List ℕ) → T (areBytes m) → T (areBytes (c ∷ m))
-  unfolding areBytes
-  body-bytes m t = both (ltb c 256) (areBytes m) (lt→ltb c 256 (within .1)) t
-
   module _ (m : List ℕ) (short : length m ≤ 254) where
     abbrev n : ℕ
     n = suc (length m)
@@ -201,7 +197,7 @@ module _ (c : ℕ) (host : (c ≡ 0x73) ⊎ (c ≡ 0x53)) where
     fails (changed (suc (suc zero)) b) t u p r = wrong-2 n (omega arith) (omega arith) b _ (p .2)
     fails (changed (suc (suc (suc zero))) b) t u p r = wrong-3 n (omega arith) (omega arith) b _ (p .2)
     fails (changed (suc (suc (suc (suc k)))) b) t u p r =
-        later-changed n (omega arith) (omega arith) (c ∷ m) refl k b (body-bytes m t) (behind-head k (p .0)) (p .1) (p .2)
+        later-changed n (omega arith) (omega arith) (c ∷ m) refl k b (byte-first c m (within .1) t) (behind-head k (p .0)) (p .1) (p .2)
     fails (lost zero) t u p r = headless c not68 n _ r
     fails (lost (suc zero)) t u p r = length-lost c not68 n _ (omega arith) (omega arith)
     fails (lost (suc (suc zero))) t u p r = length-lost c not68 n _ (omega arith) (omega arith)

@@ -7,7 +7,7 @@ use mathlib.Core.List.{List, [], _∷_, _++_, map}
 use native.Mathlib.Omega.{arith}
 use lib.ListN.{length, getD, take, drop, replicate, length-append, length-drop, length-replicate, take-append-drop}
 use lib.Seq.{take-all, take-append-seam, drop-append-seam, getD-drop, length-take-le}
-use lib.Dec.{T, eqb, leb, ltb, eqb→eq, eqb-refl, leb→le, le→leb, ltb→lt}
+use lib.Dec.{T, eqb, leb, ltb, eqb→eq, eqb-refl, leb→le, le→leb, ltb→lt, lt→ltb}
 use borrow.Author.Tests.{eq-eqb}
 use Rattle.words.specs.Words.{if_then_else_, isYesOrNo, isYes, yesOrNo, isEmpty, every, keep, pad, same, sameBy, areZero, isPadded, Padded, areBytes}
 
@@ -184,6 +184,14 @@ bytes-at (x ∷ s) (suc i) t = bytes-at s i (right (ltb x 256) (every (λ b. ltb
 pub bytes-take : (n : ℕ) (s : List ℕ) → T (areBytes s) → T (areBytes (take n s))
 unfolding areBytes
 bytes-take n s t = every-prefix (λ x. ltb x 256) (take n s) (drop n s) (rw (take-append-drop n s) t)
+
+pub bytes-drop : (n : ℕ) (s : List ℕ) → T (areBytes s) → T (areBytes (drop n s))
+unfolding areBytes
+bytes-drop n s t = every-suffix (λ x. ltb x 256) (take n s) (drop n s) (rw (take-append-drop n s) t)
+
+pub byte-first : (x : ℕ) (s : List ℕ) → x < 256 → T (areBytes s) → T (areBytes (x ∷ s))
+unfolding areBytes
+byte-first x s low t = both (ltb x 256) (every (λ b. ltb b 256) s) (lt→ltb x 256 low) t
 
 -- ---- a padded array
 zeros-at : (s : List ℕ) (i : ℕ) → T (areZero s) → getD s i 0 ≡ 0
