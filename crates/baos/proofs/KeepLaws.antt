@@ -26,7 +26,7 @@ use Rattle.baos.proofs.TableLaws
 use Rattle.baos.proofs.DispatchLaws.{by-service, by-message}
 use Rattle.baos.proofs.ServiceLaws.{items-leave-all, strings-leave-all, parameters-leave-all, datapoints-keep-texts, set-datapoints-keep-texts, set-items-keep-texts, set-parameters-keep-texts}
 use Rattle.baos.proofs.SetParameterLaws.{set-length}
-use Rattle.baos.proofs.LeftLaws.{each-fine}
+use Rattle.baos.proofs.LeftLaws.{datapoint-keeps, item-keeps, each-fine}
 use Rattle.baos.proofs.SettingLaws.{code-passes}
 use Rattle.baos.proofs.DatapointLaws
 
@@ -124,7 +124,7 @@ items-keep t m w =
       parameters = parts t w .parameters;
       texts = parts t w .texts;
       items =
-          TableLaws.applied-ok itemId 64 itemOk itemFits setItem (λ o i. unfold setItem withBytes in refl) (λ o p i. unfold itemFits setItem withBytes in refl) item-ok os (t .items)
+          TableLaws.applied-ok itemId 64 itemOk itemFits setItem item-keeps (λ o p i. unfold itemFits setItem withBytes in refl) item-ok os (t .items)
           (every-imp _ (λ o. every (TableLaws.at itemId (o .id) (itemFits o)) (t .items))
           (λ o k. TableLaws.found-fits itemId (o .id) (itemFits o) (λ xs. eqb (judgedItem xs o) 0) (item-judged o) 0 (t .items) (TableLaws.ids-rise itemId 64 itemOk (t .items) (parts t w .items)) k) os j)
           (parts t w .items);
@@ -154,10 +154,6 @@ datapoint-ok : (o : SetEntry) (d : Datapoint) → T (datapointFits o d) → T (d
 unfolding setDatapoint datapointFits
 datapoint-ok o d f t = DatapointLaws.command-ok (o .command) (o .value) d (λ v. simp (T-true (DatapointLaws.takesValue (o .command)) v) at f) t
 
-datapoint-id : (o : SetEntry) (d : Datapoint) → datapointId (setDatapoint o d) ≡ datapointId d
-unfolding setDatapoint
-datapoint-id o d = DatapointLaws.command-same (o .command) (o .value) d .id
-
 datapoint-fits : (o p : SetEntry) (d : Datapoint) → datapointFits p (setDatapoint o d) ≡ datapointFits p d
 unfolding datapointFits setDatapoint
 datapoint-fits o p d = simp (DatapointLaws.command-same (o .command) (o .value) d .typecode)
@@ -167,7 +163,7 @@ unfolding setDatapointValue
 values-keep t m w =
     set-keeps 4 firstDatapointEntry (λ o. judgedDatapoint (found datapointId (o .id) (t .datapoints)) o) _ t m w
     (λ os j. with-datapoints t _ w
-    (TableLaws.applied-ok datapointId 1000 datapointOk datapointFits setDatapoint datapoint-id datapoint-fits datapoint-ok os (t .datapoints)
+    (TableLaws.applied-ok datapointId 1000 datapointOk datapointFits setDatapoint datapoint-keeps datapoint-fits datapoint-ok os (t .datapoints)
     (every-imp _ (λ o. every (TableLaws.at datapointId (o .id) (datapointFits o)) (t .datapoints))
     (λ o k. TableLaws.found-fits datapointId (o .id) (datapointFits o) (λ xs. eqb (judgedDatapoint xs o) 0) (datapoint-judged o) 0 (t .datapoints) (TableLaws.ids-rise datapointId 1000 datapointOk (t .datapoints) (parts t w .datapoints)) k) os j)
     (parts t w .datapoints)))

@@ -19,7 +19,7 @@ use Rattle.baos.specs.Item.{itemId, itemOk, withBytes}
 use Rattle.baos.specs.Lookup.{lookupOf, isPresent}
 use Rattle.baos.specs.Table.{rising, tableOk, found, changedAt}
 use Rattle.baos.proofs.SetLaws.{span-head}
-use Rattle.baos.proofs.TableLaws.{applied-first}
+use Rattle.baos.proofs.TableLaws.{id-stays, applied-first}
 use Rattle.baos.proofs.DatapointLaws as DatapointLaws
 
 pub fills-one : (h n : ℕ) (s : List ℕ) → fills h (suc n) s ≡ true → (span h s ≤ length s) × (fills h n (drop (span h s) s) ≡ true)
@@ -119,11 +119,7 @@ ok-table most idOf ok xs t =
 pub ids-stay : {A : Type 0} (idOf : A → ℕ) (n : ℕ) (f : A → A) → ((x : A) → idOf (f x) ≡ idOf x) → (xs : List A) → map idOf (changedAt idOf n f xs) ≡ map idOf xs
 unfolding changedAt
 ids-stay idOf n f keeps [] = refl
-ids-stay {A} idOf n f keeps (x ∷ xs) = ap (λ (k : ℕ). k ∷ map idOf (changedAt idOf n f xs)) (go (eqb (idOf x) n)) ∙ ap (λ (ks : List ℕ). idOf x ∷ ks) (ids-stay idOf n f keeps xs)
-  where
-    go : (y : Bool) → idOf (if y then f x else x) ≡ idOf x
-    go true = keeps x
-    go false = refl
+ids-stay idOf n f keeps (x ∷ xs) = let a = id-stays idOf n f keeps x in let r = ids-stay idOf n f keeps xs in λ i. a i ∷ r i
 
 pub datapoint-keeps : (e : SetEntry) (d : Datapoint) → datapointId (setDatapoint e d) ≡ datapointId d
 unfolding setDatapoint

@@ -16,6 +16,7 @@ use Rattle.baos.specs.Lookup.{lookupOf}
 use Rattle.baos.specs.Table.{found, changedAt}
 use Rattle.baos.specs.Set.{SetEntry, itemCode, datapointCode, judgedItem, judgedDatapoint, firstBad, applied, setItem, setDatapoint}
 use Rattle.baos.proofs.DatapointLaws as DatapointLaws
+use Rattle.baos.proofs.TableLaws.{id-stays}
 
 -- what judges alike finds the same
 pub first-same : (j k : SetEntry → ℕ) → ((e : SetEntry) → j e ≡ k e) → (es : List SetEntry) → firstBad j es ≡ firstBad k es
@@ -26,13 +27,6 @@ first-same j k same (x ∷ es) = rw (same x, first-same j k same es)
 module _ {A : Type 0} (idOf : A → ℕ) (f : SetEntry → A → A) (keeps-id : (e : SetEntry) (x : A) → idOf (f e x) ≡ idOf x) where
   abbrev one : SetEntry → A → A
   one e x = if eqb (idOf x) (e .id) then f e x else x
-
-  one-id : (e : SetEntry) (x : A) → idOf (one e x) ≡ idOf x
-  one-id e x = go (eqb (idOf x) (e .id))
-    where
-      go : (u : Bool) → idOf (if u then f e x else x) ≡ idOf x
-      go true = keeps-id e x
-      go false = refl
 
   -- ---- no verdict changes
   module _ (code : List A → SetEntry → ℕ) (keeps-code : (e p : SetEntry) (x : A) → code (f e x ∷ []) p ≡ code (x ∷ []) p) where
@@ -50,8 +44,8 @@ module _ {A : Type 0} (idOf : A → ℕ) (f : SetEntry → A → A) (keeps-id : 
       where
         go : (u : Bool) → eqb (idOf x) (p .id) ≡ u → code (found idOf (p .id) (changedAt idOf (e .id) (f e) xs)) p ≡ code (found idOf (p .id) xs) p
             → code (found idOf (p .id) (changedAt idOf (e .id) (f e) (x ∷ xs))) p ≡ code (found idOf (p .id) (x ∷ xs)) p
-        go true q r = rw (one-id e x) (simp q (one-code e p x))
-        go false q r = rw (one-id e x) (simp q r)
+        go true q r = rw (id-stays idOf (e .id) (f e) (keeps-id e) x) (simp q (one-code e p x))
+        go false q r = rw (id-stays idOf (e .id) (f e) (keeps-id e) x) (simp q r)
 
     pub applied-code : (es : List SetEntry) (p : SetEntry) (xs : List A) → code (found idOf (p .id) (applied idOf f es xs)) p ≡ code (found idOf (p .id) xs) p
     unfolding applied

@@ -84,19 +84,19 @@ module _ {A : Type 0} (idOf : A → ℕ) where
   unfolding tableOk
   entries-ok most ok xs t = parts3 (leb (length xs) most) (rising 0 (map idOf xs)) (every ok xs) t .2
 
-  -- the record of one ID changed by f
+  -- the record of one ID changed by f, which leaves the ID: each record has the ID that it had
+  pub id-stays : (n : ℕ) (f : A → A) → ((x : A) → idOf (f x) ≡ idOf x) → (x : A) → idOf (if eqb (idOf x) n then f x else x) ≡ idOf x
+  id-stays n f keeps x = go (eqb (idOf x) n)
+    where
+      go : (u : Bool) → idOf (if u then f x else x) ≡ idOf x
+      go true = keeps x
+      go false = refl
+
   pub table-changed : (most : ℕ) (ok fit : A → Bool) (n : ℕ) (f : A → A) → ((x : A) → idOf (f x) ≡ idOf x) → ((x : A) → T (fit x) → T (ok x) → T (ok (f x)))
       → (xs : List A) → T (every (at n fit) xs) → T (tableOk most idOf ok xs) → T (tableOk most idOf ok (changedAt idOf n f xs))
   unfolding changedAt
-  table-changed most ok fit n f h g xs s t = table-map most ok (at n fit) (λ x. if eqb (idOf x) n then f x else x) ids oks xs s t
+  table-changed most ok fit n f h g xs s t = table-map most ok (at n fit) (λ x. if eqb (idOf x) n then f x else x) (id-stays n f h) oks xs s t
     where
-      ids : (x : A) → idOf (if eqb (idOf x) n then f x else x) ≡ idOf x
-      ids x = go (eqb (idOf x) n) refl
-        where
-          go : (u : Bool) → eqb (idOf x) n ≡ u → idOf (if eqb (idOf x) n then f x else x) ≡ idOf x
-          go true e = simp (e, h x)
-          go false e = simp e
-
       oks : (x : A) → T (at n fit x) → T (ok x) → T (ok (if eqb (idOf x) n then f x else x))
       oks x a o = go (eqb (idOf x) n) refl
         where
