@@ -39,12 +39,12 @@ static void count(const struct row *row, size_t datapoints, size_t items, const 
     char name[100];
     unsigned calls = make_plays(row->kind, row->size, row->held);
     /* once before: the loader looks a function up at its first call */
-    for (size_t v = 0; v < VARIANTS; v++)
+    for (size_t v = 0; v < COUNTED; v++)
         play(&plays[v], f);
     CALLGRIND_ZERO_STATS;
-    for (size_t v = 0; v < VARIANTS; v++)
+    for (size_t v = 0; v < COUNTED; v++)
         play(&plays[v], f);
-    snprintf(name, sizeof name, "%s %zu %zu %zu %zu %s %u", row->name, datapoints, items, row->size, row->held, function, calls * VARIANTS);
+    snprintf(name, sizeof name, "%s %zu %zu %zu %zu %s %u", row->name, datapoints, items, row->size, row->held, function, calls * COUNTED);
     CALLGRIND_DUMP_STATS_AT(name);
 }
 

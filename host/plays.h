@@ -62,8 +62,9 @@ struct play {
     uint8_t burst[TAGOBRELIN_LONGEST_BURST];
 };
 
-/* Plays of one kind that differ in their IDs and values, so that no jump is learnt by heart. */
-enum { VARIANTS = 16 };
+/* Plays of one kind that differ in their IDs and values, so that no jump is learnt by heart, as those of 256 plays were.
+ * COUNTED of them are enough where instructions are counted. */
+enum { VARIANTS = 1024, COUNTED = 16 };
 extern struct play plays[VARIANTS];
 
 /* Fills the tables: so many datapoints and items, some parameter bytes. The lists of texts are empty. */

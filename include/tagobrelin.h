@@ -36,8 +36,8 @@
  * archive are always taken together. CHANGELOG.md tells what changed. */
 #define TAGOBRELIN_VERSION_MAJOR 1
 #define TAGOBRELIN_VERSION_MINOR 6
-#define TAGOBRELIN_VERSION_PATCH 0
-#define TAGOBRELIN_VERSION "1.6.0"
+#define TAGOBRELIN_VERSION_PATCH 1
+#define TAGOBRELIN_VERSION "1.6.1"
 
 #ifdef __cplusplus
 extern "C" {

@@ -1,12 +1,12 @@
 -- What a get answers and leaves, by the verdict before the first pass and the verdict after it: one law for datapoints and items.
-use Prim.Native.Nat.{ℕ, suc, _+_, _≤_}
+use Prim.Native.Nat.{ℕ, _+_, _-_}
 use mathlib.Core.Path.{_≡_, refl, sym, _∙_, ap}
 use mathlib.Core.Bool.{Bool, true, false, _&&_}
 use mathlib.Core.List.{List, [], _∷_, _++_, map}
 use native.Mathlib.Omega.{arith}
 use lib.ListN.{take, drop}
 use lib.Dec.{T, ltb, eqb, ltb→lt, lt→ltb}
-use borrow.Author.Tests.{le-ltb, eqb-true, ltb-true, ltb-false}
+use borrow.Author.Tests.{eqb-true, ltb-true, ltb-false}
 use Rattle.words.specs.Words.{if_then_else_, twoBytes, keep, every}
 use Rattle.words.proofs.WordLaws
 use Rattle.baos.specs.declared.datapoint.Datapoint.{Datapoint}
@@ -19,6 +19,7 @@ use Rattle.baos.specs.Item.{itemId}
 use Rattle.baos.specs.Message.{subService, startOf, coded, verdictOf}
 use Rattle.baos.specs.Get.{AnswerEntry, itemEntry, getServerItem, inRequest, descriptionEntry, getDatapointDescription, valueEntry, asked, handingOut, getDatapointValue}
 use Rattle.baos.specs.Inner.Gather.{filterAsked, sizeAsked, requestFinding, gatheredVerdict, walked, nothingGathered, isWanted, leftOf, datapointStep, itemStep, datapointsBuilt, datapointsLeft, itemsBuilt, wantedOf, getDatapoints}
+use Rattle.baos.proofs.PlaceLaws.{place-none}
 use Rattle.baos.proofs.GetLaws.{gets, empty-refused, over-refused, fits-answered}
 use Rattle.baos.proofs.GatherLaws.{inFront, Passed, passed-listing, values-pass, values-left, descriptions-pass, datapoints-left, wantedBy, items-asked-pass}
 
@@ -58,13 +59,6 @@ module _ (values : Bool) (m : List ℕ) (es : List AnswerEntry) (g : Gathered) (
 
 -- ---- from the place of the start ID on
 module _ {A : Type 0} (idOf : A → ℕ) (n : ℕ) where
-  none-lower : (last : ℕ) (xs : List A) → T (rising last (map idOf xs)) → n ≤ suc last → place idOf n xs ≡ 0
-  unfolding place rising
-  none-lower last [] r h = refl
-  none-lower last (x ∷ xs) r h =
-      let l = ltb→lt last (idOf x) (WordLaws.left (ltb last (idOf x)) (rising (idOf x) (map idOf xs)) r) in
-      simp (le-ltb (idOf x) n (omega (arith, l))) (none-lower (idOf x) xs (WordLaws.right (ltb last (idOf x)) (rising (idOf x) (map idOf xs)) r) (omega (arith, l)))
-
   pub place-front : (last : ℕ) (xs : List A) → T (rising last (map idOf xs)) → T (every (inFront idOf n) (take (place idOf n xs) xs))
   unfolding place rising
   place-front last [] r = tt
@@ -74,7 +68,25 @@ module _ {A : Type 0} (idOf : A → ℕ) (n : ℕ) where
       go true e t = rw e (WordLaws.both (inFront idOf n x) (every (inFront idOf n) (take (place idOf n xs) xs)) (lt→ltb (idOf x) n (ltb-true (idOf x) n e)) t)
       go false e t =
           rw e
-          (rw (none-lower (idOf x) xs (WordLaws.right (ltb last (idOf x)) (rising (idOf x) (map idOf xs)) r) (omega (arith, ltb-false (idOf x) n e))) tt)
+          (rw (place-none idOf x n (idOf x) xs (WordLaws.right (ltb last (idOf x)) (rising (idOf x) (map idOf xs)) r) (omega (arith, ltb-false (idOf x) n e))) tt)
+
+  -- the IDs from there on rise, and none is below n
+  pub place-rises : (last : ℕ) (xs : List A) → T (rising last (map idOf xs)) → T (rising (n - 1) (map idOf (drop (place idOf n xs) xs)))
+  unfolding place rising
+  place-rises last [] r = tt
+  place-rises last (x ∷ xs) r = go (ltb (idOf x) n) refl (place-rises (idOf x) xs rest)
+    where
+      rest : T (rising (idOf x) (map idOf xs))
+      rest = WordLaws.right (ltb last (idOf x)) (rising (idOf x) (map idOf xs)) r
+
+      go : (b : Bool) → ltb (idOf x) n ≡ b → T (rising (n - 1) (map idOf (drop (place idOf n xs) xs))) → T (rising (n - 1) (map idOf (drop (place idOf n (x ∷ xs)) (x ∷ xs))))
+      go true e t = rw e t
+      go false e t =
+          let l = ltb→lt last (idOf x) (WordLaws.left (ltb last (idOf x)) (rising (idOf x) (map idOf xs)) r) in
+          let k = ltb-false (idOf x) n e in
+          rw e
+          (rw (place-none idOf x n (idOf x) xs rest (omega (arith, k)))
+          (WordLaws.both (ltb (n - 1) (idOf x)) (rising (idOf x) (map idOf xs)) (lt→ltb (n - 1) (idOf x) (omega (arith, l, k))) rest))
 
 -- ---- the two gets of datapoints
 abbrev pub datapointsFrom : List ℕ → List Datapoint → List Datapoint

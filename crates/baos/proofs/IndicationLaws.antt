@@ -17,12 +17,13 @@ use Rattle.baos.specs.declared.inner.Told.{Told}
 use Rattle.baos.specs.Datapoint.{sizeOf, datapointId, datapointOk, withMark, handedOut, zeroDatapoint}
 use Rattle.baos.specs.Table.{tableOk, datapointsOnly}
 use Rattle.baos.specs.Get.{roomForEntries, valueEntry, listing}
-use Rattle.baos.specs.Inner.Gather.{entriesTold}
+use Rattle.baos.specs.Inner.Gather.{entriesTold, firstMarked}
 use Rattle.baos.specs.Inner.Promise.{Answered, MarkedTold}
 use Rattle.baos.specs.Indication.{needs, goes, roomAfter, Choice, choices, reported, afterReport, indicationOf, indication}
 use Rattle.baos.proofs.DatapointLaws.{parts}
 use Rattle.baos.proofs.AnswerLaws.{entries-fit}
 use Rattle.baos.proofs.WideLaws.{value-size}
+use Rattle.baos.proofs.MarkLaws.{over-unmarked}
 use Rattle.baos.proofs.PassLaws.{drop-next, take-next, take-set, drop-set, rest-ok, here-ok, code-fits, Putting, putting-all, putting-none, putting-next, entry-fits}
 
 -- ---- one datapoint
@@ -256,6 +257,10 @@ module _ (ys : List Datapoint) (out : List ℕ) (at : ℕ) where
               few = omega (arith, h .few, long-is, needs-some d);
               inside = omega (arith, h .inside, long-is, leb-true (needs d) room fit);
             }
+
+  -- in front of the first marked one nothing is told
+  pub telling-first : (end count : ℕ) (zs : List Datapoint) (bs : List ℕ) → Telling ys out at 0 end count zs bs → Telling ys out at (firstMarked zs) end count zs bs
+  telling-first end count zs bs h = over-unmarked zs (λ (j : ℕ). Telling ys out at j end count zs bs) (λ j l n t. telling-other j end count zs bs t l n) h
 
 -- ---- a buffer
 read-behind : (p x : List ℕ) (i : ℕ) → getD (p ++ x) (length p + i) 0 ≡ getD x i 0

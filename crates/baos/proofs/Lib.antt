@@ -21,6 +21,7 @@ pub mod LastLaws
 pub mod LeftLaws
 pub mod ListedLaws
 pub mod LookupLaws
+pub mod MarkLaws
 pub mod MeasureLaws
 pub mod OrderLaws
 pub mod Pairs

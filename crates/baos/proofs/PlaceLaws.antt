@@ -1,6 +1,6 @@
 -- The place of an ID in a table whose IDs rise, and how `found` and `changedAt` are had from it. One set of laws for items and datapoints.
 use mathlib.Core.Path.{_≡_, refl, sym, _∙_, ap, subst}
-use Prim.Native.Nat.{ℕ, zero, suc, _<_, _≤_}
+use Prim.Native.Nat.{ℕ, zero, suc, _+_, _<_, _≤_}
 use native.Mathlib.Omega.{arith}
 use native.Mathlib.Nat.{not-suc-le-zero, le-of-suc-le-suc}
 use mathlib.Core.Bool.{Bool, true, false, _&&_}
@@ -64,6 +64,14 @@ module _ {A : Type 0} (idOf : A → ℕ) (blank : A) where
           same : j ≤ i → i ≡ j
           same m = omega (arith, l, m)
 
+  -- a record whose ID is lower: so are those in front of it
+  pub lower : (xs : List A) → Rising xs → (n j : ℕ) → j < length xs → idAt xs j < n → (i : ℕ) → i < j + 1 → idAt xs i < n
+  lower xs r n j l u i v = omega (arith, no-less xs r i j (omega (arith, v)) l, u)
+
+  -- one whose ID is not: nor are those behind it
+  pub higher : (xs : List A) → Rising xs → (n j : ℕ) → n ≤ idAt xs j → (i : ℕ) → j ≤ i → i < length xs → n ≤ idAt xs i
+  higher xs r n j e i l u = omega (arith, e, no-less xs r j i l u)
+
   -- ---- the place, by what is below it and what is not
   pub place-is : (n : ℕ) (xs : List A) (at : ℕ) → at ≤ length xs → ((i : ℕ) → i < at → idAt xs i < n) → ((i : ℕ) → at ≤ i → i < length xs → n ≤ idAt xs i) → at ≡ place idOf n xs
   unfolding place
@@ -80,8 +88,8 @@ module _ {A : Type 0} (idOf : A → ℕ) (blank : A) where
   abbrev pub stands : ℕ → List A → Bool
   stands n xs = ltb (place idOf n xs) (length xs) && eqb (idAt xs (place idOf n xs)) n
 
-  -- behind a record whose ID is n or more there is no record of n
-  place-none : (n last : ℕ) (xs : List A) → T (rising last (map idOf xs)) → n ≤ last → place idOf n xs ≡ 0
+  -- behind a record whose ID is n or more, or one less, none is below n
+  pub place-none : (n last : ℕ) (xs : List A) → T (rising last (map idOf xs)) → n ≤ suc last → place idOf n xs ≡ 0
   unfolding place
   place-none n last [] t l = refl
   place-none n last (x ∷ xs) t l =
@@ -125,7 +133,7 @@ module _ {A : Type 0} (idOf : A → ℕ) (blank : A) where
         go true e r = r
         go false e r =
             let l : n ≤ idOf x = ltb-false (idOf x) n e in
-            subst (λ (k : ℕ). T (every okFrom (drop k (x ∷ xs)))) (sym (place-none n (idOf x) xs (rest-rises last x xs t) l))
+            subst (λ (k : ℕ). T (every okFrom (drop k (x ∷ xs)))) (sym (place-none n (idOf x) xs (rest-rises last x xs t) (omega (arith, l))))
             (both (okFrom x) (every okFrom xs) (both (leb n (idOf x)) (ok x) (le→leb n (idOf x) l) (left (ok x) (every ok xs) u)) (all-from (idOf x) xs (rest-rises last x xs t) l (right (ok x) (every ok xs) u)))
 
     pub at-place : (most : ℕ) (xs : List A) (at : ℕ) → tableOk most idOf ok xs ≡ true → at ≡ place idOf n xs → (at ≤ length xs) × T (every okFrom (drop at xs))
@@ -161,9 +169,9 @@ module _ {A : Type 0} (idOf : A → ℕ) (blank : A) where
       go true v e d r =
           simp (e, ne-eqb (idOf x) n (λ q. omega (arith, q, ltb-true (idOf x) n e)))
           (r ∙ ap (λ (b : Bool). if b && eqb (idAt xs (place idOf n xs)) n then getD xs (place idOf n xs) blank ∷ [] else []) (sym (ltb-suc (place idOf n xs) (length xs))))
-      go false true e d r = simp (e, d, place-none n (idOf x) xs (rest-rises last x xs t) (ltb-false (idOf x) n e)) (sym (first-one x xs (x ∷ []) []))
+      go false true e d r = simp (e, d, place-none n (idOf x) xs (rest-rises last x xs t) (omega (arith, ltb-false (idOf x) n e))) (sym (first-one x xs (x ∷ []) []))
       go false false e d r =
-          simp (e, d, place-none n (idOf x) xs (rest-rises last x xs t) (ltb-false (idOf x) n e))
+          simp (e, d, place-none n (idOf x) xs (rest-rises last x xs t) (omega (arith, ltb-false (idOf x) n e)))
           (found-none n (idOf x) xs (rest-rises last x xs t) (ltb-false (idOf x) n e) ∙ sym (neither (ltb 0 (length (x ∷ xs))) (x ∷ []) []))
 
   -- `changedAt` is `set` at the place, if the record there has the ID
@@ -184,8 +192,8 @@ module _ {A : Type 0} (idOf : A → ℕ) (blank : A) where
           (ap (λ (ys : List A). x ∷ ys) r ∙ sym (inside (stands n xs) (place idOf n xs) (f (getD xs (place idOf n xs) blank)))
           ∙ ap (λ (b : Bool). if b && eqb (idAt xs (place idOf n xs)) n then set (x ∷ xs) (suc (place idOf n xs)) (f (getD xs (place idOf n xs) blank)) else x ∷ xs) (sym (ltb-suc (place idOf n xs) (length xs))))
       go false true e d r =
-          simp (e, d, place-none n (idOf x) xs (rest-rises last x xs t) (ltb-false (idOf x) n e))
-          (ap (λ (ys : List A). f x ∷ ys) (changed-none n f (idOf x) xs (rest-rises last x xs t) (ltb-false (idOf x) n e)) ∙ sym (first-one x xs (f x ∷ xs) (x ∷ xs)))
+          simp (e, d, place-none n (idOf x) xs (rest-rises last x xs t) (omega (arith, ltb-false (idOf x) n e)))
+          (ap (λ (ys : List A). f x ∷ ys) (changed-none n f (idOf x) xs (rest-rises last x xs t) (omega (arith, ltb-false (idOf x) n e))) ∙ sym (first-one x xs (f x ∷ xs) (x ∷ xs)))
       go false false e d r =
-          simp (e, d, place-none n (idOf x) xs (rest-rises last x xs t) (ltb-false (idOf x) n e))
-          (ap (λ (ys : List A). x ∷ ys) (changed-none n f (idOf x) xs (rest-rises last x xs t) (ltb-false (idOf x) n e)) ∙ sym (neither (ltb 0 (length (x ∷ xs))) (f x ∷ xs) (x ∷ xs)))
+          simp (e, d, place-none n (idOf x) xs (rest-rises last x xs t) (omega (arith, ltb-false (idOf x) n e)))
+          (ap (λ (ys : List A). x ∷ ys) (changed-none n f (idOf x) xs (rest-rises last x xs t) (omega (arith, ltb-false (idOf x) n e))) ∙ sym (neither (ltb 0 (length (x ∷ xs))) (f x ∷ xs) (x ∷ xs)))

@@ -1,15 +1,15 @@
 -- Strings: both passes over the datapoints find and build the entries to return, and the search in the text lists goes forward with them.
-use Prim.Native.Nat.{ℕ, zero, suc, _+_, _/_, _%_, _≤_, _<_}
+use Prim.Native.Nat.{ℕ, suc, _+_, _-_, _/_, _%_, _≤_, _<_}
 use mathlib.Core.Path.{_≡_, refl, sym, _∙_, ap, subst}
 use mathlib.Core.Bool.{Bool, true, false, not}
 use mathlib.Core.List.{List, [], _∷_, map}
 use native.Mathlib.Omega.{arith}
 use lib.ListN.{length, getD, drop}
 use lib.Seq.{sets}
-use lib.Dec.{T, ltb, ltb→lt, lt→ltb}
+use lib.Dec.{T, ltb, ltb→lt}
 use denote.Ref.{RefT}
 use Rattle.words.specs.Words.{if_then_else_, keep, put}
-use Rattle.words.proofs.WordLaws.{left, right, both}
+use Rattle.words.proofs.WordLaws.{left, right}
 use Rattle.words.proofs.ByteLaws.{put-sets, put-put}
 use Rattle.baos.specs.declared.datapoint.Datapoint.{Datapoint}
 use Rattle.baos.specs.declared.inner.Wanted.{Wanted}
@@ -26,11 +26,10 @@ use Rattle.baos.specs.Inner.Gather.{filterAsked, sizeAsked, wantedOf, is
 use Rattle.baos.specs.Inner.Strings.{gatheredOf, cursorsIn, stringsOf, stringStep, stringsBuilt, stringMeasured}
 use Rattle.baos.proofs.GetLaws.{gets}
 use Rattle.baos.proofs.GatherLaws.{Passed, gathered-passes, within-from, within-below, walked-keeps}
-use Rattle.baos.proofs.AnsweredLaws.{place-front, datapointsFrom}
+use Rattle.baos.proofs.AnsweredLaws.{place-front, place-rises, datapointsFrom}
 use Rattle.baos.proofs.PassLaws.{drop-next}
-use Rattle.baos.proofs.TableLaws.{rising-lower}
 use Rattle.baos.proofs.MeasureLaws.{not-behind, in-range, measured-wanted}
-use Rattle.baos.proofs.TextLaws.{cursors-start, text-size, text-short}
+use Rattle.baos.proofs.TextLaws.{text-size, text-short}
 
 -- ---- the entries to return
 abbrev pub stringEntries : TextLists → List ℕ → List Datapoint → List AnswerEntry
@@ -69,42 +68,35 @@ step-cursors ts w d s t = go (isBehind w (d .id)) refl
     go true e = absurd (simp e at t)
     go false e = simp e refl
 
--- ---- the search goes forward: in both lists it has ended at an ID that all datapoints to come are above
+-- ---- the search goes forward: in both lists it has ended at the ID `low`; the datapoints to come are above `last`, and `low` is at most one more
 pub record Following (ts : TextLists) (c : Cursors) (ds : List Datapoint) : Type 0 where
   pub low : ℕ
   pub place : c ≡ cursorsOf low ts
-  pub rest : T (rising low (map datapointId ds))
+  pub last : ℕ
+  pub next : low ≤ suc last
+  pub rest : T (rising last (map datapointId ds))
 
-rising-drop : (last : ℕ) (ds : List Datapoint) (k : ℕ) → T (rising last (map datapointId ds)) → T (rising last (map datapointId (drop k ds)))
-unfolding rising
-rising-drop last ds zero t = t
-rising-drop last [] (suc k) t = tt
-rising-drop last (d ∷ ds) (suc k) t =
-    rising-lower last (d .id) (map datapointId (drop k ds)) (omega (arith, ltb→lt last (d .id) (left (ltb last (d .id)) (rising (d .id) (map datapointId ds)) t)))
-    (rising-drop (d .id) ds k (right (ltb last (d .id)) (rising (d .id) (map datapointId ds)) t))
-
-abbrev pub atStart : Cursors
-atStart = record { site = 0; defaults = 0 }
-
-pub following-start : (ts : TextLists) (ds : List Datapoint) (k : ℕ) → T (rising 0 (map datapointId ds)) → Following ts atStart (drop k ds)
-unfolding cursorsOf
-following-start ts ds k t =
+-- a pass begins at the place of the range's first ID, with that ID's cursors
+pub following-start : (ts : TextLists) (c : Cursors) (ds : List Datapoint) (first k : ℕ) → T (rising 0 (map datapointId ds)) → k ≡ place datapointId first ds → c ≡ cursorsOf first ts → Following ts c (drop k ds)
+following-start ts c ds first k t e p =
     record {
-      low = 0;
-      place = sym (cursors-start ts);
-      rest = rising-drop 0 ds k t;
+      low = first;
+      place = p;
+      last = first - 1;
+      next = omega arith;
+      rest = subst (λ (j : ℕ). T (rising (first - 1) (map datapointId (drop j ds)))) (sym e) (place-rises datapointId first 0 ds t);
     }
 
 module _ (ts : TextLists) (c : Cursors) (ds : List Datapoint) (i : ℕ) (blank : Datapoint) (l : i < length ds) (f : Following ts c (drop i ds)) where
   abbrev d : Datapoint
   d = getD ds i blank
 
-  next-rises : T (rising (f .low) (map datapointId (d ∷ drop (i + 1) ds)))
-  next-rises = subst (λ (xs : List Datapoint). T (rising (f .low) (map datapointId xs))) (drop-next ds i blank l) (f .rest)
+  next-rises : T (rising (f .last) (map datapointId (d ∷ drop (i + 1) ds)))
+  next-rises = subst (λ (xs : List Datapoint). T (rising (f .last) (map datapointId xs))) (drop-next ds i blank l) (f .rest)
 
   above : f .low ≤ d .id
   unfolding rising
-  above = omega (arith, ltb→lt (f .low) (d .id) (left (ltb (f .low) (d .id)) (rising (d .id) (map datapointId (drop (i + 1) ds))) next-rises))
+  above = omega (arith, f .next, ltb→lt (f .last) (d .id) (left (ltb (f .last) (d .id)) (rising (d .id) (map datapointId (drop (i + 1) ds))) next-rises))
 
   pub following-here : BothReached (d .id) ts c
   unfolding cursorsOf
@@ -120,7 +112,9 @@ module _ (ts : TextLists) (c : Cursors) (ds : List Datapoint) (i : ℕ) (blank :
       record {
         low = d .id;
         place = p;
-        rest = right (ltb (f .low) (d .id)) (rising (d .id) (map datapointId (drop (i + 1) ds))) next-rises;
+        last = d .id;
+        next = omega arith;
+        rest = right (ltb (f .last) (d .id)) (rising (d .id) (map datapointId (drop (i + 1) ds))) next-rises;
       }
 
 -- ---- one string

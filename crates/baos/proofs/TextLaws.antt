@@ -15,7 +15,7 @@ use Rattle.baos.specs.declared.text.Stretch.{Stretch}
 use Rattle.baos.specs.declared.inner.Cursors.{Cursors}
 use Rattle.baos.specs.TextList.{EntryAt, spanOf, isEntry, firstEntry, entriesFrom, entriesAt, entriesIn, textListOk}
 use Rattle.baos.specs.Text.{TextLists, textListsOk, entriesFor, chosen, stretchOf, holder, stretchBytes, textOf, HandedOn}
-use Rattle.baos.specs.Inner.Cursors.{placeOf, cursorsOf, entryHere}
+use Rattle.baos.specs.Inner.Cursors.{placeOf, cursorsOf, atStart, BothReached, entryHere}
 use Rattle.baos.proofs.TextListLaws.{entry-short, entry-whole, place-start, isFor}
 
 -- ---- both lists
@@ -41,9 +41,12 @@ unfolding cursorsOf
 cursors-are id own shipped ts p q = λ i. record { site = p i; defaults = q i }
 
 -- a search begins at the start of both lists: no ID is below 0
-pub cursors-start : (ts : TextLists) → cursorsOf 0 ts ≡ record { site = 0; defaults = 0 }
-unfolding cursorsOf
-cursors-start ts = λ i. record { site = place-start (entriesIn (ts .site)) i; defaults = place-start (entriesIn (ts .defaults)) i }
+pub reached-start : (id : ℕ) (ts : TextLists) → BothReached id ts atStart
+reached-start id ts =
+    record {
+      site = record { low = 0; below = omega arith; place = sym (place-start (entriesIn (ts .site))) };
+      defaults = record { low = 0; below = omega arith; place = sym (place-start (entriesIn (ts .defaults))) };
+    }
 
 -- ---- the stretch that is chosen, by what the two lists have for the ID
 here-none : (id at size : ℕ) → size ≡ 0 → entryHere id at size ≡ []

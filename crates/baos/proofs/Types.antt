@@ -7,6 +7,8 @@ use mir.Syntax.{w8, w16, w64}
 use denote.Struct.Laws as LL
 use Rattle.baos.specs.declared.datapoint.Datapoint.{Datapoint}
 use Rattle.baos.specs.declared.item.Item.{Item}
+use Rattle.baos.specs.declared.inner.Cursors.{Cursors}
+use Rattle.baos.specs.Inner.Cursors.{atStart}
 use Rattle.baos.specs.Inner.Gather.{nothingGathered}
 use Rattle.baos.specs.Inner.Strings.{nothingMeasured}
 use Rattle.baos.proofs.datapoint.Datapoint as D
@@ -23,6 +25,8 @@ use Rattle.baos.proofs.inner.Verdict as Judged
 use Rattle.baos.proofs.inner.Verdict.Laws as Judged′
 use Rattle.baos.proofs.inner.EntryPlace as Sought
 use Rattle.baos.proofs.inner.EntryPlace.Laws as Sought′
+use Rattle.baos.proofs.inner.Cursors as C
+use Rattle.baos.proofs.inner.Cursors.Laws as C′
 use Rattle.baos.proofs.inner.Strings as S
 use Rattle.baos.proofs.inner.Strings.Laws as S′
 use Rattle.baos.proofs.inner.StringsEnd as E
@@ -53,6 +57,9 @@ verdictD = structD Judged.the-type Judged′.the-laws Judged′.the-plain (λ x 
 
 abbrev pub entryPlaceD : Data
 entryPlaceD = structD Sought.the-type Sought′.the-laws Sought′.the-plain (λ x f. refl)
+
+abbrev pub cursorsD : Data
+cursorsD = structD C.the-type C′.the-laws C′.the-plain (λ x f. refl)
 
 abbrev pub stringsD : Data
 stringsD = structD S.the-type S′.the-laws S′.the-plain (λ x f. refl)
@@ -87,13 +94,26 @@ item-id-fits i g = LL.owed I.the-type I′.the-laws i _ g .0 .1
 pub nothing-good : Good gatheredD nothingGathered
 nothing-good = LL.owes G.the-type G′.the-laws nothingGathered ((refl, lit< tt), ((refl, lit< tt), ((refl, lit< tt), (refl, tt))))
 
-pub no-string-good : Good stringsD nothingMeasured
-no-string-good =
-    LL.owes S.the-type S′.the-laws nothingMeasured
-    ((refl, lit< tt), ((refl, lit< tt), ((refl, lit< tt), (refl, ((refl, lit< tt), ((refl, lit< tt), tt))))))
+-- the start of both text lists
+pub start-cursors-good : Good cursorsD atStart
+start-cursors-good = LL.owes C.the-type C′.the-laws atStart ((refl, lit< tt), ((refl, lit< tt), tt))
 
-pub strings-begin-good : (at : ℕ) → at < 2 ^ 64 → Good stringsEndD (record { end = at; site = 0; defaults = 0 })
-strings-begin-good at f = LL.owes E.the-type E′.the-laws (record { end = at; site = 0; defaults = 0 }) ((refl, f), ((refl, lit< tt), ((refl, lit< tt), tt)))
+module _ (c : Cursors) (g : Good cursorsD c) where
+  site-fits : c .site < 2 ^ 64
+  site-fits = LL.owed C.the-type C′.the-laws c _ g .0 .1
+
+  defaults-fits : c .defaults < 2 ^ 64
+  defaults-fits = LL.owed C.the-type C′.the-laws c _ g .1 .0 .1
+
+  pub no-string-good : Good stringsD (nothingMeasured c)
+  no-string-good =
+      LL.owes S.the-type S′.the-laws (nothingMeasured c)
+      ((refl, lit< tt), ((refl, lit< tt), ((refl, lit< tt), (refl, ((refl, site-fits), ((refl, defaults-fits), tt))))))
+
+  pub strings-begin-good : (at : ℕ) → at < 2 ^ 64 → Good stringsEndD (record { end = at; site = c .site; defaults = c .defaults })
+  strings-begin-good at f =
+      LL.owes E.the-type E′.the-laws (record { end = at; site = c .site; defaults = c .defaults })
+      ((refl, f), ((refl, site-fits), ((refl, defaults-fits), tt)))
 
 -- the byte offset of record i fits: a datapoint has 22 bytes, an item 20, a found entry 4
 pub datapoint-offset-fits : (n i : ℕ) → n * 22 < 2 ^ 63 → i < n → i * 22 < 2 ^ 64

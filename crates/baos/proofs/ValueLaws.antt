@@ -1,6 +1,6 @@
 -- Laws of a value by its type code: its size, the limit of its first byte, its test.
-use Prim.Native.Nat.{ℕ, zero, suc, _+_, _^_, _≤_, _<_}
-use mathlib.Core.Path.{_≡_, refl, sym, subst}
+use Prim.Native.Nat.{ℕ, zero, suc, _+_, _*_, _^_, _≤_, _<_}
+use mathlib.Core.Path.{_≡_, refl, sym, _∙_, ap, subst}
 use mathlib.Core.Bool.{Bool, true, false, _&&_}
 use mathlib.Core.Logic.{_⊎_, inl, inr}
 use mathlib.Core.List.{List, [], _∷_}
@@ -8,7 +8,7 @@ use native.Mathlib.Omega.{arith}
 use native.Mathlib.Nat.{not-suc-le-zero, eq-or-lt-of-le, lt-irrefl}
 use lib.ListN.{length, getD}
 use lib.Dec.{T, ltb, eqb, eqb→eq}
-use lib.Pow.{pow-pos}
+use lib.Pow.{pow-add, pow-mono, pow-pos}
 use borrow.Author.Tests.{lt-ltb, le-ltb, eq-eqb, ne-eqb, ltb-true, ltb-false}
 use Rattle.words.specs.Words.{if_then_else_}
 use Rattle.words.proofs.WordLaws.{left, right}
@@ -20,7 +20,7 @@ abbrev pub Others : ℕ → ℕ → ℕ → Type 0
 Others a zero k = Unit
 Others a (suc n) k = Others a n k × (k ≡ a + n → ⊥)
 
-pub beyond : (a n k : ℕ) → a ≤ k → Others a n k → a + n ≤ k
+beyond : (a n k : ℕ) → a ≤ k → Others a n k → a + n ≤ k
 beyond a zero k h o = omega arith
 beyond a (suc n) k h o = elim (eq-or-lt-of-le (beyond a n k h (o .0))) [ inl e ↦ absurd (o .1 (sym e)) | inr u ↦ omega (arith, u) ]
 
@@ -48,7 +48,7 @@ pub size-of-bits : (k : ℕ) → k < 8 → sizeOf k ≡ 1
 unfolding sizeOf
 size-of-bits k h = simp (lt-ltb k 8 h)
 
-size-of-none : (k : ℕ) → 15 ≤ k → sizeOf k ≡ 0
+pub size-of-none : (k : ℕ) → 15 ≤ k → sizeOf k ≡ 0
 unfolding sizeOf
 size-of-none k h = simp (le-ltb k 8 (omega arith), le-ltb k 11 (omega arith), le-ltb k 14 (omega arith), ne-eqb k 14 (λ e. omega (arith, e)))
 
@@ -78,6 +78,15 @@ sizes-listed k = eqb→eq (sizeOf k) (getD listed k 0) (each-size (λ k n. eqb n
 pub limit-of-whole : (k : ℕ) → 7 ≤ k → limitOf k ≡ 256
 unfolding limitOf
 limit-of-whole k h = simp (le-ltb k 7 h)
+
+-- a byte against it, by the code alone: from code 7 on twice the power is beyond every byte
+pub below-limit : (k v : ℕ) → v < 256 → ltb v (2 * 2 ^ k) ≡ ltb v (limitOf k)
+unfolding limitOf
+below-limit k v b = go (ltb k 7) refl
+  where
+    go : (t : Bool) → ltb k 7 ≡ t → ltb v (2 * 2 ^ k) ≡ ltb v (if ltb k 7 then 2 ^ (k + 1) else 256)
+    go true e = simp (e, pow-add 2 k 1) (ap (ltb v) (omega arith))
+    go false e = simp e (lt-ltb v (2 * 2 ^ k) (omega (arith, b, pow-mono {i = 7} {j = k} (ltb-false k 7 e))) ∙ sym (lt-ltb v 256 b))
 
 limit-positive : (k : ℕ) → 0 < limitOf k
 unfolding limitOf

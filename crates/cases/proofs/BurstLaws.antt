@@ -1,7 +1,7 @@
 -- A burst is read: what the reader answers and leaves decides whether the burst holds what a line says.
 use Prim.Native.Nat.{ℕ, _+_, _-_, _≤_, _<_, _^_}
-use mathlib.Core.Path.{_≡_, sym, _∙_, ap}
-use mathlib.Core.Bool.{Bool, false}
+use mathlib.Core.Path.{_≡_, refl, sym, _∙_, ap}
+use mathlib.Core.Bool.{Bool, true, false, _&&_}
 use mathlib.Core.List.{List}
 use native.Mathlib.Omega.{arith}
 use lib.IntN.{ℤ, pos}
@@ -19,8 +19,8 @@ use Rattle.ft12.specs.declared.burst.BurstNumbers.{BurstNumbers}
 use Rattle.ft12.specs.declared.burst.BurstReply.{BurstReply}
 use Rattle.ft12.specs.declared.burst.BurstReply.the-variants.{Read}
 use Rattle.ft12.proofs.BurstLaws.{starts-length, figures-sum, burst-read}
-use Rattle.bench.specs.Same.{Decides}
-use Rattle.bench.proofs.SameLaws.{failed, left-to}
+use Rattle.cases.specs.Same.{Decides}
+use Rattle.cases.proofs.SameLaws.{failed, left-to}
 use Rattle.cases.specs.Burst.{startCount, burstStart, burstOf, FindsAs}
 
 -- ---- three numbers, compared
@@ -70,7 +70,7 @@ module _ (a : List ℕ) (from : ℕ) (n : BurstNumbers) (run : List ℕ) (w : Wa
   unfolding burstNumbers figuresOf
   numbers-are = w .told ∙ w .leaves .reply ∙ ap (λ (c : BurstCalled). burstNumbers (c .reply)) read
 
-  pub other-numbers : {b : Bool} → Decides b (n ≡ numbersSaid a) → b ≡ false → Decides false (FindsAs a)
+  other-numbers : {b : Bool} → Decides b (n ≡ numbersSaid a) → b ≡ false → Decides false (FindsAs a)
   other-numbers d e = failed d e (λ f. numbers-are ∙ (λ i. threeNumbers (pos (f .ending i)) (f .frames i) (f .acknowledgements i)))
 
   pub starts-long : length (startsSaid a from) ≡ startCount a
@@ -90,7 +90,7 @@ module _ (a : List ℕ) (from : ℕ) (n : BurstNumbers) (run : List ℕ) (w : Wa
       ap (take k) (w .leaves .run ∙ ap (λ (c : BurstCalled). c .run) read)
       ∙ take-at (startsOf (contents B)) (drop (0 + length (startsOf (contents B))) (w .lent)) k e
 
-  pub starts-decide : {b : Bool} → n ≡ numbersSaid a → Decides b (take (length (startsSaid a from)) run ≡ startsSaid a from) → Decides b (FindsAs a)
+  starts-decide : {b : Bool} → n ≡ numbersSaid a → Decides b (take (length (startsSaid a from)) run ≡ startsSaid a from) → Decides b (FindsAs a)
   starts-decide e d =
       left-to d
       (λ p. record { whole = omega (arith, w .at, w .whole); short = short-burst; ending = ending; frames = frames; acknowledgements = acknowledgements; starts = sym places ∙ p ∙ starts-said })
@@ -110,3 +110,8 @@ module _ (a : List ℕ) (from : ℕ) (n : BurstNumbers) (run : List ℕ) (w : Wa
 
       places : take (length (startsSaid a from)) run ≡ startsOf (contents B)
       places = first-places (length (startsSaid a from)) (omega (arith, starts-count, frames, acknowledgements, starts-long))
+
+  -- both tests together
+  pub found-decided : {b d : Bool} → Decides b (n ≡ numbersSaid a) → Decides d (take (length (startsSaid a from)) run ≡ startsSaid a from) → Decides (b && d) (FindsAs a)
+  found-decided {b = true} x y = starts-decide (x .0 refl) y
+  found-decided {b = false} x y = other-numbers x refl

@@ -1,3 +1,8 @@
+pub mod BenchLaws
+pub mod RunLaws
+pub mod ReadLaws
+pub mod SameLaws
+pub mod Types
 pub mod BurstLaws
 pub mod LentLaws
 pub mod ScriptLaws

@@ -5,17 +5,17 @@ use mathlib.Core.Bool.{Bool, true, false, _&&_}
 use mathlib.Core.List.{List, [], _∷_}
 use native.Mathlib.Omega.{arith}
 use lib.ListN.{length, take, drop, getD, length-drop, drop-of-length-le}
-use lib.Seq.{drop-drop, take-all}
+use lib.Seq.{drop-drop, take-all, length-take-le}
 use lib.Dec.{eqb}
 use borrow.Author.Tests.{ne-eqb}
 use Rattle.calls.specs.declared.event.Event.the-variants.{IdleMark}
-use Rattle.bench.specs.declared.bench.Bench.{Bench}
-use Rattle.bench.specs.declared.run.Stand.{Stand}
-use Rattle.bench.specs.Bench.{emptyBench}
-use Rattle.bench.specs.Read.{ReadsAs}
-use Rattle.bench.specs.Run.{happened, countSent, quiet, Sends, standAfter}
-use Rattle.bench.specs.Same.{Decides, SameTables, LinkIs}
-use Rattle.bench.proofs.SameLaws.{false-true, refuted, shown, left-to}
+use Rattle.cases.specs.declared.bench.Bench.{Bench}
+use Rattle.cases.specs.declared.run.Stand.{Stand}
+use Rattle.cases.specs.Bench.{emptyBench}
+use Rattle.cases.specs.Read.{ReadsAs}
+use Rattle.cases.specs.Run.{happened, countSent, quiet, Sends, standAfter}
+use Rattle.cases.specs.Same.{Decides, SameTables, LinkIs}
+use Rattle.cases.proofs.SameLaws.{false-true, refuted, shown, left-to}
 use Rattle.script.specs.declared.line.Line.{Line}
 use Rattle.script.specs.Line.{lines, lineEnd, readLine}
 use Rattle.script.specs.Record.{raised}
@@ -96,10 +96,10 @@ module _ (l : Line) (w : Bench) (s : Stand) (q : s .quiet ≡ true) where
   nothing-asked nr nx nl nt ng nu =
       shown (record { silent = q; reply = λ e. absurd (nr e); damage = λ e. absurd (nx e); link = λ e. absurd (nl e); tables = λ e. absurd (nt e); reading = λ e. absurd (ng e); burst = λ e. absurd (nu e) })
 
-pub damage-decided : (asked place n : ℕ) (b : Bench) → place ≡ asked → b .link .dropping ≡ 1 → n ≡ countSent (b .reply) → Decides (eqb n 0) (Damaged asked place b)
+-- a count of no bytes is quiet
+pub quiet-decided : (b : Bench) (n : ℕ) → n ≡ countSent (b .reply) → Decides (eqb n 0) (quiet b ≡ true)
 unfolding quiet
-damage-decided asked place n b f d e =
-    ((λ x. record { found = f; drops = d; silent = rw (sym e) x }), (λ y. rw (sym e) at (y .silent)))
+quiet-decided b n e = ((λ x. rw (sym e) x), (λ y. rw (sym e) at y))
 
 -- ---- the loop: what is left of the script asks the rest
 pub record Playing (t : List ℕ) (w : Bench) (s : Stand) (r : Bool) (at : ℕ) : Type 0 where
@@ -130,6 +130,9 @@ module _ (t : List ℕ) (at e : ℕ) (l : at < length t) (ee : e ≡ lineEnd (ta
 
   pub line-some : 1 ≤ e
   line-some = let h = end-some rest (omega (arith, length-drop at t)) in omega (arith, end-is, h)
+
+  pub line-there : 0 < length (take (at + e - at) rest)
+  line-there = omega (arith, line-some, length-take-le (at + e - at) rest (omega (arith, line-within, length-drop at t)))
 
   next : lines rest ≡ take e rest ∷ lines (drop (at + e) t)
   next = rw end-is (lines-next rest (omega (arith, length-drop at t)) ∙ ap (λ (z : List ℕ). take (lineEnd rest) rest ∷ lines z) (drop-drop (lineEnd rest) at t))

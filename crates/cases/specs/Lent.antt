@@ -8,9 +8,9 @@ use Rattle.words.specs.Words.{if_then_else_}
 use Rattle.baos.specs.declared.datapoint.Datapoint.{Datapoint}
 use Rattle.baos.specs.declared.item.Item.{Item}
 use Rattle.calls.specs.declared.event.Event.the-variants.{BusValue}
-use Rattle.bench.specs.declared.bench.Bench.{Bench}
-use Rattle.bench.specs.Bench.{emptyBench, withDatapoints, withItems, withParameters, withLists, withValue}
-use Rattle.bench.specs.Run.{happened}
+use Rattle.cases.specs.declared.bench.Bench.{Bench}
+use Rattle.cases.specs.Bench.{emptyBench, withDatapoints, withItems, withParameters, withLists, withValue}
+use Rattle.cases.specs.Run.{happened}
 use Rattle.script.specs.declared.line.Line.{Line}
 use Rattle.script.specs.Record.{raised, risen, itemOf, datapointOf, parametersOf}
 

@@ -8,12 +8,12 @@ use lib.Dec.{eqb}
 use Rattle.words.specs.Words.{if_then_else_}
 use Rattle.calls.specs.declared.event.Event.the-variants.{IdleMark}
 use Rattle.calls.specs.Numbers.{eventNumbered}
-use Rattle.bench.specs.declared.bench.Bench.{Bench}
-use Rattle.bench.specs.declared.run.Stand.{Stand}
-use Rattle.bench.specs.Bench.{emptyBench, withBits}
-use Rattle.bench.specs.Read.{ReadsAs}
-use Rattle.bench.specs.Run.{happened, quiet, Sends, standAfter}
-use Rattle.bench.specs.Same.{SameTables, LinkIs}
+use Rattle.cases.specs.declared.bench.Bench.{Bench}
+use Rattle.cases.specs.declared.run.Stand.{Stand}
+use Rattle.cases.specs.Bench.{emptyBench, withBits}
+use Rattle.cases.specs.Read.{ReadsAs}
+use Rattle.cases.specs.Run.{happened, quiet, Sends, standAfter}
+use Rattle.cases.specs.Same.{SameTables, LinkIs}
 use Rattle.script.specs.declared.line.Line.{Line}
 use Rattle.script.specs.Line.{lines, readLine}
 use Rattle.script.specs.Record.{raised}

@@ -3,12 +3,11 @@ ghost use mathlib.Core.Path.{_≡_};
 ghost use Prim.Native.Nat.{_+_, _≤_};
 ghost use lib.IntN.{pos};
 ghost use lib.ListN.{length, take};
-ghost use Rattle.bench.specs.Same.{Decides};
+ghost use Rattle.cases.specs.Same.{Decides};
 ghost use Rattle.ft12.specs.Burst.{threeNumbers};
 ghost use Rattle.cases.specs.Burst.{FindsAs};
 use bursts::burst::read_burst;
 use ft12::burst::BurstNumbers;
-use ft12::burst::LONGEST_BURST;
 use numbers::burst::burst_numbers;
 
 // Where the burst stands in the bytes of a line: behind how it ended, these two counts and as many starts.
@@ -48,6 +47,7 @@ fn are_starts(run: &[u16], wanted: &[u8]) -> bool
 
 // Whether the burst of a line holds what the line says. An ending has the number that firmware gets.
 pub fn has_found(a: &[u8]) -> bool
+    requires { ⌜ length (now a) ≤ 264 ⌝ }
     ensures { λ r. ⌜ Decides r (FindsAs (now (a .entry))) ⌝ }
 {
     let n = a.len();
@@ -58,13 +58,7 @@ pub fn has_found(a: &[u8]) -> bool
     if n < from {
         return false;
     }
-    if LONGEST_BURST < n - from {
-        return false;
-    }
     let mut starts = [0u16; 2048];
     let reply = read_burst(&a[from..], &mut starts);
-    if !are_numbers(burst_numbers(reply), a[0], a[1], a[2]) {
-        return false;
-    }
-    are_starts(&starts, &a[3..from])
+    are_numbers(burst_numbers(reply), a[0], a[1], a[2]) & are_starts(&starts, &a[3..from])
 }

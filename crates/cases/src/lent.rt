@@ -1,17 +1,19 @@
 // The lines of a script that say what the tables hold, and those that bring values from the bus.
 ghost use mathlib.Core.Path.{_≡_};
-ghost use Rattle.bench.specs.Bench.{withParameters, withValue};
+ghost use mathlib.Core.Bool.{true};
+ghost use Rattle.cases.specs.Bench.{withParameters, withValue};
 ghost use Rattle.script.specs.Record.{parametersOf};
+ghost use Rattle.cases.specs.Script.{standing};
 ghost use Rattle.cases.specs.Lent.{withItem, withDatapoint, withSite, withDefaults, filled, built, bussed};
+use crate::bench::Bench;
+use crate::bench::empty;
+use crate::run::Stand;
+use crate::run::happens;
 use baos::datapoint::Datapoint;
 use baos::item::Item;
-use bench::bench::Bench;
-use bench::bench::empty;
-use bench::run::happens;
 use calls::event::Event;
 use script::line::Line;
 use script::record::datapoint_of;
-use script::record::first;
 use script::record::item_of;
 use script::record::parameters_of;
 use script::record::raised;
@@ -108,25 +110,17 @@ fn with_defaults(bench: Bench, line: Line) -> Bench
 pub fn told(wanted: Bench, line: Line) -> Bench
     ensures { λ r. ⌜ r ≡ built line wanted ⌝ }
 {
-    if line.letter == EMPTY {
-        return empty();
+    let a = line.bytes;
+    let letter = line.letter;
+    match letter {
+        EMPTY => empty(),
+        ITEM => with_item(wanted, item_of(line)),
+        DATAPOINTS => with_datapoints(wanted, line, a[0]),
+        PARAMETERS => with_parameters(wanted, line),
+        SITE => with_site(wanted, line),
+        DEFAULTS => with_defaults(wanted, line),
+        _ => wanted,
     }
-    if line.letter == ITEM {
-        return with_item(wanted, item_of(line));
-    }
-    if line.letter == DATAPOINTS {
-        return with_datapoints(wanted, line, first(line));
-    }
-    if line.letter == PARAMETERS {
-        return with_parameters(wanted, line);
-    }
-    if line.letter == SITE {
-        return with_site(wanted, line);
-    }
-    if line.letter == DEFAULTS {
-        return with_defaults(wanted, line);
-    }
-    wanted
 }
 
 // A value of one byte to lend beside a bus value event.
@@ -143,8 +137,8 @@ fn with_value(bench: Bench, value: u8) -> Bench
 
 // n values from the bus, of one byte each. Behind their number stand the first datapoint's ID and the first value;
 // both rise by one.
-pub fn after_bus(bench: Bench, line: Line, n: u8) -> Bench
-    ensures { λ r. ⌜ r ≡ bussed (line .bytes) n bench ⌝ }
+pub fn after_bus(bench: Bench, line: Line, n: u8) -> Stand
+    ensures { λ r. ⌜ r ≡ standing (bussed (line .bytes) n bench) true 1000 ⌝ }
 {
     let a = line.bytes;
     let mut b = bench;
@@ -154,5 +148,9 @@ pub fn after_bus(bench: Bench, line: Line, n: u8) -> Bench
         b = happens(b, Event::BusValue(raised(a[1], a[2], k)));
         k = k + 1;
     }
-    b
+    Stand {
+        bench: b,
+        quiet: true,
+        place: 1000,
+    }
 }

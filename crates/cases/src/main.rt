@@ -2,10 +2,15 @@
 // out as a line trace; what the server sends and what its tables and its link then hold is compared with what the script
 // says. The file stdin beside src has the examples of document 01, section "Examples", the worked exchange of document
 // 000, section 4.1, and worked cases of document 02.
+mod bench;
 mod burst;
 mod lent;
 mod play;
 mod print;
+mod read;
+mod run;
+mod same;
+mod step;
 
 use crate::play::play;
 use libc::STDIN_FILENO;

@@ -1,38 +1,30 @@
 // A script is played: its lines in turn, and what each of them asks.
 ghost use mathlib.Core.Path.{_≡_};
-ghost use mathlib.Core.Bool.{true};
 ghost use Prim.Native.Nat.{_≤_};
-ghost use lib.ListN.{getD, take, drop};
-ghost use Rattle.bench.specs.Read.{ReadsAs};
-ghost use Rattle.bench.specs.Run.{Sends, standAfter};
-ghost use Rattle.bench.specs.Same.{Decides, LinkIs};
-ghost use Rattle.script.specs.Record.{raised};
-ghost use Rattle.cases.specs.Burst.{FindsAs};
-ghost use Rattle.cases.specs.Lent.{bussed};
-ghost use Rattle.cases.specs.Script.{listed, standing, started, marked, numbered, acted, Damaged, Right, Played};
+ghost use lib.ListN.{getD};
+ghost use Rattle.cases.specs.Same.{Decides};
+ghost use Rattle.cases.specs.Script.{started, marked, numbered, acted, Damaged, Right, Played};
+use crate::bench::Bench;
+use crate::bench::empty;
 use crate::burst::has_found;
 use crate::lent::after_bus;
 use crate::lent::told;
 use crate::print::noted;
 use crate::print::shown;
-use bench::bench::Bench;
-use bench::bench::empty;
-use bench::read::has_read;
-use bench::run::Stand;
-use bench::run::happens;
-use bench::run::has_sent;
-use bench::run::hear;
-use bench::run::sent_count;
-use bench::same::is_link;
-use bench::same::same_tables;
+use crate::read::has_read;
+use crate::run::Stand;
+use crate::run::happens;
+use crate::run::has_sent;
+use crate::run::hear;
+use crate::run::sent_count;
+use crate::same::is_link;
+use crate::same::same_tables;
 use calls::event::Event;
-use ft12::record::Link;
 use numbers::numbers::event_numbered;
 use script::line::Line;
 use script::line::line_end;
 use script::line::read;
 use script::print::verdict;
-use script::record::first;
 use script::record::raised;
 
 // The tables that were told, and a link that expects and sends these bits, 01 for odd, with nothing outstanding.
@@ -75,15 +67,6 @@ fn started(wanted: Bench, line: Line) -> Stand
     }
 }
 
-fn heard(bench: Bench, line: Line) -> Stand
-    requires { ⌜ line .size ≤ 264 ⌝ }
-    ensures { λ r. ⌜ r ≡ standAfter (listed line) bench ⌝ }
-{
-    let a = line.bytes;
-    let n = line.size;
-    hear(bench, &a[..n])
-}
-
 fn marked(bench: Bench) -> Stand
     ensures { λ r. ⌜ r ≡ marked bench ⌝ }
 {
@@ -91,16 +74,6 @@ fn marked(bench: Bench) -> Stand
     Stand {
         bench: b,
         quiet: sent_count(b) == 0,
-        place: 1000,
-    }
-}
-
-fn bussed(bench: Bench, line: Line) -> Stand
-    ensures { λ r. ⌜ r ≡ standing (bussed (line .bytes) (getD (line .bytes) 0 0) bench) true 1000 ⌝ }
-{
-    Stand {
-        bench: after_bus(bench, line, first(line)),
-        quiet: true,
         place: 1000,
     }
 }
@@ -123,71 +96,26 @@ fn acted(stand: Stand, wanted: Bench, line: Line) -> Stand
     ensures { λ r. ⌜ r ≡ acted line wanted stand ⌝ }
 {
     let b = stand.bench;
-    if line.letter == START {
-        return started(wanted, line);
+    let a = line.bytes;
+    let n = line.size;
+    let letter = line.letter;
+    match letter {
+        START => started(wanted, line),
+        HOST => hear(b, &a[..n]),
+        MARK => marked(b),
+        BUS => after_bus(b, line, a[0]),
+        EVENT => numbered(b, line),
+        _ => stand,
     }
-    if line.letter == HOST {
-        return heard(b, line);
-    }
-    if line.letter == MARK {
-        return marked(b);
-    }
-    if line.letter == BUS {
-        return bussed(b, line);
-    }
-    if line.letter == EVENT {
-        return numbered(b, line);
-    }
-    stand
 }
 
 // ---- what a line asks
-
-fn replied(bench: Bench, line: Line) -> bool
-    requires { ⌜ line .size ≤ 264 ⌝ }
-    ensures { λ r. ⌜ Decides r (Sends bench (listed line)) ⌝ }
-{
-    let a = line.bytes;
-    let n = line.size;
-    has_sent(bench, &a[..n])
-}
 
 fn damaged(bench: Bench, place: usize, line: Line) -> bool
     ensures { λ r. ⌜ Decides r (Damaged (getD (line .bytes) 0 0) place bench) ⌝ }
 {
     let a = line.bytes;
-    if place != a[0] as usize {
-        return false;
-    }
-    if bench.link.dropping != 1 {
-        return false;
-    }
-    sent_count(bench) == 0
-}
-
-fn linked(link: Link, line: Line) -> bool
-    requires { ⌜ line .size ≤ 264 ⌝ }
-    ensures { λ r. ⌜ Decides r (LinkIs link (listed line)) ⌝ }
-{
-    let a = line.bytes;
-    let n = line.size;
-    is_link(link, &a[..n])
-}
-
-fn given(bench: Bench, line: Line) -> bool
-    ensures { λ r. ⌜ Decides r (ReadsAs bench (raised (line .bytes) 0 0) (take 7 (drop 2 (line .bytes)))) ⌝ }
-{
-    let a = line.bytes;
-    has_read(bench, raised(a[0], a[1], 0), &a[2..9])
-}
-
-fn found(line: Line) -> bool
-    requires { ⌜ line .size ≤ 264 ⌝ }
-    ensures { λ r. ⌜ Decides r (FindsAs (listed line)) ⌝ }
-{
-    let a = line.bytes;
-    let n = line.size;
-    has_found(&a[..n])
+    (place == a[0] as usize) & (bench.link.dropping == 1) & (sent_count(bench) == 0)
 }
 
 // Whether what this line asks holds.
@@ -199,25 +127,19 @@ fn holds(stand: Stand, wanted: Bench, line: Line) -> bool
         return false;
     }
     let b = stand.bench;
-    if line.letter == REPLY {
-        return replied(b, line);
+    let a = line.bytes;
+    let n = line.size;
+    let asked = &a[..n];
+    let letter = line.letter;
+    match letter {
+        REPLY => has_sent(b, asked),
+        DAMAGE => damaged(b, stand.place, line),
+        LINK => is_link(b.link, asked),
+        TABLES => same_tables(b, wanted),
+        READING => has_read(b, line),
+        BURST => has_found(asked),
+        _ => true,
     }
-    if line.letter == DAMAGE {
-        return damaged(b, stand.place, line);
-    }
-    if line.letter == LINK {
-        return linked(b.link, line);
-    }
-    if line.letter == TABLES {
-        return same_tables(b, wanted);
-    }
-    if line.letter == READING {
-        return given(b, line);
-    }
-    if line.letter == BURST {
-        return found(line);
-    }
-    true
 }
 
 // Whether all that the lines of a script ask holds, with a last line that says so.

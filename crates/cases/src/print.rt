@@ -3,25 +3,25 @@ ghost use mathlib.Core.Path.{_≡_};
 ghost use mathlib.Core.Bool.{_&&_};
 ghost use Prim.Native.Nat.{_≤_};
 ghost use lib.ListN.{length};
+use crate::bench::Bench;
 use crate::burst::burst_start;
-use bench::bench::Bench;
-use bench::run::sent_count;
+use crate::run::sent_count;
 use bursts::burst::read_burst;
 use ft12::frame::ACKNOWLEDGEMENT;
 use ft12::frame::FIXED_START;
-use numbers::burst::burst_numbers;
 use script::line::Line;
 use script::print::byte;
+use script::print::frames;
 use script::print::gap;
-use script::print::host;
-use script::print::server;
 use script::print::text;
-use script::print::wrong;
 
-// What the last call sends.
+// What the last call sends; nothing where it was refused.
 fn sent(bench: Bench) {
     let out = bench.out;
-    server(out, sent_count(bench));
+    let n = sent_count(bench);
+    if n <= 262 {
+        frames(b"   server : ", &out[..n]);
+    }
 }
 
 // ---- a burst
@@ -42,24 +42,16 @@ fn piece_size(s: &[u8]) -> usize
     s[1] as usize + 6
 }
 
-// Whether the next of the starts is this place.
-fn is_start(starts: &[u16], next: usize, i: usize) -> bool {
-    if starts.len() <= next {
-        return false;
-    }
-    starts[next] as usize == i
-}
-
 // A burst, with brackets around each frame and each acknowledgement: they start at these places.
 fn marked(s: &[u8], starts: &[u16])
-    requires { ⌜ length (now s) ≤ 264 ⌝ }
+    requires { ⌜ (length (now s) ≤ 264) × (264 ≤ length (now starts)) ⌝ }
 {
     let mut next: usize = 0;
     let mut end: usize = 0;
     let mut i: usize = 0;
     while i < s.len() {
         gap(i);
-        if is_start(starts, next, i) {
+        if starts[next] as usize == i {
             text(b"[");
             end = i + piece_size(&s[i..]);
             next = next + 1;
@@ -73,20 +65,11 @@ fn marked(s: &[u8], starts: &[u16])
     text(b"\n");
 }
 
-// A burst, marked by what the reader of bursts finds in it.
-fn pieces(s: &[u8])
-    requires { ⌜ length (now s) ≤ 264 ⌝ }
+// The burst of a line, which may have no byte, marked by what the reader of bursts finds in it. No burst has a byte at
+// the last place of all.
+fn burst(line: Line)
+    requires { ⌜ line .size ≤ 264 ⌝ }
 {
-    let mut starts = [0u16; 2048];
-    let numbers = burst_numbers(read_burst(s, &mut starts));
-    let n = numbers.frames as usize + numbers.acknowledgements as usize;
-    if n <= 2048 {
-        marked(s, &starts[..n]);
-    }
-}
-
-// The burst of a line, which may have no byte.
-fn burst(line: Line) {
     let a = line.bytes;
     let n = line.size;
     let from = burst_start(a[1], a[2]);
@@ -95,27 +78,28 @@ fn burst(line: Line) {
         text(b"nothing\n");
         return;
     }
-    if n <= 264 {
-        pieces(&a[from..n]);
-    }
+    let s = &a[from..n];
+    let mut starts = [65535u16; 2048];
+    read_burst(s, &mut starts);
+    marked(s, &starts);
 }
 
 // What a line shows: its text, what the host sends, what the server sent, or a burst.
-pub fn shown(line: Line, s: &[u8], bench: Bench) {
-    if line.letter < b'a' {
+pub fn shown(line: Line, s: &[u8], bench: Bench)
+    requires { ⌜ line .size ≤ 264 ⌝ }
+{
+    let letter = line.letter;
+    if letter < b'a' {
         text(s);
         return;
     }
-    if line.letter == b'h' {
-        host(line);
-        return;
-    }
-    if line.letter == b'r' {
-        sent(bench);
-        return;
-    }
-    if line.letter == b'u' {
-        burst(line);
+    let a = line.bytes;
+    let n = line.size;
+    match letter {
+        b'h' => frames(b"   host   : ", &a[..n]),
+        b'r' => sent(bench),
+        b'u' => burst(line),
+        _ => {}
     }
 }
 
@@ -126,7 +110,7 @@ pub fn noted(right: bool, holds: bool, bench: Bench) -> bool
     if holds {
         return right;
     }
-    wrong();
+    text(b"            NOT what the paper says\n");
     sent(bench);
     false
 }

@@ -1,5 +1,5 @@
 // The entries of answers, one record each.
-ghost use Prim.Native.Nat.{_+_, _≤_, _<_};
+ghost use Prim.Native.Nat.{_+_, _≤_};
 ghost use lib.ListN.{length};
 ghost use Rattle.baos.specs.Get.{itemEntry, descriptionEntry, valueEntry};
 ghost use Rattle.baos.specs.Datapoint.{sizeOf};
@@ -7,7 +7,7 @@ ghost use Rattle.baos.specs.Inner.Gather.{wideValue};
 ghost use Rattle.baos.specs.Inner.Promise.{Written, WrittenWide};
 use baos::datapoint::Datapoint;
 use baos::item::Item;
-use values::value::size_of;
+use values::value::size_by_rule;
 use words::bytes::put_bytes;
 
 // The item's entry in an answer, into the buffer at `at`; answers where it ends.
@@ -53,7 +53,7 @@ pub fn put_value(out: &mut [u8], at: usize, d: Datapoint) -> usize
         out[at + 4] = v[0];
         return at + 5;
     }
-    let n = size_of(d.typecode);
+    let n = size_by_rule(d.typecode);
     out[at + 3] = n as u8;
     put_bytes(&mut *out, at + 4, &v[..n]);
     at + 4 + n
@@ -65,7 +65,7 @@ pub fn put_wide_value(out: &mut [u8], at: usize, d: Datapoint) -> usize
     requires { ⌜ (d .typecode ≤ 14) × (at + 18 ≤ length (now out)) ⌝ }
     ensures { λ r. ⌜ WrittenWide (now (out .entry)) at (wideValue d) (valueEntry d .bytes) r (now (out .exit)) ⌝ }
 {
-    let n = size_of(d.typecode);
+    let n = size_by_rule(d.typecode);
     let v = d.value;
     // The value first: it then goes from the record into the buffer, and not by way of the stack.
     put_bytes(&mut *out, at + 4, &v);

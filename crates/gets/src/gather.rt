@@ -24,7 +24,7 @@ use entries::entry::put_value;
 use entries::entry::put_wide_value;
 use records::datapoint::handed_out;
 use records::datapoint::passes_filter;
-use values::value::size_of;
+use values::value::size_by_rule;
 
 // Whether the ID is behind the range.
 pub fn is_behind(w: Wanted, id: u16) -> bool
@@ -48,7 +48,7 @@ fn entry_size(w: Wanted, d: Datapoint) -> usize
     ensures { λ r. ⌜ r ≡ length (entryOf w d .bytes) ⌝ }
 {
     if w.values {
-        return 4 + size_of(d.typecode);
+        return 4 + size_by_rule(d.typecode);
     }
     5
 }

@@ -6,6 +6,7 @@ ghost use lib.ListN.{length};
 ghost use lib.Dec.{leb};
 ghost use Rattle.baos.specs.Datapoint.{datapointId, datapointOk};
 ghost use Rattle.baos.specs.Table.{datapointsOnly, tableOk};
+ghost use Rattle.baos.specs.Inner.Gather.{firstMarked};
 ghost use Rattle.baos.specs.Inner.Promise.{Answered, MarkedTold};
 ghost use Rattle.baos.specs.Indication.{needs, indication};
 use baos::datapoint::Datapoint;
@@ -15,7 +16,7 @@ use baos::service::ROOM_FOR_ENTRIES;
 use entries::entry::put_value;
 use messages::message::put_indication_head;
 use records::datapoint::reported;
-use values::value::size_of;
+use values::value::size_by_rule;
 
 // Whether a marked datapoint has to wait: its entry does not fit between `end` and `most`.
 fn waits(d: Datapoint, end: usize, most: usize) -> bool
@@ -27,7 +28,38 @@ fn waits(d: Datapoint, end: usize, most: usize) -> bool
     if d.typecode < 8 {
         return room < 5;
     }
-    room < 4 + size_of(d.typecode)
+    room < 4 + size_by_rule(d.typecode)
+}
+
+// Where the first marked datapoint stands; the table's length where there is none. Four records a turn: most polls find
+// nothing, and one loop's jump and count serve four.
+fn first_marked(table: &[Datapoint]) -> usize
+    ensures { λ r. ⌜ r ≡ firstMarked (now (table .entry)) ⌝ }
+{
+    let n = table.len();
+    let mut i: usize = 0;
+    while n - i > 3 {
+        if table[i].mark == 1 {
+            return i;
+        }
+        if table[i + 1].mark == 1 {
+            return i + 1;
+        }
+        if table[i + 2].mark == 1 {
+            return i + 2;
+        }
+        if table[i + 3].mark == 1 {
+            return i + 3;
+        }
+        i += 4;
+    }
+    while i < n {
+        if table[i].mark == 1 {
+            return i;
+        }
+        i += 1;
+    }
+    i
 }
 
 // The entries of the marked datapoints, into the buffer at `at`, until the next one does not fit; each record that is
@@ -38,7 +70,7 @@ fn tell_marked(table: &mut [Datapoint], out: &mut [u8], at: usize) -> Told
     ensures { λ r. ⌜ MarkedTold (now (table .entry)) (now (out .entry)) at r (now (out .exit)) (now (table .exit)) ⌝ }
 {
     let most = at + ROOM_FOR_ENTRIES;
-    let mut i: usize = 0;
+    let mut i = first_marked(table);
     let mut end = at;
     let mut count: u16 = 0;
     while i < table.len() {

@@ -1,16 +1,19 @@
 -- A line is read byte by byte, and a script line by line.
 use Prim.Native.Nat.{ℕ, zero, suc, _+_, _-_, _*_, _/_, _≤_, _<_}
 use mathlib.Core.Path.{_≡_, refl, sym, _∙_, ap}
-use mathlib.Core.Bool.{Bool, true, false}
+use mathlib.Core.Bool.{Bool, true, false, _&&_}
 use mathlib.Core.List.{List, [], _∷_}
 use native.Mathlib.Omega.{arith}
 use native.Mathlib.Numerals.{add-one}
 use lib.ListN.{length, take, drop, getD, set, replicate, drop-of-length-le}
 use lib.Seq.{drop-cons}
 use lib.Dec.{eqb, ltb}
-use borrow.Author.Tests.{lt-ltb, le-ltb, eq-eqb, ne-eqb, ltb-true}
+use borrow.Author.Tests.{lt-ltb, le-ltb, eq-eqb, ne-eqb, ltb-true, ltb-false}
 use Rattle.script.specs.declared.line.Line.{Line}
 use Rattle.script.specs.Line.{lineEnd, onto, lines, byteOf, byteCount, written, readLine}
+
+false-true : false ≡ true → ⊥
+false-true e = let z : _≡_ {A = ℕ} 0 1 = cc in omega arith
 
 -- ---- the bytes of a line, one after the other
 pub record Reading (s bytes : List ℕ) (k : ℕ) : Type 0 where
@@ -22,10 +25,13 @@ pub reading-begins : (s : List ℕ) → 0 < length s → Reading s (replicate 26
 unfolding written
 reading-begins s h = record { within = omega arith; more = omega arith; first = refl }
 
-pub reading-goes : (s bytes : List ℕ) (k b : ℕ) → b ≡ byteOf (getD s (3 * k + 2) 0) (getD s (3 * k + 2 + 1) 0) → k < 264 → 3 * k + 2 + 1 < length s → Reading s bytes k → Reading s (set bytes k b) (k + 1)
+pub reading-goes : (s bytes : List ℕ) (k at b : ℕ) → at ≡ 3 * k + 3 → b ≡ byteOf (getD s (at - 1) 0) (getD s at 0) → k < 264 → at < length s → Reading s bytes k → Reading s (set bytes k b) (k + 1)
 unfolding written
-reading-goes s bytes k b e h m r =
-    record { within = omega arith; more = omega arith; first = rw (add-one, e, r .first) refl }
+reading-goes s bytes k at b p e h m r =
+    let high : at - 1 ≡ 3 * k + 2 = omega (arith, p) in
+    let low : at ≡ 3 * k + 2 + 1 = omega (arith, p) in
+    let f : b ≡ byteOf (getD s (3 * k + 2) 0) (getD s (3 * k + 2 + 1) 0) = e ∙ (λ i. byteOf (getD s (high i) 0) (getD s (low i) 0)) in
+    record { within = omega arith; more = omega (arith, p); first = rw (add-one, f, r .first) refl }
 
 count-is : (s : List ℕ) (k : ℕ) → (length s - 1) / 3 ≡ k → k < 264 → byteCount s ≡ k
 unfolding byteCount
@@ -35,20 +41,22 @@ count-full : (s : List ℕ) → 264 ≤ (length s - 1) / 3 → byteCount s ≡ 2
 unfolding byteCount
 count-full s h = simp (le-ltb _ _ h)
 
-pub reading-ends : (s bytes : List ℕ) (k : ℕ) → k < 264 → length s ≤ 3 * k + 2 + 1 → Reading s bytes k → record { letter = getD s 0 0; bytes = bytes; size = k } ≡ readLine s
-unfolding readLine
-reading-ends s bytes k h m r = rw (r .first, count-is s k (omega (arith, r .more)) h) refl
+-- the loop's test: there is a place, and there are two digits
+pub goes-on : (k at n : ℕ) → (ltb k 264 && ltb at n) ≡ true → (k < 264) × (at < n)
+goes-on k at n e = go (ltb k 264) refl (ltb at n) refl e
+  where
+    go : (t : Bool) → ltb k 264 ≡ t → (u : Bool) → ltb at n ≡ u → (t && u) ≡ true → (k < 264) × (at < n)
+    go true x true y e = (ltb-true k 264 x, ltb-true at n y)
+    go true x false y e = absurd (false-true e)
+    go false x u y e = absurd (false-true e)
 
-pub reading-full : (s bytes : List ℕ) (k : ℕ) → 264 ≤ k → Reading s bytes k → record { letter = getD s 0 0; bytes = bytes; size = 264 } ≡ readLine s
+pub reading-ends : (s bytes : List ℕ) (k at : ℕ) → at ≡ 3 * k + 3 → (ltb k 264 && ltb at (length s)) ≡ false → Reading s bytes k → record { letter = getD s 0 0; bytes = bytes; size = k } ≡ readLine s
 unfolding readLine
-reading-full s bytes k h r =
-    let e : k ≡ 264 = omega (arith, r .within) in
-    rw (r .first, e, count-full s (omega (arith, r .more, e))) refl
-
-pub nothing-read : (s : List ℕ) → length s ≡ 0 → record { letter = 0; bytes = replicate 264 0; size = 0 } ≡ readLine s
-unfolding readLine byteCount written
-nothing-read [] e = refl
-nothing-read (x ∷ xs) e = absurd (omega (arith, e))
+reading-ends s bytes k at p e r = rw (r .first, go (ltb k 264) refl e) refl
+  where
+    go : (t : Bool) → ltb k 264 ≡ t → (t && ltb at (length s)) ≡ false → byteCount s ≡ k
+    go true x e = count-is s k (omega (arith, r .more, p, ltb-false at (length s) e)) (ltb-true k 264 x)
+    go false x e = count-full s (omega (arith, r .more, ltb-false k 264 x)) ∙ omega (arith, r .within, ltb-false k 264 x)
 
 pub count-fits : (s : List ℕ) → readLine s .size ≤ 264
 unfolding readLine byteCount

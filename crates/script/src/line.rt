@@ -1,6 +1,8 @@
 // A script is text, in lines. Each has its end, \n, in it. A line is text for the trace; or a small letter and the bytes
 // behind it, each a blank and two hexadecimal digits, as the papers have them.
 ghost use mathlib.Core.Path.{_≡_};
+ghost use Prim.Native.Nat.{_<_};
+ghost use lib.ListN.{length};
 ghost use Rattle.script.specs.Line.{digitOf, readLine, lineEnd};
 
 pub struct Line {
@@ -16,37 +18,23 @@ fn digit(d: u8) -> u8
     (d % 16 + d / 64 * 9) % 16
 }
 
-// The letter of a line, 0 where it has none, and its bytes, up to 264 of them.
+// The letter of a line, which is not empty, and its bytes, up to 264 of them.
 pub fn read(s: &[u8]) -> Line
+    requires { ⌜ 0 < length (now s) ⌝ }
     ensures { λ r. ⌜ r ≡ readLine (now (s .entry)) ⌝ }
 {
-    let n = s.len();
     let mut bytes = [0u8; 264];
-    if n == 0 {
-        return Line {
-            letter: 0,
-            bytes: bytes,
-            size: 0,
-        };
-    }
-    let letter = s[0];
     let mut k: usize = 0;
-    while k < 264 {
-        let at = 3 * k + 2;
-        if n <= at + 1 {
-            return Line {
-                letter: letter,
-                bytes: bytes,
-                size: k,
-            };
-        }
-        bytes[k] = digit(s[at]) * 16 + digit(s[at + 1]);
+    let mut at: usize = 3;
+    while (k < 264) & (at < s.len()) {
+        bytes[k] = digit(s[at - 1]) * 16 + digit(s[at]);
         k = k + 1;
+        at = at + 3;
     }
     Line {
-        letter: letter,
+        letter: s[0],
         bytes: bytes,
-        size: 264,
+        size: k,
     }
 }
 

@@ -1,13 +1,8 @@
 // The trace, on standard output. No contract can say what is written: these functions are proved safe and ending.
-use crate::line::Line;
 use libc::STDOUT_FILENO;
 
 pub fn text(s: &[u8]) {
     io::write_all(STDOUT_FILENO, s);
-}
-
-fn number(n: u8) {
-    io::print_decimal(STDOUT_FILENO, n as u64);
 }
 
 // What stands in front of the byte at place i: nothing, a blank, or a new line, which has 24 bytes.
@@ -28,9 +23,8 @@ pub fn byte(b: u8) {
     text(&[b'0' + high + high / 10 * 7, b'0' + low + low / 10 * 7]);
 }
 
-// A label and bytes.
-fn bytes(label: &[u8], s: &[u8]) {
-    text(label);
+// Bytes, and the end of their last line.
+fn bytes(s: &[u8]) {
     let mut i: usize = 0;
     while i < s.len() {
         gap(i);
@@ -42,49 +36,27 @@ fn bytes(label: &[u8], s: &[u8]) {
 
 // What is sent at once: nothing, a frame, or an acknowledgement and perhaps a frame behind it.
 pub fn frames(label: &[u8], s: &[u8]) {
-    let n = s.len();
-    if n == 0 {
-        text(label);
+    text(label);
+    if s.len() == 0 {
         text(b"nothing\n");
         return;
     }
     if s[0] != 0xE5 {
-        bytes(label, s);
+        bytes(s);
         return;
     }
-    bytes(label, &s[0..1]);
-    text(b"            acknowledgement\n");
-    if 1 < n {
-        bytes(label, &s[1..]);
+    text(b"E5\n            acknowledgement\n");
+    if 1 < s.len() {
+        text(label);
+        bytes(&s[1..]);
     }
-}
-
-// What the host sends.
-pub fn host(line: Line) {
-    let n = line.size;
-    let s = line.bytes;
-    if n <= 264 {
-        frames(b"   host   : ", &s[..n]);
-    }
-}
-
-// What the server sent: the first n bytes of its output; nothing where it was refused.
-pub fn server(out: [u8; 262], n: usize) {
-    let s = out;
-    if n <= 262 {
-        frames(b"   server : ", &s[..n]);
-    }
-}
-
-pub fn wrong() {
-    text(b"            NOT what the paper says\n");
 }
 
 // How many cases there are, and how many of them went as the papers say.
 pub fn counted(count: u8, right: u8) {
-    number(count);
+    io::print_decimal(STDOUT_FILENO, count as u64);
     text(b" cases, ");
-    number(right);
+    io::print_decimal(STDOUT_FILENO, right as u64);
     text(b" as the paper says\n");
 }
 

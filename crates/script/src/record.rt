@@ -1,7 +1,6 @@
 // Records from the bytes of a line.
 ghost use mathlib.Core.Path.{_≡_};
 ghost use Prim.Native.Nat.{_+_, _%_};
-ghost use lib.ListN.{getD};
 ghost use Rattle.words.specs.Words.{ofTwoBytes};
 ghost use Rattle.script.specs.Record.{risen, itemOf, datapointOf, parametersOf};
 use crate::line::Line;
@@ -9,14 +8,6 @@ use baos::datapoint::Datapoint;
 use baos::item::Item;
 use std::num::wrapping_add_u8;
 use words::bytes::put_bytes;
-
-// The first byte of a line: how many records it tells, or values.
-pub fn first(line: Line) -> u8
-    ensures { λ r. ⌜ r ≡ getD (line .bytes) 0 0 ⌝ }
-{
-    let a = line.bytes;
-    a[0]
-}
 
 // The number of two bytes and k more, in 16 bits.
 pub fn raised(high: u8, low: u8, k: u8) -> u16

@@ -1,5 +1,5 @@
 // Gathering strings into an answer, in two passes over the table as for other gets. The text lists are searched
-// forward, by cursors that go along with each pass.
+// forward, by cursors that go along with each pass; those of the range's first ID are found once, for both.
 ghost use mathlib.Core.Path.{_≡_};
 ghost use mathlib.Core.Bool.{true};
 ghost use Prim.Native.Nat.{_+_, _≤_};
@@ -8,7 +8,7 @@ ghost use Rattle.baos.specs.Datapoint.{datapointId, datapointOk};
 ghost use Rattle.baos.specs.Text.{textLists, textListsOk};
 ghost use Rattle.baos.specs.Table.{place, tableOk};
 ghost use Rattle.baos.specs.Get.{stringOf};
-ghost use Rattle.baos.specs.Inner.Cursors.{BothReached};
+ghost use Rattle.baos.specs.Inner.Cursors.{cursorsOf, BothReached};
 ghost use Rattle.baos.specs.Inner.Gather.{walked, nothingGathered};
 ghost use Rattle.baos.specs.Inner.Strings.{gatheredOf, cursorsIn, cursorsBehind, stringStep, stringsBuilt};
 ghost use Rattle.baos.specs.Inner.Strings.{stringMeasured, StringPut};
@@ -117,17 +117,20 @@ fn put_string<'a>(
     }
 }
 
-// The first pass over the datapoints, from the place of the first ID of the range on.
+// The first pass over the datapoints, from the place of the first ID of the range on, and in the text lists from that
+// ID's cursors on.
 pub fn measure_strings<'a>(
     table: &[Datapoint],
     from: usize,
     w: Wanted,
     site: &'a [u8],
     defaults: &'a [u8],
+    c: Cursors,
 ) -> Gathered
     requires { ⌜ (tableOk 1000 datapointId datapointOk (now table) ≡ true)
         × (from ≡ place datapointId (w .start) (now table))
-        × (textListsOk (textLists (now site) (now defaults)) ≡ true) ⌝ }
+        × (textListsOk (textLists (now site) (now defaults)) ≡ true)
+        × (c ≡ cursorsOf (w .start) (textLists (now site) (now defaults))) ⌝ }
     ensures { λ r. ⌜ r ≡ walked (stringStep (textLists (now (site .entry)) (now (defaults .entry))) w) nothingGathered
         (drop from (now (table .entry))) ⌝ }
 {
@@ -136,8 +139,8 @@ pub fn measure_strings<'a>(
         size: 0,
         over: 0,
         ended: false,
-        site: 0,
-        defaults: 0,
+        site: c.site,
+        defaults: c.defaults,
     };
     let mut i = from;
     while i < table.len() {
@@ -150,20 +153,22 @@ pub fn measure_strings<'a>(
     gathered_of(s)
 }
 
-// The second pass over the datapoints, which stay as they are: the strings go into the buffer at `at`. Answers where
-// they end.
+// The second pass over the datapoints, which stay as they are, from the same place and the same cursors on: the strings
+// go into the buffer at `at`. Answers where they end.
 pub fn build_strings<'a>(
     table: &[Datapoint],
     from: usize,
     w: Wanted,
     site: &'a [u8],
     defaults: &'a [u8],
+    c: Cursors,
     out: &mut [u8],
     at: usize,
 ) -> usize
     requires { ⌜ (tableOk 1000 datapointId datapointOk (now table) ≡ true)
         × (from ≡ place datapointId (w .start) (now table))
         × (textListsOk (textLists (now site) (now defaults)) ≡ true)
+        × (c ≡ cursorsOf (w .start) (textLists (now site) (now defaults)))
         × (at + length (stringsBuilt (textLists (now site) (now defaults)) w (drop from (now table)))
         ≤ length (now out)) ⌝ }
     ensures { λ r. ⌜ Written (now (out .entry)) at
@@ -173,8 +178,8 @@ pub fn build_strings<'a>(
     let mut i = from;
     let mut p = StringsEnd {
         end: at,
-        site: 0,
-        defaults: 0,
+        site: c.site,
+        defaults: c.defaults,
     };
     while i < table.len() {
         let d = table[i];

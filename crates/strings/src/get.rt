@@ -13,15 +13,17 @@ use crate::gather::build_strings;
 use crate::gather::measure_strings;
 use baos::code::NO_ERROR;
 use baos::datapoint::Datapoint;
+use baos::inner::Cursors;
 use gets::get::gathered_verdict;
 use gets::get::request_verdict;
 use gets::get::wanted;
 use messages::message::put_answer_head;
 use messages::message::put_coded;
 use tables::table::datapoint_place;
+use texts::text::cursors_at;
 
 // GetDescriptionString: the answer, into the buffer at `at`; answers where it ends. Nothing is written before the first
-// pass has found that all strings fit.
+// pass has found that all strings fit. The cursors of the range's first ID are found once, for both passes.
 pub fn get_strings<'a>(
     table: &[Datapoint],
     site: &'a [u8],
@@ -43,11 +45,20 @@ pub fn get_strings<'a>(
     }
     let w = wanted(m, false);
     let from = datapoint_place(table, w.start);
-    let g = measure_strings(table, from, w, site, defaults);
+    let c = cursors_at(
+        site,
+        defaults,
+        Cursors {
+            site: 0,
+            defaults: 0,
+        },
+        w.start,
+    );
+    let g = measure_strings(table, from, w, site, defaults, c);
     let u = gathered_verdict(w.start, g);
     if u.code != NO_ERROR {
         return put_coded(out, at, m, u.id, u.code);
     }
     let end = put_answer_head(out, at, m, g.count);
-    build_strings(table, from, w, site, defaults, out, end)
+    build_strings(table, from, w, site, defaults, c, out, end)
 }

@@ -111,29 +111,41 @@ pub fn tables_ok<'a>(
     text_lists_ok(site, defaults)
 }
 
-// How many datapoints have a lower ID: where the datapoint of this ID stands if there is one. The width falls 1023,
-// 511, .. 1, 0 whatever is found, so that the loop is unrolled and each choice is a conditional move.
+// How many datapoints have a lower ID: where the datapoint of this ID stands if there is one. `rest` begins at the lowest
+// place that it may still have. The first look is `width` from the end, the greatest power of two that is not above the
+// table's size, so that width - 1 records are left whichever side it is on; each look after it halves them. Jumps ask for
+// the table's size alone: the loop is unrolled, and what an ID decides is where `rest` begins, by a conditional move.
 pub fn datapoint_place(table: &[Datapoint], id: u16) -> usize
     requires { ⌜ (length (now table) ≤ 1000) × (rising 0 (map datapointId (now table)) ≡ true) ⌝ }
     ensures { λ r. ⌜ r ≡ place datapointId id (now (table .entry)) ⌝ }
 {
     let n = table.len();
-    let mut at: usize = 0;
-    let mut width: usize = 1023;
+    if n == 0 {
+        return 0;
+    }
+    let mut rest = table;
+    let mut begun = false;
+    let mut width: usize = 512;
     while width > 0 {
-        let half = width / 2;
-        let mid = at + half;
-        if mid < n {
-            if table[mid].id < id {
-                at = mid + 1;
+        if begun {
+            if rest[width - 1].id < id {
+                rest = &rest[width..];
+            }
+        } else {
+            if width <= n {
+                let first = n - width;
+                if rest[first].id < id {
+                    rest = &rest[first + 1..];
+                }
+                begun = true;
             }
         }
-        width = half;
+        width = width / 2;
     }
-    at
+    n - rest.len()
 }
 
-// How many items have a lower ID.
+// How many items have a lower ID. The width falls 127, 63, .. 1, 0 whatever is found, so that the loop is unrolled too.
 pub fn item_place(table: &[Item], id: u16) -> usize
     requires { ⌜ (length (now table) ≤ 64) × (rising 0 (map itemId (now table)) ≡ true) ⌝ }
     ensures { λ r. ⌜ r ≡ place itemId id (now (table .entry)) ⌝ }

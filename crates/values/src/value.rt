@@ -1,11 +1,10 @@
 // A value: its size by type code, its unused bits, its place in a record.
 ghost use mathlib.Core.Path.{_≡_};
-ghost use mathlib.Core.Bool.{false};
-ghost use Prim.Native.Nat.{_-_, _*_, _≤_, _<_};
+ghost use Prim.Native.Nat.{_-_, _*_, _≤_};
 ghost use lib.ListN.{length};
-ghost use lib.Dec.{ltb, eqb};
+ghost use lib.Dec.{ltb};
 ghost use Rattle.words.specs.Words.{if_then_else_, pad};
-ghost use Rattle.baos.specs.Datapoint.{sizeOf, limitOf, unusedBitsOk, isValue};
+ghost use Rattle.baos.specs.Datapoint.{sizeOf, unusedBitsOk, isValue};
 use words::bytes::put_bytes;
 
 // The size by its rule up to code 10: one byte, and from 8 on the code less 6.
@@ -28,52 +27,48 @@ fn more_bytes(typecode: u8, few: usize) -> usize
     2 * typecode as usize - 16
 }
 
-// And 14 for code 14, none beyond.
+// And 14 from code 14 on.
 fn most_bytes(typecode: u8, more: usize) -> usize
-    ensures { λ r. ⌜ r ≡ (if ltb typecode 14 then more else if eqb typecode 14 then 14 else 0) ⌝ }
+    ensures { λ r. ⌜ r ≡ (if ltb typecode 14 then more else 14) ⌝ }
 {
     if typecode < 14 {
         return more;
     }
-    if typecode == 14 {
-        return 14;
-    }
-    0
+    14
 }
 
-// How many bytes a value of this type code has. In small steps, which compile to conditional moves: the type codes of a
-// table are mixed, and jumps on them would often be guessed wrong.
-pub fn size_of(typecode: u8) -> usize
+// How many bytes a value of this type code has, by the rule. In small steps, which compile to conditional moves: the type
+// codes of a table are mixed, and jumps on them would often be guessed wrong.
+pub fn size_by_rule(typecode: u8) -> usize
+    requires { ⌜ typecode ≤ 14 ⌝ }
     ensures { λ r. ⌜ r ≡ sizeOf typecode ⌝ }
 {
     most_bytes(typecode, more_bytes(typecode, few_bytes(typecode)))
 }
 
-// What the first byte of a value of this type code stays below.
-fn limit_of(typecode: u8) -> u16
-    ensures { λ r. ⌜ r ≡ limitOf typecode ⌝ }
+// The same for every byte: 0 above 14.
+pub fn size_of(typecode: u8) -> usize
+    ensures { λ r. ⌜ r ≡ sizeOf typecode ⌝ }
 {
-    match typecode {
-        0 => 2,
-        1 => 4,
-        2 => 8,
-        3 => 16,
-        4 => 32,
-        5 => 64,
-        6 => 128,
-        _ => 256,
+    if 14 < typecode {
+        return 0;
     }
+    size_by_rule(typecode)
 }
 
 // Whether no unused bit of the value is set.
 pub fn is_unused_bits_ok(typecode: u8, value: &[u8]) -> bool
     ensures { λ r. ⌜ r ≡ unusedBitsOk typecode (now (value .entry)) ⌝ }
 {
-    let limit = limit_of(typecode);
     if value.len() == 0 {
         return true;
     }
-    (value[0] as u16) < limit
+    let first = value[0] as u32;
+    if 14 < typecode {
+        return true;
+    }
+    // Below 2, 4, .. 128 for codes 0 to 6; from 7 on this is above every byte. Codes up to 14 keep the shift small.
+    first < 2 << typecode
 }
 
 // Whether the bytes are a value of this type code.

@@ -20,6 +20,10 @@ placeOf id s = placeIn id (entriesIn s)
 unfoldable pub cursorsOf : ℕ → TextLists → Cursors
 cursorsOf id ts = record { site = placeOf id (ts .site); defaults = placeOf id (ts .defaults) }
 
+-- the start of both lists
+abbrev pub atStart : Cursors
+atStart = record { site = 0; defaults = 0 }
+
 -- at byte `at` of the list s a search for this ID can go on: there one for a lower ID, or for the same, has ended
 pub record Reached (id : ℕ) (s : List ℕ) (at : ℕ) : Type 0 where
   pub low : ℕ

@@ -5,7 +5,7 @@ use mathlib.Core.Bool.{Bool, true, false, not, _&&_, _||_}
 use mathlib.Core.List.{List, [], _∷_, _++_, map, flatten}
 use lib.ListN.{length}
 use lib.Dec.{leb, ltb, eqb}
-use Rattle.words.specs.Words.{if_then_else_, twoBytes}
+use Rattle.words.specs.Words.{if_then_else_, isYes, twoBytes}
 use Rattle.baos.specs.declared.datapoint.Datapoint.{Datapoint}
 use Rattle.baos.specs.declared.item.Item.{Item}
 use Rattle.baos.specs.declared.inner.Wanted.{Wanted}
@@ -150,3 +150,8 @@ getDatapoints values t m = if values then getDatapointValue t m else getDatapoin
 -- the bytes of the entries that it carries
 abbrev pub entriesTold : List Choice → List ℕ
 entriesTold cs = flatten (map (λ (e : AnswerEntry). e .bytes) (map valueEntry (reported cs)))
+
+-- where the first marked datapoint stands; their number where none is marked
+unfoldable pub firstMarked : List Datapoint → ℕ
+firstMarked [] = 0
+firstMarked (d ∷ ds) = if isYes (d .mark) then 0 else 1 + firstMarked ds

@@ -35,8 +35,9 @@ stringsOf g c =
       defaults = c .defaults;
     }
 
-abbrev pub nothingMeasured : Strings
-nothingMeasured = record { count = 0; size = 0; over = 0; ended = false; site = 0; defaults = 0 }
+-- nothing is found yet, and the pass stands at these cursors
+abbrev pub nothingMeasured : Cursors → Strings
+nothingMeasured c = record { count = 0; size = 0; over = 0; ended = false; site = c .site; defaults = c .defaults }
 
 -- the passes over the datapoints
 abbrev pub stringStep : TextLists → Wanted → Datapoint → Gathered → Gathered

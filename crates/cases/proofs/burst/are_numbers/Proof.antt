@@ -3,7 +3,7 @@ use native.Mathlib.Omega.{arith}
 use mir.Syntax.{w32}
 use mir.Val.{ofZ}
 use Rattle.ft12.specs.declared.burst.BurstNumbers.{BurstNumbers}
-use Rattle.bench.proofs.SameLaws.{refuted}
+use Rattle.cases.proofs.SameLaws.{refuted}
 use Rattle.cases.proofs.BurstLaws.{bits-tell, numbers-decided}
 use Rattle.cases.proofs.burst.are_numbers.Statement.{statement}
 use Rattle.cases.proofs.burst.are_numbers.Tie as tie

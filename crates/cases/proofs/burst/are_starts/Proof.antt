@@ -6,7 +6,7 @@ use mathlib.Core.Path.{refl, sym, ap, _∙_}
 use mathlib.Core.List.{List}
 use lib.ListN.{length, getD, take}
 use lib.Seq.{length-take-le, getD-take}
-use Rattle.bench.proofs.SameLaws.{refuted, shown, Alike, alike-begins, alike-goes, alike-ends}
+use Rattle.cases.proofs.SameLaws.{refuted, shown, Alike, alike-begins, alike-goes, alike-ends}
 use Rattle.cases.proofs.burst.are_starts.Statement.{statement}
 use Rattle.cases.proofs.burst.are_starts.Tie as tie
 

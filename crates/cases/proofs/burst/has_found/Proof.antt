@@ -1,10 +1,9 @@
 use borrow.Author.Needs.{needs}
 use native.Mathlib.Omega.{arith}
 use mathlib.Core.Path.{_≡_, refl}
-use lib.ListN.{length, length-drop}
-use Rattle.cases.specs.Burst.{burstStart}
-use Rattle.bench.proofs.SameLaws.{refuted, not-true, not-false}
-use Rattle.cases.proofs.BurstLaws.{WasRead, other-numbers, starts-long, starts-decide}
+use lib.ListN.{length}
+use Rattle.cases.proofs.SameLaws.{refuted}
+use Rattle.cases.proofs.BurstLaws.{WasRead, starts-long, found-decided}
 use Rattle.cases.proofs.burst.has_found.Statement.{statement}
 use Rattle.cases.proofs.burst.has_found.Tie as tie
 
@@ -22,9 +21,6 @@ burst-start-requires c κs = search needs
 
 returns-2 : tie.Need-returns-2
 returns-2 c = refuted (λ q. omega (arith, q .whole, c .before .burst-start .ensures))
-
-returns-3 : tie.Need-returns-3
-returns-3 c = let a = c .before .before .before .before .before .before .before .args .a .now in refuted (λ q. omega (arith, q .short, c .before .before .burst-start .ensures, length-drop (burstStart a) a))
 
 sub-read-burst : tie.Need-sub-read-burst
 sub-read-burst c = search needs
@@ -58,22 +54,18 @@ are-numbers-requires c κs = search needs
 
 -- what the reader answered and left, for the laws
 was-read : (c : tie.After-are-numbers)
-    → WasRead (c .before .before .before .before .before .before .before .before .before .before .before .before .before .before .before .before .args .a .now) (c .before .before .before .before .before .before .before .before .before .before .before .burst-start .result)
-    (c .before .before .before .before .burst-numbers .result) (c .before .before .before .before .before .before .read-burst .last .1 .0)
+    → WasRead (c .before .before .before .before .before .before .before .before .before .before .before .before .before .before .before .args .a .now) (c .before .before .before .before .before .before .before .before .before .before .burst-start .result) (c .before .before .before .before .burst-numbers .result) (c .before .before .before .before .before .before .read-burst .last .1 .0)
 was-read c =
     record {
-      at = c .before .before .before .before .before .before .before .before .before .before .before .burst-start .ensures;
+      at = c .before .before .before .before .before .before .before .before .before .before .burst-start .ensures;
       whole = omega arith;
-      short = omega arith;
+      short = omega (arith, c .before .before .before .before .before .before .before .before .before .before .before .before .before .before .before .pre);
       lent = _;
       room = refl;
       reply = _;
       leaves = c .before .before .before .before .before .before .read-burst .ensures;
       told = c .before .before .before .before .burst-numbers .ensures;
     }
-
-returns-4 : tie.Need-returns-4
-returns-4 c = other-numbers _ _ _ _ (was-read (c .before)) (c .before .are-numbers .ensures) (not-true _ (c .if4 .taken))
 
 slice-aggregate-are-starts : tie.Need-slice-aggregate-are-starts
 slice-aggregate-are-starts c = search needs
@@ -89,12 +81,12 @@ part-are-starts-end c = search needs
 
 are-starts-requires : tie.Need-are-starts-requires
 are-starts-requires c κs =
-    let w = was-read (c .before .before .before) in
-    let h : length (c .before .before .before .before .before .before .before .before .before .read-burst .last .1 .0) ≡ 2048 = search needs in
-    omega (arith, h, starts-long _ _ _ _ w, c .before .before .before .before .shared-slice-known6 .given 1, c .before .before .before .before .shared-slice-known6 .given 2)
+    let w = was-read (c .before .before) in
+    let h : length (c .before .before .before .before .before .before .before .before .read-burst .last .1 .0) ≡ 2048 = search needs in
+    omega (arith, h, starts-long _ _ _ _ w, c .before .before .before .shared-slice-known6 .given 1, c .before .before .before .shared-slice-known6 .given 2)
 
-returns-5 : tie.Need-returns-5
-returns-5 c = starts-decide _ _ _ _ (was-read (c .before .before .before .before)) (c .before .before .before .before .are-numbers .ensures .0 (not-false _ (c .before .before .before .if4 .left))) (c .are-starts .ensures)
+returns-3 : tie.Need-returns-3
+returns-3 c = found-decided _ _ _ _ (was-read (c .before .before .before)) (c .before .before .before .are-numbers .ensures) (c .are-starts .ensures)
 
 pub has-found-spec : {M : Type 1} → statement M
 has-found-spec =
@@ -105,7 +97,6 @@ has-found-spec =
     shared-slice-read-burst-start-2
     burst-start-requires
     returns-2
-    returns-3
     sub-read-burst
     part-read-burst-start
     part-read-burst-end
@@ -116,10 +107,9 @@ has-found-spec =
     shared-slice-read-are-numbers-2
     shared-slice-read-are-numbers-3
     are-numbers-requires
-    returns-4
     slice-aggregate-are-starts
     sub-are-starts
     part-are-starts-start
     part-are-starts-end
     are-starts-requires
-    returns-5)
+    returns-3)

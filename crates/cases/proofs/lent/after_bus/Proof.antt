@@ -1,8 +1,11 @@
 use borrow.Author.Needs.{needs}
 use Prim.Native.Nat.{ℕ, _-_, _≤_}
 use mathlib.Core.Path.{_≡_, sym, ap, _∙_}
+use mathlib.Core.Bool.{true}
 use native.Mathlib.Omega.{arith}
+use Rattle.cases.specs.declared.bench.Bench.{Bench}
 use Rattle.cases.specs.Lent.{bussed}
+use Rattle.cases.specs.Script.{standing}
 use Rattle.cases.proofs.LentLaws.{bussed-none, bussed-next}
 use Rattle.cases.proofs.lent.after_bus.Statement.{statement}
 use Rattle.cases.proofs.lent.after_bus.Tie as tie
@@ -52,7 +55,7 @@ loop-again c =
     )
 
 returns : tie.Need-returns Inv-loop μ-loop
-returns c = let l = c .before .loop in l .inv .1 ∙ ap (λ (m : ℕ). bussed (c .before .before .before .args .line .bytes) m (c .before .before .before .args .bench)) (omega (arith, l .inv .0, c .loop-test .left))
+returns c = let l = c .before .loop in ap (λ (b : Bench). standing b true 1000) (l .inv .1 ∙ ap (λ (m : ℕ). bussed (c .before .before .before .args .line .bytes) m (c .before .before .before .args .bench)) (omega (arith, l .inv .0, c .loop-test .left)))
 
 pub after-bus-spec : {M : Type 1} → statement M
 after-bus-spec = tie.close (tie.spec Inv-loop μ-loop loop-holds array-read-risen risen-requires with-value-requires array-read-raised array-read-raised-2 raised-requires happens-requires add-k loop-less loop-again returns)

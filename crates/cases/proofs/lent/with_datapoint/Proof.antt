@@ -1,6 +1,6 @@
 use borrow.Author.Needs.{needs}
 use mathlib.Core.Path.{sym}
-use Rattle.bench.specs.Bench.{withDatapoints}
+use Rattle.cases.specs.Bench.{withDatapoints}
 use Rattle.cases.proofs.LentLaws.{datapoint-full, datapoint-added}
 use Rattle.cases.proofs.lent.with_datapoint.Statement.{statement}
 use Rattle.cases.proofs.lent.with_datapoint.Tie as tie

@@ -1,5 +1,5 @@
 use borrow.Author.Needs.{needs}
-use Rattle.bench.specs.Bench.{withLists}
+use Rattle.cases.specs.Bench.{withLists}
 use Rattle.cases.specs.Lent.{withDefaults}
 use Rattle.cases.proofs.lent.with_defaults.Statement.{statement}
 use Rattle.cases.proofs.lent.with_defaults.Tie as tie

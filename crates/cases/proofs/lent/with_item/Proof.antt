@@ -1,6 +1,6 @@
 use borrow.Author.Needs.{needs}
 use mathlib.Core.Path.{sym}
-use Rattle.bench.specs.Bench.{withItems}
+use Rattle.cases.specs.Bench.{withItems}
 use Rattle.cases.proofs.LentLaws.{item-full, item-added}
 use Rattle.cases.proofs.lent.with_item.Statement.{statement}
 use Rattle.cases.proofs.lent.with_item.Tie as tie

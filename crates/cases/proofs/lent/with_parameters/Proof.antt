@@ -1,6 +1,6 @@
 use borrow.Author.Needs.{needs}
 use mathlib.Core.Path.{_≡_}
-use Rattle.bench.specs.Bench.{withParameters}
+use Rattle.cases.specs.Bench.{withParameters}
 use Rattle.cases.proofs.lent.with_parameters.Statement.{statement}
 use Rattle.cases.proofs.lent.with_parameters.Tie as tie
 

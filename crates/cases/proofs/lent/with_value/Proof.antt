@@ -1,5 +1,5 @@
 use borrow.Author.Needs.{needs}
-use Rattle.bench.specs.Bench.{withValue}
+use Rattle.cases.specs.Bench.{withValue}
 use Rattle.cases.proofs.lent.with_value.Statement.{statement}
 use Rattle.cases.proofs.lent.with_value.Tie as tie
 

@@ -1,5 +1,8 @@
 use borrow.Author.Needs.{needs}
-use mathlib.Core.Path.{sym, _∙_}
+use mathlib.Core.Path.{_≡_, sym, _∙_}
+use lib.ListN.{length}
+use lib.Seq.{length-take-le}
+use native.Mathlib.Omega.{arith}
 use Rattle.cases.proofs.ScriptLaws.{starts, host-sends, silence, values-come, event-comes, nothing-happens}
 use Rattle.cases.proofs.play.acted.Statement.{statement}
 use Rattle.cases.proofs.play.acted.Tie as tie
@@ -7,38 +10,66 @@ use Rattle.cases.proofs.play.acted.Tie as tie
 started-requires : tie.Need-started-requires
 started-requires c κs = search needs
 
-returns : tie.Need-returns
-returns c = c .started .ensures ∙ sym (starts _ _ _ (c .before .if1 .taken))
+array-share-prefix-a : tie.Need-array-share-prefix-a
+array-share-prefix-a c =
+    let b = c .before .before .before in
+    let h : length (b .args .line .bytes) ≡ 264 = search (needs, b .good .1 .1) in
+    omega (arith, h, b .pre)
 
-heard-requires : tie.Need-heard-requires
-heard-requires c κs = c .before .before .before .before .before .pre
+slice-aggregate-hear : tie.Need-slice-aggregate-hear
+slice-aggregate-hear c =
+    let b = c .before .before .before .before in
+    let h : length (b .args .line .bytes) ≡ 264 = search (needs, b .good .1 .1) in
+    sym (length-take-le (b .args .line .size) (b .args .line .bytes) (omega (arith, h, b .pre)))
 
-returns-2 : tie.Need-returns-2
-returns-2 c = c .heard .ensures ∙ sym (host-sends _ _ _ (c .before .if2 .taken))
+hear-requires : tie.Need-hear-requires
+hear-requires c κs = search needs
 
 marked-requires : tie.Need-marked-requires
 marked-requires c κs = search needs
 
-returns-3 : tie.Need-returns-3
-returns-3 c = c .marked .ensures ∙ sym (silence _ _ _ (c .before .if3 .taken))
+array-read-after-bus : tie.Need-array-read-after-bus
+array-read-after-bus c = search needs
 
-bussed-requires : tie.Need-bussed-requires
-bussed-requires c κs = search needs
-
-returns-4 : tie.Need-returns-4
-returns-4 c = c .bussed .ensures ∙ sym (values-come _ _ _ (c .before .if4 .taken))
+after-bus-requires : tie.Need-after-bus-requires
+after-bus-requires c κs = search needs
 
 numbered-requires : tie.Need-numbered-requires
 numbered-requires c κs = search needs
 
+returns : tie.Need-returns
+returns c = c .started .ensures ∙ sym (starts _ _ _ (c .before .match .keys1))
+
+returns-2 : tie.Need-returns-2
+returns-2 c = c .hear .ensures ∙ sym (host-sends _ _ _ (c .before .before .match .keys2))
+
+returns-3 : tie.Need-returns-3
+returns-3 c = c .marked .ensures ∙ sym (silence _ _ _ (c .before .match .keys3))
+
+returns-4 : tie.Need-returns-4
+returns-4 c = c .after-bus .ensures ∙ sym (values-come _ _ _ (c .before .match .keys4))
+
 returns-5 : tie.Need-returns-5
-returns-5 c = c .numbered .ensures ∙ sym (event-comes _ _ _ (c .before .if5 .taken))
+returns-5 c = c .numbered .ensures ∙ sym (event-comes _ _ _ (c .before .match .keys5))
 
 returns-6 : tie.Need-returns-6
-returns-6 c =
-    sym
-    (nothing-happens _ _ _ (c .before .before .before .before .before .before .before .before .if1 .left) (c .before .before .before .before .before .before .if2 .left)
-    (c .before .before .before .before .if3 .left) (c .before .before .if4 .left) (c .if5 .left))
+returns-6 c = sym (nothing-happens _ _ _ (c .match .rest .0 .0 .0 .0 .1) (c .match .rest .0 .0 .0 .1) (c .match .rest .0 .0 .1) (c .match .rest .0 .1) (c .match .rest .1))
 
 pub acted-spec : {M : Type 1} → statement M
-acted-spec = tie.close (tie.spec started-requires returns heard-requires returns-2 marked-requires returns-3 bussed-requires returns-4 numbered-requires returns-5 returns-6)
+acted-spec =
+    tie.close
+    (tie.spec
+    started-requires
+    array-share-prefix-a
+    slice-aggregate-hear
+    hear-requires
+    marked-requires
+    array-read-after-bus
+    after-bus-requires
+    numbered-requires
+    returns
+    returns-2
+    returns-3
+    returns-4
+    returns-5
+    returns-6)

@@ -4,8 +4,8 @@ use lib.ListN.{length}
 use mathlib.Core.Path.{sym, _∙_}
 use native.Mathlib.Omega.{arith}
 use Rattle.script.proofs.LineLaws.{count-fits}
-use Rattle.cases.proofs.ScriptLaws.{Playing, playing-begins, line-within, line-some, playing-goes, playing-ends}
-use Rattle.bench.proofs.SameLaws.{left-to}
+use Rattle.cases.proofs.ScriptLaws.{Playing, playing-begins, line-within, line-some, line-there, playing-goes, playing-ends}
+use Rattle.cases.proofs.SameLaws.{left-to}
 use Rattle.cases.proofs.play.play.Statement.{statement}
 use Rattle.cases.proofs.play.play.Tie as tie
 
@@ -46,7 +46,7 @@ part-read-end : tie.Need-part-read-end Inv-loop μ-loop
 part-read-end c = omega (arith, line-within (c .before .before .before .before .before .before .args .script .now) (c .before .before .before .loop .at) (c .line-end .result) (c .before .before .loop-test .taken) (c .line-end .ensures))
 
 read-requires : tie.Need-read-requires Inv-loop μ-loop
-read-requires c κs = search needs
+read-requires c κs = line-there (c .before .before .before .before .before .before .before .args .script .now) (c .before .before .before .before .loop .at) (c .before .line-end .result) (c .before .before .before .loop-test .taken) (c .before .line-end .ensures)
 
 told-requires : tie.Need-told-requires Inv-loop μ-loop
 told-requires c κs = search needs
@@ -64,7 +64,7 @@ part-shown-end : tie.Need-part-shown-end Inv-loop μ-loop
 part-shown-end c = omega (arith, line-within (c .before .before .before .before .before .before .before .before .before .before .before .args .script .now) (c .before .before .before .before .before .before .before .before .loop .at) (c .before .before .before .before .before .line-end .result) (c .before .before .before .before .before .before .before .loop-test .taken) (c .before .before .before .before .before .line-end .ensures))
 
 shown-requires : tie.Need-shown-requires Inv-loop μ-loop
-shown-requires c κs = search needs
+shown-requires c κs = rw (c .before .before .before .before .read .ensures) (count-fits _)
 
 holds-requires : tie.Need-holds-requires Inv-loop μ-loop
 holds-requires c κs = rw (c .before .before .before .before .before .read .ensures) (count-fits _)

@@ -1,5 +1,5 @@
 use borrow.Author.Needs.{needs}
-use Rattle.bench.specs.Bench.{withBits}
+use Rattle.cases.specs.Bench.{withBits}
 use Rattle.cases.specs.Script.{started}
 use Rattle.cases.proofs.play.started.Statement.{statement}
 use Rattle.cases.proofs.play.started.Tie as tie

@@ -4,6 +4,7 @@ use lib.ListN.{length}
 use native.Mathlib.Omega.{arith}
 use Rattle.cases.proofs.print.burst.Statement.{statement}
 use Rattle.cases.proofs.print.burst.Tie as tie
+use Rattle.cases.proofs.print.burst.Lts as lts
 
 array-read-burst-start : tie.Need-array-read-burst-start
 array-read-burst-start c = search needs
@@ -29,23 +30,29 @@ text-requires-2 c κs = search needs
 returns : tie.Need-returns
 returns c = search needs
 
-sub-pieces : tie.Need-sub-pieces
-sub-pieces c = search needs
+sub-s : tie.Need-sub-s
+sub-s c = search needs
 
-part-pieces-start : tie.Need-part-pieces-start
-part-pieces-start c = search needs
+part-s-start : tie.Need-part-s-start
+part-s-start c = search needs
 
-part-pieces-end : tie.Need-part-pieces-end
-part-pieces-end c = let h : length (c .before .before .before .before .before .before .before .args .line .bytes) ≡ 264 = search needs in omega (arith, h)
+part-s-end : tie.Need-part-s-end
+part-s-end c = let h : length (c .before .before .before .before .before .before .args .line .bytes) ≡ 264 = search needs in omega (arith, h, c .before .before .before .before .before .before .pre)
 
-pieces-requires : tie.Need-pieces-requires
-pieces-requires c κs = search needs
+slice-aggregate-read-burst : tie.Need-slice-aggregate-read-burst
+slice-aggregate-read-burst c = search needs
+
+read-burst-requires : tie.Need-read-burst-requires
+read-burst-requires c κs = search needs
+
+slice-aggregate-marked : tie.Need-slice-aggregate-marked
+slice-aggregate-marked c = search needs
+
+marked-requires : tie.Need-marked-requires
+marked-requires c κs = search needs
 
 returns-2 : tie.Need-returns-2
 returns-2 c = search needs
-
-returns-3 : tie.Need-returns-3
-returns-3 c = search needs
 
 pub burst-spec : {M : Type 1} → statement M
 burst-spec =
@@ -59,9 +66,11 @@ burst-spec =
     slice-aggregate-text-2
     text-requires-2
     returns
-    sub-pieces
-    part-pieces-start
-    part-pieces-end
-    pieces-requires
-    returns-2
-    returns-3)
+    sub-s
+    part-s-start
+    part-s-end
+    slice-aggregate-read-burst
+    read-burst-requires
+    slice-aggregate-marked
+    marked-requires
+    returns-2)

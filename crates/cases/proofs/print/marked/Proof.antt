@@ -18,8 +18,14 @@ loop-holds c = search needs
 gap-requires : tie.Need-gap-requires Inv-loop μ-loop
 gap-requires c κs = search needs
 
-is-start-requires : tie.Need-is-start-requires Inv-loop μ-loop
-is-start-requires c κs = search needs
+mul-if1 : tie.Need-mul-if1 Inv-loop μ-loop
+mul-if1 c = search needs
+
+shared-slice-read-if1 : tie.Need-shared-slice-read-if1 Inv-loop μ-loop
+shared-slice-read-if1 c = omega (arith, c .before .before .before .loop .inv .0, c .before .before .loop-test .taken, c .before .before .before .before .before .before .pre .0, c .before .before .before .before .before .before .pre .1)
+
+cast-if1 : tie.Need-cast-if1 Inv-loop μ-loop
+cast-if1 c = omega (arith, c .shared-slice-known3 .given (c .before .before .before .loop .next))
 
 slice-aggregate-text : tie.Need-slice-aggregate-text Inv-loop μ-loop
 slice-aggregate-text c = search needs
@@ -40,7 +46,7 @@ piece-size-requires : tie.Need-piece-size-requires Inv-loop μ-loop
 piece-size-requires c κs = search needs
 
 add-end : tie.Need-add-end Inv-loop μ-loop
-add-end c = search needs
+add-end c = omega (arith, c .piece-size .ensures, c .before .before .before .before .before .before .before .loop-test .taken, c .before .before .before .before .before .before .before .before .before .before .before .pre .0)
 
 add-next : tie.Need-add-next Inv-loop μ-loop
 add-next c = search needs
@@ -82,31 +88,4 @@ returns : tie.Need-returns Inv-loop μ-loop
 returns c = search needs
 
 pub marked-spec : {M : Type 1} → statement M
-marked-spec =
-    tie.close
-    (tie.spec
-    Inv-loop
-    μ-loop
-    loop-holds
-    gap-requires
-    is-start-requires
-    slice-aggregate-text
-    text-requires
-    sub-piece-size
-    part-piece-size-start
-    part-piece-size-end
-    piece-size-requires
-    add-end
-    add-next
-    shared-slice-read-byte
-    byte-requires
-    add-i
-    slice-aggregate-text-2
-    text-requires-2
-    loop-less
-    loop-again
-    loop-less-2
-    loop-again-2
-    slice-aggregate-text-3
-    text-requires-3
-    returns)
+marked-spec = tie.close (tie.spec Inv-loop μ-loop loop-holds gap-requires mul-if1 shared-slice-read-if1 cast-if1 slice-aggregate-text text-requires sub-piece-size part-piece-size-start part-piece-size-end piece-size-requires add-end add-next shared-slice-read-byte byte-requires add-i slice-aggregate-text-2 text-requires-2 loop-less loop-again loop-less-2 loop-again-2 slice-aggregate-text-3 text-requires-3 returns)

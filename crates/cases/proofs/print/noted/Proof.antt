@@ -7,14 +7,17 @@ use Rattle.cases.proofs.print.noted.Tie as tie
 returns : tie.Need-returns
 returns c = rw (c .if1 .taken) (sym (and-true _))
 
-wrong-requires : tie.Need-wrong-requires
-wrong-requires c κs = search needs
+slice-aggregate-text : tie.Need-slice-aggregate-text
+slice-aggregate-text c = search needs
+
+text-requires : tie.Need-text-requires
+text-requires c κs = search needs
 
 sent-requires : tie.Need-sent-requires
 sent-requires c κs = search needs
 
 returns-2 : tie.Need-returns-2
-returns-2 c = rw (c .before .before .if1 .left) (sym (and-false (c .before .before .before .args .right)))
+returns-2 c = rw (c .before .before .before .if1 .left) (sym (and-false (c .before .before .before .before .args .right)))
 
 pub noted-spec : {M : Type 1} → statement M
-noted-spec = tie.close (tie.spec returns wrong-requires sent-requires returns-2)
+noted-spec = tie.close (tie.spec returns slice-aggregate-text text-requires sent-requires returns-2)

@@ -67,8 +67,8 @@ returns c =
       ends = rw (one-byte-entry (a .d) t h) refl;
     }
 
-size-of-requires : tie.Need-size-of-requires
-size-of-requires c κs = search needs
+size-by-rule-requires : tie.Need-size-by-rule-requires
+size-by-rule-requires c κs = search needs
 
 cast-out-3 : tie.Need-cast-out-3
 cast-out-3 c = omega (arith, size-fits (c .before .before .before .before .before .before .before .args .d .typecode))
@@ -98,7 +98,7 @@ put-bytes-requires : tie.Need-put-bytes-requires
 put-bytes-requires c κs =
     let d = c .before .before .before .before .before .before .before .before .before .args .d in
     let h : length (d .value) ≡ 14 = search needs in
-    simp length-set (omega (arith, length-take-le (c .before .before .size-of .result) (d .value) (omega (arith, size-fits (d .typecode)))))
+    simp length-set (omega (arith, length-take-le (c .before .before .size-by-rule .result) (d .value) (omega (arith, size-fits (d .typecode)))))
 
 add-result-2 : tie.Need-add-result-2
 add-result-2 c = search needs
@@ -111,14 +111,14 @@ same-length-2 c =
     let d = c .before .before .before .before .before .before .before .before .before .before .before .before .args .d in
     let h : length (d .value) ≡ 14 = search needs in
     ap length (c .before .before .put-bytes .ensures)
-    ∙ length-put _ _ _ (simp length-set (omega (arith, length-take-le (c .before .before .before .before .before .size-of .result) (d .value) (omega (arith, size-fits (d .typecode))))))
+    ∙ length-put _ _ _ (simp length-set (omega (arith, length-take-le (c .before .before .before .before .before .size-by-rule .result) (d .value) (omega (arith, size-fits (d .typecode))))))
     ∙ simp length-set
 
 returns-2 : tie.Need-returns-2
 unfolding valueEntry valueOf
 returns-2 c =
     let a = c .before .before .before .before .before .before .before .before .before .before .before .before .args in
-    let s = c .before .before .before .before .before .size-of in
+    let s = c .before .before .before .before .before .size-by-rule in
     let h : length (a .d .value) ≡ 14 = search needs in
     let k = size-fits (a .d .typecode) in
     record {
@@ -145,7 +145,7 @@ put-value-spec =
     add-result
     same-length
     returns
-    size-of-requires
+    size-by-rule-requires
     cast-out-3
     add-out-5
     slice-write-out-6

@@ -13,8 +13,8 @@ use Rattle.baos.proofs.WideLaws.{value-size}
 use Rattle.entries.proofs.entry.put_wide_value.Statement.{statement}
 use Rattle.entries.proofs.entry.put_wide_value.Tie as tie
 
-size-of-requires : tie.Need-size-of-requires
-size-of-requires c κs = search needs
+size-by-rule-requires : tie.Need-size-by-rule-requires
+size-by-rule-requires c κs = search needs
 
 add-put-bytes : tie.Need-add-put-bytes
 add-put-bytes c = search needs
@@ -55,7 +55,7 @@ slice-write-out-3 : tie.Need-slice-write-out-3
 slice-write-out-3 c = simp length-set (omega (arith, kept (c .before)))
 
 cast-out-3 : tie.Need-cast-out-3
-cast-out-3 c = omega (arith, size-fits (c .before .before .before .before .before .before .before .before .before .before .args .d .typecode), c .before .before .before .before .before .before .before .before .size-of .ensures)
+cast-out-3 c = omega (arith, size-fits (c .before .before .before .before .before .before .before .before .before .before .args .d .typecode), c .before .before .before .before .before .before .before .before .size-by-rule .ensures)
 
 add-out-3 : tie.Need-add-out-3
 add-out-3 c = search needs
@@ -67,7 +67,7 @@ add-result : tie.Need-add-result
 add-result c = search needs
 
 add-result-2 : tie.Need-add-result-2
-add-result-2 c = omega (arith, size-fits (c .before .before .before .before .before .before .before .before .before .before .args .d .typecode), c .before .before .before .before .before .before .before .before .size-of .ensures)
+add-result-2 c = omega (arith, size-fits (c .before .before .before .before .before .before .before .before .before .before .args .d .typecode), c .before .before .before .before .before .before .before .before .size-by-rule .ensures)
 
 same-length : tie.Need-same-length
 same-length c = simp length-set (kept (c .before))
@@ -76,7 +76,7 @@ returns : tie.Need-returns
 unfolding wideValue
 returns c =
     let a = c .before .before .before .before .before .before .before .before .before .before .args in
-    let s = c .before .before .before .before .before .before .before .before .size-of in
+    let s = c .before .before .before .before .before .before .before .before .size-by-rule in
     let h : length (a .d .value) ≡ 14 = search needs in
     record {
       buffer = rw (← s .ensures) (rw (c .before .before .before .before .put-bytes .ensures) (simp towards-suc (put-before (a .out .now) (a .at) _ (_ ∷ _ ∷ _ ∷ _ ∷ []) (a .d .value) (omega arith) (omega (arith, h)))));
@@ -87,7 +87,7 @@ pub put-wide-value-spec : {M : Type 1} → statement M
 put-wide-value-spec =
     tie.close
     (tie.spec
-    size-of-requires
+    size-by-rule-requires
     add-put-bytes
     slice-aggregate-put-bytes
     put-bytes-requires

@@ -1,15 +1,15 @@
--- A walk of the loop: the table and the buffer are opened once, at the entry, and closed where the function returns. In each turn the mark of record i is read; where it is set the record is, and if it fits the buffer is lent for its entry and the record stored without its mark.
+-- A walk of the loop, from the first mark on: the table is lent for the search, then it and the buffer are opened once and closed where the function returns. In each turn the mark of record i is read; where it is set the record is, and if it fits the buffer is lent for its entry and the record stored without its mark.
 -- Assumes nothing.
 use Rattle.walks.proofs.Data.{boolD, Good, typed, MutS}
 use Rattle.walks.proofs.Walk.{Blocks, homes, allocs-all, frees-all, Param, dataP, mutSliceP, Ends, ends-in, Walk, meets-by, behind, starts, cell, room}
 use Rattle.walks.proofs.Branches.{leaves-early, tests, both}
 use Rattle.walks.proofs.Slices.{takes-at, back-at, puts-at, OpenS, opened-slice, closed-slice}
-use Rattle.walks.proofs.Calls.{calls-plain, calls-mutR}
+use Rattle.walks.proofs.Calls.{calls-plain, calls-as-shrS, calls-mutR}
 use Rattle.walks.proofs.Loops.{by-measure, stack, val, lets, sets}
 use mathlib.Core.Path.{_≡_, refl, sym, subst}
 use Prim.Native.Nat.{ℕ, _<_, _≤_, _*_, _^_, _+_, _-_}
 use native.Mathlib.Omega.{arith}
-use mathlib.Core.Bool.{true, false, not}
+use mathlib.Core.Bool.{true, not}
 use mathlib.Core.Option.{none, some}
 use mathlib.Core.List.{List, [], _∷_, _++_}
 use lib.ListN.{length, getD, set}
@@ -45,10 +45,15 @@ use Rattle.baos.specs.declared.inner.Told.{Told}
 use Rattle.baos.specs.Datapoint.{datapointId, datapointOk, withMark, handedOut, zeroDatapoint}
 use Rattle.baos.specs.Get.{valueEntry}
 use Rattle.baos.specs.Indication.{needs as needsOf}
+use Rattle.baos.specs.Inner.Gather.{firstMarked}
 use Rattle.baos.specs.Inner.Promise.{MarkedTold}
 use Rattle.baos.specs.Table.{tableOk}
 use Rattle.baos.proofs.Types.{datapointD, toldD, told-good, byteD, placeD, datapoint-mark-fits, datapoint-offset-fits, fits-next}
-use Rattle.baos.proofs.IndicationLaws.{Telling, telling-begins, telling-done, telling-code, telling-waits, telling-other, telling-room, telling-next}
+use Rattle.baos.proofs.IndicationLaws.{Telling, telling-begins, telling-done, telling-code, telling-waits, telling-other, telling-room, telling-next, telling-first}
+use Rattle.indications.proofs.indication.first_marked as first-marked
+use Rattle.indications.proofs.indication.first_marked.Symbol as first-marked-def
+use Rattle.indications.proofs.indication.first_marked.Symbol.{name as #indications·indication·first-marked}
+use Rattle.indications.proofs.indication.first_marked.Met as first-marked-thm
 use Rattle.indications.proofs.indication.waits as waits
 use Rattle.indications.proofs.indication.waits.Symbol as waits-def
 use Rattle.indications.proofs.indication.waits.Symbol.{name as #indications·indication·waits}
@@ -72,9 +77,10 @@ ps = mutSliceP 2 0 tt datapointD ∷ mutSliceP 2 1 tt byteD ∷ dataP 2 placeD �
 
 -- where local j stands
 abbrev loc : ℕ → ℕ
-loc j = 42 - 2 * j
+loc j = 46 - 2 * j
 
 record Known {M : Type 1} (𝓤 : URA M) (H : Heap 𝓤) (A : Atoms 𝓤) (mem : Memory → SProp 𝓤) (run : Routine → Fun 𝓤) (C : Calls 𝓤 H) : Type 1 where
+  pub first-marked : Triple 𝓤 (C #indications·indication·first-marked) (tripleOf 𝓤 H A first-marked.signature (first-marked.spec 𝓤 H A mem run))
   pub waits : Triple 𝓤 (C #indications·indication·waits) (tripleOf 𝓤 H A waits.signature (waits.spec 𝓤 H A mem run))
   pub put-value : Triple 𝓤 (C #entries·entry·put-value) (tripleOf 𝓤 H A put-value.signature (put-value.spec 𝓤 H A mem run))
   pub reported : Triple 𝓤 (C #records·datapoint·reported) (tripleOf 𝓤 H A reported.signature (reported.spec 𝓤 H A mem run))
@@ -143,66 +149,66 @@ module _ {M : Type 1} (𝓤 : URA M) (H : Heap 𝓤) (A : Atoms 𝓤) (W : Given
     ≺ s t = n - s .0 < n - t .0
 
     abbrev Left : Kit.Post 𝓤 H
-    Left = anyQ (afterBlock 𝓤 H (afterSeq 𝓤 H (Wp 𝓤 H (𝓣 .C) (𝓣 .Λ) En part.t-6 (atReturn 𝓤 H En Done)) (atReturn 𝓤 H En Done)))
+    Left = anyQ (afterBlock 𝓤 H (afterSeq 𝓤 H (Wp 𝓤 H (𝓣 .C) (𝓣 .Λ) En part.t-8 (atReturn 𝓤 H En Done)) (atReturn 𝓤 H En Done)))
 
     turn : (s : State) → Sq W (Inv s) (runs (𝓣 .C) (𝓣 .Λ) En part.turn-1 (anyQ (afterTurn 𝓤 H (Below 𝓤 H A ≺ Inv s) (Kit.post 𝓤 H Left))))
     unfolding afterTurn
     turn s =
-        lets ! (loc 9) (of-opd ! (load ! (from ! (fld ! refl (stop !))) (look-in ! (loc 1) (sub ! 1 refl (whole !))))) refl (tt, record { fits = gn .0 }) $
-        lets ! (loc 10) (bin ! (val ! (loc 5) refl) (val ! (loc 9) refl) tt) refl (tt, tt) $
-        tests ! (val ! (loc 10) refl) (λ small.
-        sets ! (loc 9) (bin ! (val ! (loc 5) refl) (lit ! tt) (record { fits = datapoint-offset-fits n i (gn .1) (lt small) })) refl (tt, record { fits = datapoint-offset-fits n i (gn .1) (lt small) }) $
-        lets ! (loc 11) (bin ! (load ! (from ! (fld ! refl (stop !))) (look-in ! (loc 1) (sub ! 0 refl (whole !)))) (val ! (loc 9) refl) tt) refl (tt, tt) $
-        rewrite ! (loc 11) (λ (j : ℕ). ‵ (fat fullShare tyPtr (l .1 .1 .1 .1 .1 .1 .1 .1 .1 .1 .1 .0) 0 (vptr b j))) (sym (offset-is 22 o i)) refl $
+        lets ! (loc 11) (of-opd ! (load ! (from ! (fld ! refl (stop !))) (look-in ! (loc 1) (sub ! 1 refl (whole !))))) refl (tt, record { fits = gn .0 }) $
+        lets ! (loc 12) (bin ! (val ! (loc 5) refl) (val ! (loc 11) refl) tt) refl (tt, tt) $
+        tests ! (val ! (loc 12) refl) (λ small.
+        sets ! (loc 11) (bin ! (val ! (loc 5) refl) (lit ! tt) (record { fits = datapoint-offset-fits n i (gn .1) (lt small) })) refl (tt, record { fits = datapoint-offset-fits n i (gn .1) (lt small) }) $
+        lets ! (loc 13) (bin ! (load ! (from ! (fld ! refl (stop !))) (look-in ! (loc 1) (sub ! 0 refl (whole !)))) (val ! (loc 11) refl) tt) refl (tt, tt) $
+        rewrite ! (loc 13) (λ (j : ℕ). ‵ (fat fullShare tyPtr (l .1 .1 .1 .1 .1 .1 .1 .1 .1 .1 .1 .1 .1 .0) 0 (vptr b j))) (sym (offset-is 22 o i)) refl $
         takes-at ! datapointD fullShare zs i zeroDatapoint b o (lt-zs small) (λ d-ok.
-        lets ! (1 + loc 12) (of-opd ! (load ! (from ! (hop ! (look ! (1 + loc 11) refl) (fld ! refl (stop !)))) (look-in ! 0 (sub ! 6 refl (whole !))))) refl (tt, record { fits = datapoint-mark-fits d d-ok }) $
+        lets ! (1 + loc 14) (of-opd ! (load ! (from ! (hop ! (look ! (1 + loc 13) refl) (fld ! refl (stop !)))) (look-in ! 0 (sub ! 6 refl (whole !))))) refl (tt, record { fits = datapoint-mark-fits d d-ok }) $
         back-at ! datapointD fullShare zs i zeroDatapoint b o (lt-zs small) d-ok $
-        sets ! (loc 10) (bin ! (val ! (loc 12) refl) (lit ! tt) tt) refl (tt, tt) $
-        both ! 𝓣 (val ! (loc 10) refl) (λ marked.
-        lets ! (loc 13) (bin ! (val ! (loc 5) refl) (lit ! tt) (record { fits = datapoint-offset-fits n i (gn .1) (lt small) })) refl (tt, record { fits = datapoint-offset-fits n i (gn .1) (lt small) }) $
-        lets ! (loc 14) (bin ! (load ! (from ! (fld ! refl (stop !))) (look-in ! (loc 1) (sub ! 0 refl (whole !)))) (val ! (loc 13) refl) tt) refl (tt, tt) $
-        rewrite ! (loc 14) (λ (j : ℕ). ‵ (fat fullShare tyPtr (l .1 .1 .1 .1 .1 .1 .1 .1 .1 .1 .1 .1 .1 .1 .0) 0 (vptr b j))) (sym (offset-is 22 o i)) refl $
+        sets ! (loc 12) (bin ! (val ! (loc 14) refl) (lit ! tt) tt) refl (tt, tt) $
+        both ! 𝓣 (val ! (loc 12) refl) (λ marked.
+        lets ! (loc 15) (bin ! (val ! (loc 5) refl) (lit ! tt) (record { fits = datapoint-offset-fits n i (gn .1) (lt small) })) refl (tt, record { fits = datapoint-offset-fits n i (gn .1) (lt small) }) $
+        lets ! (loc 16) (bin ! (load ! (from ! (fld ! refl (stop !))) (look-in ! (loc 1) (sub ! 0 refl (whole !)))) (val ! (loc 15) refl) tt) refl (tt, tt) $
+        rewrite ! (loc 16) (λ (j : ℕ). ‵ (fat fullShare tyPtr (l .1 .1 .1 .1 .1 .1 .1 .1 .1 .1 .1 .1 .1 .1 .1 .1 .0) 0 (vptr b j))) (sym (offset-is 22 o i)) refl $
         takes-at ! datapointD fullShare zs i zeroDatapoint b o (lt-zs small) (λ _.
-        lets ! (1 + loc 15) (of-opd ! (load ! (from ! (hop ! (look ! (1 + loc 14) refl) (stop !))) (look-raw ! 0 refl))) refl (typed 𝓤 H A datapointD W d d-ok .0) $
+        lets ! (1 + loc 17) (of-opd ! (load ! (from ! (hop ! (look ! (1 + loc 16) refl) (stop !))) (look-raw ! 0 refl))) refl (typed 𝓤 H A datapointD W d d-ok .0) $
         back-at ! datapointD fullShare zs i zeroDatapoint b o (lt-zs small) d-ok $
-        lets ! (loc 8) (of-opd ! (val ! (loc 15) refl)) refl (typed 𝓤 H A datapointD W d d-ok .0) $
+        lets ! (loc 8) (of-opd ! (val ! (loc 17) refl)) refl (typed 𝓤 H A datapointD W d d-ok .0) $
         calls-plain ! (fmOf 𝓤 H (W .laws) 𝓣) (datapointD ∷ placeD ∷ placeD ∷ []) boolD (waits.clauses 𝓤 H A mem run) (known .waits) (d, (end, (at + 248, tt))) tt (d-ok, ((refl, end-fits), ((refl, most-fits), tt))) (factI 𝓤 _ (emp 𝓤) (code-ok small, telling .inside)) (not (leb (needsOf d) (at + 248 - end))) (λ _ _. id⊢ 𝓤 _)
         (λ _. and-then ! (val ! (1 + loc 8) refl) (and-then ! (val ! (1 + loc 6) refl) (and-then ! (val ! (1 + loc 4) refl) (no-more !)))) (λ _.
-        land ! (from ! (stop !)) (init ! (loc 16) refl (tt, tt)) $
-        leaves-early ! (val ! (loc 16) refl) (λ waiting.
+        land ! (from ! (stop !)) (init ! (loc 18) refl (tt, tt)) $
+        leaves-early ! (val ! (loc 18) refl) (λ waiting.
         lets ! (loc 0) (agg ! (and-then ! (val ! (loc 7) refl) (and-then ! (val ! (loc 6) refl) (no-more !)))) refl (typed 𝓤 H A toldD W told told-ok .0) $
         move ! (0 ∷ 2 ∷ []) $ closed-slice ! tt datapointD n ys zs b o refl (telling .long) gn $ move ! (2 ∷ 3 ∷ []) $ closed-slice ! tt byteD m out bs b′ o′ refl (telling .bytes .long) gm $ move ! (2 ∷ 3 ∷ []) $
-        returns-within ! Done refl (look ! (loc 0) refl) $ behind ! 4 $ frees-all ! (room ∷ room ∷ room ∷ cell ∷ cell ∷ cell ∷ cell ∷ cell ∷ cell ∷ cell ∷ cell ∷ cell ∷ cell ∷ cell ∷ cell ∷ cell ∷ cell ∷ cell ∷ cell ∷ cell ∷ []) _ $
+        returns-within ! Done refl (look ! (loc 0) refl) $ behind ! 4 $ frees-all ! (room ∷ room ∷ room ∷ cell ∷ cell ∷ cell ∷ cell ∷ cell ∷ cell ∷ cell ∷ cell ∷ room ∷ room ∷ cell ∷ cell ∷ cell ∷ cell ∷ cell ∷ cell ∷ cell ∷ cell ∷ cell ∷ []) _ $
         by ! (exits end count zs bs count-fits end-fits (telling .long) (telling .bytes .long) (telling-waits ys out at i end count zs bs telling (lt-zs small) marked waiting)))
         (λ fits.
         calls-plain ! (fmOf 𝓤 H (W .laws) 𝓣) (datapointD ∷ []) datapointD (reported.clauses 𝓤 H A mem run) (known .reported) (d, tt) tt (d-ok, tt) (id⊢ 𝓤 _) d′ (λ _ _. id⊢ 𝓤 _)
         (λ _. and-then ! (val ! (1 + loc 8) refl) (no-more !)) (λ left-ok.
-        land ! (from ! (stop !)) (store ! (loc 15) refl (typed 𝓤 H A datapointD W d′ left-ok .0)) $
-        sets ! (loc 13) (bin ! (val ! (loc 5) refl) (lit ! tt) (record { fits = datapoint-offset-fits n i (gn .1) (lt small) })) refl (tt, record { fits = datapoint-offset-fits n i (gn .1) (lt small) }) $
-        lets ! (loc 17) (bin ! (load ! (from ! (fld ! refl (stop !))) (look-in ! (loc 1) (sub ! 0 refl (whole !)))) (val ! (loc 13) refl) tt) refl (tt, tt) $
-        rewrite ! (loc 17) (λ (j : ℕ). ‵ (fat fullShare tyPtr (l .1 .1 .1 .1 .1 .1 .1 .1 .1 .1 .1 .1 .1 .1 .1 .1 .1 .0) 0 (vptr b j))) (sym (offset-is 22 o i)) refl $
+        land ! (from ! (stop !)) (store ! (loc 17) refl (typed 𝓤 H A datapointD W d′ left-ok .0)) $
+        sets ! (loc 15) (bin ! (val ! (loc 5) refl) (lit ! tt) (record { fits = datapoint-offset-fits n i (gn .1) (lt small) })) refl (tt, record { fits = datapoint-offset-fits n i (gn .1) (lt small) }) $
+        lets ! (loc 19) (bin ! (load ! (from ! (fld ! refl (stop !))) (look-in ! (loc 1) (sub ! 0 refl (whole !)))) (val ! (loc 15) refl) tt) refl (tt, tt) $
+        rewrite ! (loc 19) (λ (j : ℕ). ‵ (fat fullShare tyPtr (l .1 .1 .1 .1 .1 .1 .1 .1 .1 .1 .1 .1 .1 .1 .1 .1 .1 .1 .1 .0) 0 (vptr b j))) (sym (offset-is 22 o i)) refl $
         takes-at ! datapointD fullShare zs i zeroDatapoint b o (lt-zs small) (λ _.
-        assigns ! (of-opd ! (val ! (1 + loc 15) refl)) (from ! (hop ! (look ! (1 + loc 17) refl) (stop !))) (store-raw ! 0 refl (typed 𝓤 H A datapointD W d′ left-ok .0)) $
+        assigns ! (of-opd ! (val ! (1 + loc 17) refl)) (from ! (hop ! (look ! (1 + loc 19) refl) (stop !))) (store-raw ! 0 refl (typed 𝓤 H A datapointD W d′ left-ok .0)) $
         puts-at ! datapointD fullShare zs i d′ b o (lt-zs small) left-ok $
-        lets ! (loc 18) (addr ! (from ! (fld ! refl (hop ! (look-in ! (loc 2) (sub ! 0 refl (whole !))) (stop !))))) refl (tt, tt) $
-        lets ! (loc 19) (agg ! (and-then ! (val ! (loc 18) refl) (and-then ! (load ! (from ! (fld ! refl (stop !))) (look-in ! (loc 2) (sub ! 1 refl (whole !)))) (no-more !)))) refl (tt, (tt, (record { fits = gm .0 }, tt))) $
+        lets ! (loc 20) (addr ! (from ! (fld ! refl (hop ! (look-in ! (loc 2) (sub ! 0 refl (whole !))) (stop !))))) refl (tt, tt) $
+        lets ! (loc 21) (agg ! (and-then ! (val ! (loc 20) refl) (and-then ! (load ! (from ! (fld ! refl (stop !))) (look-in ! (loc 2) (sub ! 1 refl (whole !)))) (no-more !)))) refl (tt, (tt, (record { fits = gm .0 }, tt))) $
         move ! (1 ∷ 0 ∷ []) $
         calls-mutR ! (fmOf 𝓤 H (W .laws) 𝓣) byteD (placeD ∷ datapointD ∷ []) placeD (put-value.clauses 𝓤 H A mem run) (known .put-value) m bs (sym (telling .bytes .long)) (subst (Room (byteD .row)) (sym (telling .bytes .long)) gm) (λ _. (end, (d, tt))) (λ _ _. tt) (λ _. ((refl, end-fits), (d-ok, tt)))
         (λ _ _. factI 𝓤 _ (emp 𝓤) (code-ok small, telling-room ys out at i end count zs bs telling (lt-zs small) marked fits)) (put bs end es) (end + length es) (λ _ _ _ _. fact-use 𝓤 _ (id⊢ 𝓤 _) (λ z. factI 𝓤 _ _ (z .buffer, z .ends)))
-        (λ _ _ _. and-then ! (val ! (1 + loc 19) refl) (and-then ! (val ! (1 + loc 6) refl) (and-then ! (val ! (1 + loc 8) refl) (no-more !)))) (λ _ end-ok.
+        (λ _ _ _. and-then ! (val ! (1 + loc 21) refl) (and-then ! (val ! (1 + loc 6) refl) (and-then ! (val ! (1 + loc 8) refl) (no-more !)))) (λ _ end-ok.
         land ! (from ! (stop !)) (store ! (loc 6) refl (tt, record { fits = end-ok .1 })) $
         move ! (1 ∷ 0 ∷ []) $
         sets ! (loc 7) (bin ! (val ! (loc 7) refl) (lit ! tt) (record { fits = count-next })) refl (tt, record { fits = count-next }) $
         assigns-last ! (bin ! (val ! (loc 5) refl) (lit ! tt) (record { fits = fits-next i n (gn .0) (lt small) })) (from ! (stop !)) (store ! (loc 5) refl (tt, record { fits = fits-next i n (gn .0) (lt small) })) $
-        forget ! (loc 8) refl $ forget ! (loc 9) refl $ forget ! (loc 10) refl $ forget ! (loc 11) refl $ forget ! (loc 12) refl $ forget ! (loc 13) refl $ forget ! (loc 14) refl $ forget ! (loc 15) refl $ forget ! (loc 16) refl $ forget ! (loc 17) refl $ forget ! (loc 18) refl $ forget ! (loc 19) refl $
+        forget ! (loc 8) refl $ forget ! (loc 11) refl $ forget ! (loc 12) refl $ forget ! (loc 13) refl $ forget ! (loc 14) refl $ forget ! (loc 15) refl $ forget ! (loc 16) refl $ forget ! (loc 17) refl $ forget ! (loc 18) refl $ forget ! (loc 19) refl $ forget ! (loc 20) refl $ forget ! (loc 21) refl $
         again ! ≺ Inv s (i + 1, end + length es, count + 1, set zs i d′, put bs end es, telling-next ys out at i end count zs bs telling (lt-zs small) marked fits) (omega (arith, lt small)))))))))
         (λ unmarked.
         assigns-last ! (bin ! (val ! (loc 5) refl) (lit ! tt) (record { fits = fits-next i n (gn .0) (lt small) })) (from ! (stop !)) (store ! (loc 5) refl (tt, record { fits = fits-next i n (gn .0) (lt small) })) $
-        forget ! (loc 9) refl $ forget ! (loc 10) refl $ forget ! (loc 11) refl $ forget ! (loc 12) refl $
+        forget ! (loc 11) refl $ forget ! (loc 12) refl $ forget ! (loc 13) refl $ forget ! (loc 14) refl $
         again ! ≺ Inv s (i + 1, end, count, zs, bs, telling-other ys out at i end count zs bs telling (lt-zs small) unmarked) (omega (arith, lt small)))))
-        (λ big. exec ! (𝓣 .C) (𝓣 .Λ) En part.t-6 (atRet En Done) $ lets ! (loc 0) (agg ! (and-then ! (val ! (loc 7) refl) (and-then ! (val ! (loc 6) refl) (no-more !)))) refl (typed 𝓤 H A toldD W told told-ok .0) $
+        (λ big. exec ! (𝓣 .C) (𝓣 .Λ) En part.t-8 (atRet En Done) $ lets ! (loc 0) (agg ! (and-then ! (val ! (loc 7) refl) (and-then ! (val ! (loc 6) refl) (no-more !)))) refl (typed 𝓤 H A toldD W told told-ok .0) $
         move ! (0 ∷ 2 ∷ []) $ closed-slice ! tt datapointD n ys zs b o refl (telling .long) gn $ move ! (2 ∷ 3 ∷ []) $ closed-slice ! tt byteD m out bs b′ o′ refl (telling .bytes .long) gm $ move ! (2 ∷ 3 ∷ []) $
-        returns ! (look ! (loc 0) refl) $ behind ! 4 $ frees-all ! (room ∷ room ∷ room ∷ room ∷ room ∷ room ∷ room ∷ room ∷ room ∷ cell ∷ cell ∷ room ∷ cell ∷ cell ∷ cell ∷ cell ∷ cell ∷ cell ∷ cell ∷ cell ∷ []) _ $
+        returns ! (look ! (loc 0) refl) $ behind ! 4 $ frees-all ! (room ∷ room ∷ room ∷ room ∷ room ∷ room ∷ room ∷ room ∷ room ∷ cell ∷ cell ∷ room ∷ room ∷ room ∷ cell ∷ cell ∷ cell ∷ cell ∷ cell ∷ cell ∷ cell ∷ cell ∷ []) _ $
         by ! (exits end count zs bs count-fits end-fits (telling .long) (telling .bytes .long) (telling-done ys out at i end count zs bs telling (ge big))))
       where
         i : ℕ
@@ -260,18 +266,24 @@ module _ {M : Type 1} (𝓤 : URA M) (H : Heap 𝓤) (A : Atoms 𝓤) (W : Given
         told-ok = told-good count end count-fits end-fits
 
     abbrev begin : State
-    begin = (0, at, 0, ys, out, telling-begins ys out at ok enough)
+    begin = (firstMarked ys, at, 0, ys, out, telling-first ys out at at 0 ys out (telling-begins ys out at ok enough))
 
-    begins : Sq W (Inv begin) (runs (𝓣 .C) (𝓣 .Λ) En part.t-5 (atRet En Done))
+    begins : Sq W (Inv begin) (runs (𝓣 .C) (𝓣 .Λ) En part.t-7 (atRet En Done))
     begins = first ! $ blocks ! $ loops ! 𝓣 ≺ (by-measure (λ (s : State). n - s .0)) Inv turn begin
 
   walk : Walk 2 𝓤 H A W ps toldD (f.clauses 𝓤 H A mem run) 𝓣 code.function (κ, (κ′, tt)) (q, (q′, tt)) x tt
   walk =
       starts 𝓤 H A W 2 ps (κ, (κ′, tt)) (q, (q′, tt)) x ∵ enter ! (𝓣 .C) (𝓣 .Λ) code.function _ _ $ allocs-all ! (code.function .locals) (λ l. params1 ! $
-      pass1 ! (init ! 36 refl (tt, (tt, (record { fits = gn .0 }, tt)))) $ pass1 ! (init ! 34 refl (tt, (tt, (record { fits = gm .0 }, tt)))) $ pass1 ! (init ! 32 refl (tt, record { fits = at-ok .1 })) $ pass0 ! $
-      lets ! 30 (bin ! (val ! 32 refl) (lit ! tt) (record { fits = most-fits })) refl (tt, record { fits = most-fits }) $ lets ! 28 (of-opd ! (lit ! tt)) refl (tt, record { fits = lit< tt }) $
-      lets ! 26 (of-opd ! (val ! 32 refl)) refl (tt, record { fits = at-ok .1 }) $ lets ! 24 (of-opd ! (lit ! tt)) refl (tt, record { fits = lit< tt }) $
-      move ! (42 ∷ 40 ∷ []) $ opened-slice ! tt datapointD n ys b o refl (λ _. move ! (43 ∷ 42 ∷ []) $ opened-slice ! tt byteD m out b′ o′ refl (λ _. move ! (2 ∷ 0 ∷ 3 ∷ 1 ∷ []) $ begins l)))
+      pass1 ! (init ! 40 refl (tt, (tt, (record { fits = gn .0 }, tt)))) $ pass1 ! (init ! 38 refl (tt, (tt, (record { fits = gm .0 }, tt)))) $ pass1 ! (init ! 36 refl (tt, record { fits = at-ok .1 })) $ pass0 ! $
+      lets ! 34 (bin ! (val ! 36 refl) (lit ! tt) (record { fits = most-fits })) refl (tt, record { fits = most-fits }) $
+      lets ! 24 (addr ! (from ! (fld ! refl (hop ! (look-in ! 40 (sub ! 0 refl (whole !))) (stop !))))) refl (tt, tt) $
+      lets ! 22 (agg ! (and-then ! (val ! 24 refl) (and-then ! (load ! (from ! (fld ! refl (stop !))) (look-in ! 40 (sub ! 1 refl (whole !)))) (no-more !)))) refl (tt, (tt, (record { fits = gn .0 }, tt))) $
+      move ! (46 ∷ 44 ∷ []) $
+      calls-as-shrS ! (fmOf 𝓤 H (W .laws) 𝓣) datapointD [] placeD (first-marked.clauses 𝓤 H A mem run) (known .first-marked) n ys refl (λ _. tt) (λ _ _. tt) (λ _. tt) (λ _ _. id⊢ 𝓤 _) (firstMarked ys) (λ _ _ _ _. id⊢ 𝓤 _)
+      (λ _ _ _. and-then ! (val ! 24 refl) (no-more !)) (λ first-ok.
+      land ! (from ! (stop !)) (init ! 34 refl (tt, record { fits = first-ok .1 })) $
+      lets ! 32 (of-opd ! (val ! 38 refl)) refl (tt, record { fits = at-ok .1 }) $ lets ! 30 (of-opd ! (lit ! tt)) refl (tt, record { fits = lit< tt }) $
+      move ! (0 ∷ 1 ∷ []) $ opened-slice ! tt datapointD n ys b o refl (λ _. move ! (47 ∷ 46 ∷ []) $ opened-slice ! tt byteD m out b′ o′ refl (λ _. move ! (2 ∷ 0 ∷ 3 ∷ 1 ∷ []) $ forget ! (loc 9) refl $ forget ! (loc 10) refl $ begins l))))
 
 pub tell-marked-spec : {M : Type 1} → stated.statement M
 unfolding code.routine tablesOf
@@ -282,6 +294,7 @@ tell-marked-spec 𝓤 H 𝓜 𝓖 𝓡 =
     (tables 𝓤 H 𝓜 𝓡 code.env .C) (tables 𝓤 H 𝓜 𝓡 code.env .Λ) #indications·indication·tell-marked code.function (code.unfolded 𝓤 H 𝓜 𝓡)
     (meets-by 2 𝓤 H (𝓖 .A) W ps toldD (f.clauses 𝓤 H (𝓖 .A) (𝓜 .mem) (𝓡 .run)) 𝓣 code.function (λ κs qs a _ are. needs 𝓤 _ _ (λ ok. walk 𝓤 H (𝓖 .A) W (𝓜 .mem) (𝓡 .run) 𝓣
     record {
+      first-marked = cited 𝓤 H (tripleOf 𝓤 H (𝓖 .A) first-marked.signature (first-marked.spec 𝓤 H (𝓖 .A) (𝓜 .mem) (𝓡 .run))) 𝓜 𝓡 code.env #indications·indication·first-marked first-marked-def.routine code.calls-indications·indication·first-marked (first-marked-thm.met 𝓤 H 𝓜 𝓖 𝓡);
       waits = cited 𝓤 H (tripleOf 𝓤 H (𝓖 .A) waits.signature (waits.spec 𝓤 H (𝓖 .A) (𝓜 .mem) (𝓡 .run))) 𝓜 𝓡 code.env #indications·indication·waits waits-def.routine code.calls-indications·indication·waits (waits-thm.met 𝓤 H 𝓜 𝓖 𝓡);
       put-value = cited 𝓤 H (tripleOf 𝓤 H (𝓖 .A) put-value.signature (put-value.spec 𝓤 H (𝓖 .A) (𝓜 .mem) (𝓡 .run))) 𝓜 𝓡 code.env #entries·entry·put-value put-value-def.routine code.calls-entries·entry·put-value (put-value-thm.met 𝓤 H 𝓜 𝓖 𝓡);
       reported = cited 𝓤 H (tripleOf 𝓤 H (𝓖 .A) reported.signature (reported.spec 𝓤 H (𝓖 .A) (𝓜 .mem) (𝓡 .run))) 𝓜 𝓡 code.env #records·datapoint·reported reported-def.routine code.calls-records·datapoint·reported (reported-thm.met 𝓤 H 𝓜 𝓖 𝓡);

@@ -5,13 +5,10 @@ use Rattle.script.proofs.print.bytes.Statement.{statement}
 use Rattle.script.proofs.print.bytes.Tie as tie
 
 abbrev Inv-loop : tie.InvT-loop
-Inv-loop label s i₀ t i = i ≤ length s
+Inv-loop s i₀ t i = i ≤ length s
 
 abbrev μ-loop : tie.MeasureT-loop
-μ-loop label s i₀ t i = length s - i
-
-text-requires : tie.Need-text-requires Inv-loop μ-loop
-text-requires c κs = search needs
+μ-loop s i₀ t i = length s - i
 
 loop-holds : tie.Need-loop-holds Inv-loop μ-loop
 loop-holds c = search needs
@@ -37,11 +34,11 @@ loop-again c = search needs
 slice-aggregate-text : tie.Need-slice-aggregate-text Inv-loop μ-loop
 slice-aggregate-text c = search needs
 
-text-requires-2 : tie.Need-text-requires-2 Inv-loop μ-loop
-text-requires-2 c κs = search needs
+text-requires : tie.Need-text-requires Inv-loop μ-loop
+text-requires c κs = search needs
 
 returns : tie.Need-returns Inv-loop μ-loop
 returns c = search needs
 
 pub bytes-spec : {M : Type 1} → statement M
-bytes-spec = tie.close (tie.spec Inv-loop μ-loop text-requires loop-holds gap-requires shared-slice-read-byte byte-requires add-i loop-less loop-again slice-aggregate-text text-requires-2 returns)
+bytes-spec = tie.close (tie.spec Inv-loop μ-loop loop-holds gap-requires shared-slice-read-byte byte-requires add-i loop-less loop-again slice-aggregate-text text-requires returns)

@@ -23,6 +23,15 @@ bytes-requires c κs = search needs
 returns-2 : tie.Need-returns-2
 returns-2 c = search needs
 
+slice-aggregate-text-2 : tie.Need-slice-aggregate-text-2
+slice-aggregate-text-2 c = search needs
+
+text-requires-3 : tie.Need-text-requires-3
+text-requires-3 c κs = search needs
+
+text-requires-4 : tie.Need-text-requires-4
+text-requires-4 c κs = search needs
+
 sub-bytes : tie.Need-sub-bytes
 sub-bytes c = search needs
 
@@ -35,24 +44,6 @@ part-bytes-end c = search needs
 bytes-requires-2 : tie.Need-bytes-requires-2
 bytes-requires-2 c κs = search needs
 
-slice-aggregate-text-2 : tie.Need-slice-aggregate-text-2
-slice-aggregate-text-2 c = search needs
-
-text-requires-3 : tie.Need-text-requires-3
-text-requires-3 c κs = search needs
-
-sub-bytes-2 : tie.Need-sub-bytes-2
-sub-bytes-2 c = search needs
-
-part-bytes-start-2 : tie.Need-part-bytes-start-2
-part-bytes-start-2 c = search needs
-
-part-bytes-end-2 : tie.Need-part-bytes-end-2
-part-bytes-end-2 c = search needs
-
-bytes-requires-3 : tie.Need-bytes-requires-3
-bytes-requires-3 c κs = search needs
-
 returns-3 : tie.Need-returns-3
 returns-3 c = search needs
 
@@ -60,4 +51,4 @@ returns-4 : tie.Need-returns-4
 returns-4 c = search needs
 
 pub frames-spec : {M : Type 1} → statement M
-frames-spec = tie.close (tie.spec text-requires slice-aggregate-text text-requires-2 returns shared-slice-read-if2 bytes-requires returns-2 sub-bytes part-bytes-start part-bytes-end bytes-requires-2 slice-aggregate-text-2 text-requires-3 sub-bytes-2 part-bytes-start-2 part-bytes-end-2 bytes-requires-3 returns-3 returns-4)
+frames-spec = tie.close (tie.spec text-requires slice-aggregate-text text-requires-2 returns shared-slice-read-if2 bytes-requires returns-2 slice-aggregate-text-2 text-requires-3 text-requires-4 sub-bytes part-bytes-start part-bytes-end bytes-requires-2 returns-3 returns-4)

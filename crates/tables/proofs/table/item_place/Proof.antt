@@ -41,7 +41,7 @@ use Rattle.baos.specs.declared.item.Item.{Item}
 use Rattle.baos.specs.Item.{itemId, zeroItem}
 use Rattle.baos.specs.Table.{rising, place}
 use Rattle.baos.proofs.Types.{itemD, idD, placeD, item-id-fits, item-offset-fits, fits-next}
-use Rattle.baos.proofs.PlaceLaws.{idAt, Rising, rises, no-less, place-is}
+use Rattle.baos.proofs.PlaceLaws.{idAt, Rising, rises, lower, higher, place-is}
 use Rattle.tables.proofs.table.item_place.Key.{name as #tables·table·item-place}
 use Rattle.tables.proofs.table.item_place as f
 use Rattle.tables.proofs.table.item_place.Statement as stated
@@ -126,11 +126,11 @@ module _ {M : Type 1} (𝓤 : URA M) (H : Heap 𝓤) (A : Atoms 𝓤) (W : Given
         sets ! (loc 4) (bin ! (val ! (loc 7) refl) (lit ! tt) (record { fits = fits-next mid n (gn .0) (lt inside) })) refl (tt, record { fits = fits-next mid n (gn .0) (lt inside) }) $
         assigns-last ! (of-opd ! (val ! (loc 6) refl)) (from ! (stop !)) (store ! (loc 5) refl (tt, record { fits = half-fits })) $
         forget ! (loc 6) refl $ forget ! (loc 7) refl $ forget ! (loc 8) refl $ forget ! (loc 9) refl $ forget ! (loc 10) refl $ forget ! (loc 11) refl $ forget ! (loc 12) refl $
-        again ! ≺ Inv s (mid + 1, half, (next-le (lt inside), half-le, under (lt inside) (ltb→lt (idAt itemId zeroItem ys mid) id less), over-less)) (falls (ltb→lt 0 w some-left)))
+        again ! ≺ Inv s (mid + 1, half, (next-le (lt inside), half-le, lower itemId zeroItem ys rise id mid (lt inside) (ltb→lt (idAt itemId zeroItem ys mid) id less), over-less)) (falls (ltb→lt 0 w some-left)))
         (λ more.
         assigns-last ! (of-opd ! (val ! (loc 6) refl)) (from ! (stop !)) (store ! (loc 5) refl (tt, record { fits = half-fits })) $
         forget ! (loc 6) refl $ forget ! (loc 7) refl $ forget ! (loc 8) refl $ forget ! (loc 9) refl $ forget ! (loc 10) refl $ forget ! (loc 11) refl $ forget ! (loc 12) refl $
-        again ! ≺ Inv s (at, half, (s .2 .0, half-le, s .2 .2, over-more (nltb→le (idAt itemId zeroItem ys mid) id more))) (falls (ltb→lt 0 w some-left)))))
+        again ! ≺ Inv s (at, half, (s .2 .0, half-le, s .2 .2, higher itemId zeroItem ys rise id mid (nltb→le (idAt itemId zeroItem ys mid) id more))) (falls (ltb→lt 0 w some-left)))))
         (λ outside.
         assigns-last ! (of-opd ! (val ! (loc 6) refl)) (from ! (stop !)) (store ! (loc 5) refl (tt, record { fits = half-fits })) $
         forget ! (loc 6) refl $ forget ! (loc 7) refl $ forget ! (loc 8) refl $
@@ -176,20 +176,11 @@ module _ {M : Type 1} (𝓤 : URA M) (H : Heap 𝓤) (A : Atoms 𝓤) (W : Given
         stop-le : w ≤ 0 → {i : ℕ} → at ≤ i → at + w ≤ i
         stop-le l v = omega (arith, l, v)
 
-        under : mid < n → idAt itemId zeroItem ys mid < id → (i : ℕ) → i < mid + 1 → idAt itemId zeroItem ys i < id
-        under l u i v = omega (arith, no-less itemId zeroItem ys rise i mid (within v) l, u)
-          where
-            within : i < mid + 1 → i ≤ mid
-            within v = omega (arith, v)
-
         over-less : (i : ℕ) → (mid + 1) + half ≤ i → i < n → id ≤ idAt itemId zeroItem ys i
         over-less i l u = s .2 .3 i (beyond l) u
           where
             beyond : (mid + 1) + half ≤ i → at + w ≤ i
             beyond l = omega (arith, l)
-
-        over-more : id ≤ idAt itemId zeroItem ys mid → (i : ℕ) → at + half ≤ i → i < n → id ≤ idAt itemId zeroItem ys i
-        over-more e i l u = omega (arith, e, no-less itemId zeroItem ys rise mid i l u)
 
         over-none : n ≤ mid → (i : ℕ) → at + half ≤ i → i < n → id ≤ idAt itemId zeroItem ys i
         over-none e i l u = absurd (lt-irrefl n (omega (arith, e, l, u)))

@@ -1,38 +1,19 @@
--- The steps one after the other give the rule.
-use Prim.Native.Nat.{ℕ}
-use mathlib.Core.Path.{_≡_, refl, _∙_}
-use mathlib.Core.Bool.{Bool, true, false}
+-- No code above 14 has a size.
+use mathlib.Core.Path.{sym}
 use native.Mathlib.Omega.{arith}
-use lib.Dec.{ltb}
 use borrow.Author.Needs.{needs}
-use borrow.Author.Tests.{lt-ltb, ltb-true}
-use Rattle.baos.specs.Datapoint.{sizeOf}
+use Rattle.baos.proofs.ValueLaws.{size-of-none}
 use Rattle.values.proofs.value.size_of.Statement.{statement}
 use Rattle.values.proofs.value.size_of.Tie as tie
 
-few-bytes-requires : tie.Need-few-bytes-requires
-few-bytes-requires c κs = search needs
-
-more-bytes-requires : tie.Need-more-bytes-requires
-more-bytes-requires c κs = search needs
-
-most-bytes-requires : tie.Need-most-bytes-requires
-most-bytes-requires c κs = search needs
-
 returns : tie.Need-returns
-unfolding sizeOf
-returns c = by-tests (ltb k 8) (ltb k 11) refl refl
-  where
-    k : ℕ
-    k = c .before .before .before .args .typecode
+returns c = sym (size-of-none (c .before .args .typecode) (omega arith))
 
-    by-tests : (below-8 below-11 : Bool) → ltb k 8 ≡ below-8 → ltb k 11 ≡ below-11 → c .most-bytes .result ≡ sizeOf k
-    by-tests true _ e f =
-        c .most-bytes .ensures
-        ∙ simp (c .before .more-bytes .ensures, c .before .before .few-bytes .ensures, e, lt-ltb k 11 (omega (arith, ltb-true k 8 e)), lt-ltb k 14 (omega (arith, ltb-true k 8 e)))
-    by-tests false true e f =
-        c .most-bytes .ensures ∙ simp (c .before .more-bytes .ensures, c .before .before .few-bytes .ensures, e, f, lt-ltb k 14 (omega (arith, ltb-true k 11 f)))
-    by-tests false false e f = c .most-bytes .ensures ∙ simp (c .before .more-bytes .ensures, e, f)
+size-by-rule-requires : tie.Need-size-by-rule-requires
+size-by-rule-requires c κs = search needs
+
+returns-2 : tie.Need-returns-2
+returns-2 c = search needs
 
 pub size-of-spec : {M : Type 1} → statement M
-size-of-spec = tie.close (tie.spec few-bytes-requires more-bytes-requires most-bytes-requires returns)
+size-of-spec = tie.close (tie.spec returns size-by-rule-requires returns-2)

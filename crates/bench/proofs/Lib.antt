@@ -1,5 +1,0 @@
-pub mod BenchLaws
-pub mod RunLaws
-pub mod ReadLaws
-pub mod SameLaws
-pub mod Types
