@@ -1,20 +1,17 @@
 -- The lines that tell the tables: a law for each answer of a definition.
 use Prim.Native.Nat.{ℕ, _+_, _≤_, _<_}
 use mathlib.Core.Path.{_≡_, refl, ap}
-use mathlib.Core.Bool.{true}
 use mathlib.Core.List.{List}
 use native.Mathlib.Numerals.{add-one}
 use lib.ListN.{getD, set}
 use borrow.Author.Tests.{ne-eqb, le-ltb, lt-ltb}
 use Rattle.baos.specs.declared.datapoint.Datapoint.{Datapoint}
 use Rattle.baos.specs.declared.item.Item.{Item}
-use Rattle.calls.specs.declared.event.Event.the-variants.{BusValue}
 use Rattle.cases.specs.declared.bench.Bench.{Bench}
-use Rattle.cases.specs.Bench.{emptyBench, withDatapoints, withItems, withParameters, withValue}
-use Rattle.cases.specs.Run.{happened}
+use Rattle.cases.specs.Bench.{emptyBench, withDatapoints, withItems, withParameters, withSite, withDefaults}
 use Rattle.script.specs.declared.line.Line.{Line}
-use Rattle.script.specs.Record.{raised, risen, itemOf, datapointOf, parametersOf}
-use Rattle.cases.specs.Lent.{withItem, withDatapoint, withSite, withDefaults, filled, built, bussed}
+use Rattle.script.specs.Record.{itemOf, datapointOf}
+use Rattle.cases.specs.Lent.{withItem, withDatapoint, filled, built}
 
 pub item-full : (i : Item) (b : Bench) → 4 ≤ b .itemcount → withItem i b ≡ b
 unfolding withItem
@@ -42,14 +39,6 @@ module _ (a : List ℕ) (b : Bench) where
   unfolding filled
   filled-next k = ap (λ (m : ℕ). filled a m b) (add-one k)
 
-  pub bussed-none : bussed a 0 b ≡ b
-  unfolding bussed
-  bussed-none = refl
-
-  pub bussed-next : (k : ℕ) → bussed a (k + 1) b ≡ happened (BusValue (raised a 1 k)) (withValue (risen (getD a 3 0) true k) (bussed a k b))
-  unfolding bussed
-  bussed-next k = ap (λ (m : ℕ). bussed a m b) (add-one k)
-
 module _ (l : Line) (b : Bench) where
   pub told-empty : l .letter ≡ 0x65 → built l b ≡ emptyBench
   unfolding built
@@ -63,7 +52,7 @@ module _ (l : Line) (b : Bench) where
   unfolding built
   told-datapoints e = rw e refl
 
-  pub told-parameters : l .letter ≡ 0x70 → built l b ≡ withParameters (parametersOf (l .bytes)) (l .size) b
+  pub told-parameters : l .letter ≡ 0x70 → built l b ≡ withParameters (l .bytes) (l .size) b
   unfolding built
   told-parameters e = rw e refl
 

@@ -14,6 +14,8 @@ use Rattle.cases.specs.declared.bench.Bench.{Bench}
 use Rattle.cases.specs.declared.run.Stand.{Stand}
 use Rattle.cases.specs.Run.{happened, countSent, quiet, Sends, heard, onlyLast, lastSound, standAfter}
 use Rattle.cases.specs.Same.{Decides}
+use Rattle.cases.specs.Bench.{Within}
+use Rattle.cases.proofs.BenchLaws.{happened-within}
 use Rattle.cases.proofs.SameLaws.{left-to}
 
 -- ---- what the last call sends
@@ -36,14 +38,15 @@ ahead-next x (y ∷ ys) p q b = sym (and-assoc q (quiet (happened (HostByte x) b
 
 pub record Feeding (xs : List ℕ) (b₀ b : Bench) (p q : Bool) (k i : ℕ) : Type 0 where
   pub within : i ≤ length xs
+  pub fits : Within b
   pub bench : heard (drop i xs) b ≡ heard xs b₀
   pub quiet : ahead (drop i xs) p q b ≡ onlyLast xs b₀
   pub place : lastSound (drop i xs) i k b ≡ lastSound xs 0 1000 b₀
 
-pub feeding-begins : (xs : List ℕ) (b : Bench) → Feeding xs b b false true 1000 0
+pub feeding-begins : (xs : List ℕ) (b : Bench) → Within b → Feeding xs b b false true 1000 0
 unfolding ahead onlyLast
-feeding-begins [] b = record { within = omega arith; bench = refl; quiet = refl; place = refl }
-feeding-begins (x ∷ xs) b = record { within = omega arith; bench = refl; quiet = refl; place = refl }
+feeding-begins [] b w = record { within = omega arith; fits = w; bench = refl; quiet = refl; place = refl }
+feeding-begins (x ∷ xs) b w = record { within = omega arith; fits = w; bench = refl; quiet = refl; place = refl }
 
 module _ (xs : List ℕ) (i : ℕ) (b b′ : Bench) (l : i < length xs) (e : b′ ≡ happened (HostByte (getD xs i 0)) b) where
   next : drop i xs ≡ getD xs i 0 ∷ drop (i + 1) xs
@@ -55,7 +58,7 @@ module _ (xs : List ℕ) (i : ℕ) (b b′ : Bench) (l : i < length xs) (e : b�
       let h : heard (drop i xs) b ≡ heard (drop (i + 1) xs) b′ = rw (next, e) refl in
       let g : ahead (drop i xs) p q b ≡ ahead (drop (i + 1) xs) q q′ b′ = rw (next, eq, e) (ahead-next (getD xs i 0) (drop (i + 1) xs) p q b) in
       let s : lastSound (drop i xs) i k b ≡ lastSound (drop (i + 1) xs) (i + 1) k′ b′ = rw (next, ek, e, add-one i) refl in
-      record { within = omega arith; bench = sym h ∙ f .bench; quiet = sym g ∙ f .quiet; place = sym s ∙ f .place }
+      record { within = omega arith; fits = rw e (happened-within _ b (f .fits)); bench = sym h ∙ f .bench; quiet = sym g ∙ f .quiet; place = sym s ∙ f .place }
 
 -- what the two branches of a turn leave
 pub quiet-lost : (b : Bench) (n : ℕ) (q q′ : Bool) → n ≡ countSent (b .reply) → (n ≡ 0 → ⊥) → q′ ≡ false → q′ ≡ (q && quiet b)

@@ -11,7 +11,7 @@ use borrow.Author.Tests.{ne-eqb}
 use Rattle.calls.specs.declared.event.Event.the-variants.{IdleMark}
 use Rattle.cases.specs.declared.bench.Bench.{Bench}
 use Rattle.cases.specs.declared.run.Stand.{Stand}
-use Rattle.cases.specs.Bench.{emptyBench}
+use Rattle.cases.specs.Bench.{emptyBench, withValue, Within}
 use Rattle.cases.specs.Read.{ReadsAs}
 use Rattle.cases.specs.Run.{happened, countSent, quiet, Sends, standAfter}
 use Rattle.cases.specs.Same.{Decides, SameTables, LinkIs}
@@ -20,9 +20,11 @@ use Rattle.script.specs.declared.line.Line.{Line}
 use Rattle.script.specs.Line.{lines, lineEnd, readLine}
 use Rattle.script.specs.Record.{raised}
 use Rattle.cases.specs.Burst.{FindsAs}
-use Rattle.cases.specs.Lent.{built, bussed}
-use Rattle.cases.specs.Script.{listed, standing, started, marked, numbered, acted, Damaged, Right, AllRight, Played}
-use Rattle.script.proofs.LineLaws.{lines-next, end-within, end-some}
+use Rattle.cases.specs.Lent.{built}
+use Rattle.cases.specs.Step.{listed}
+use Rattle.cases.specs.Script.{standing, started, marked, numbered, acted, Damaged, Right, AllRight, Played}
+use Rattle.cases.proofs.BenchLaws.{empty-within, built-within, stands-within}
+use Rattle.script.proofs.LineLaws.{lines-next, end-within, end-some, count-fits}
 
 -- ---- what happens by a line: a law for each letter
 pub mark-quiet : (b b′ : Bench) (n : ℕ) → b′ ≡ happened IdleMark b → n ≡ countSent (b′ .reply) → standing b′ (eqb n 0) 1000 ≡ marked b
@@ -42,9 +44,9 @@ module _ (l : Line) (w : Bench) (s : Stand) where
   unfolding acted
   silence e = rw e refl
 
-  pub values-come : l .letter ≡ 0x62 → acted l w s ≡ standing (bussed (l .bytes) (getD (l .bytes) 0 0) (s .bench)) true 1000
+  pub value-lent : l .letter ≡ 0x62 → acted l w s ≡ standing (withValue l (s .bench)) true 1000
   unfolding acted
-  values-come e = rw e refl
+  value-lent e = rw e refl
 
   pub event-comes : l .letter ≡ 0x6E → acted l w s ≡ numbered (l .bytes) (s .bench)
   unfolding acted
@@ -103,12 +105,14 @@ quiet-decided b n e = ((λ x. rw (sym e) x), (λ y. rw (sym e) at y))
 
 -- ---- the loop: what is left of the script asks the rest
 pub record Playing (t : List ℕ) (w : Bench) (s : Stand) (r : Bool) (at : ℕ) : Type 0 where
+  pub told : Within w
+  pub stands : Within (s .bench)
   pub ahead : (r ≡ true) × AllRight (lines (drop at t)) w s → Played t
   pub back : Played t → (r ≡ true) × AllRight (lines (drop at t)) w s
 
 pub playing-begins : (t : List ℕ) (w : Bench) → w ≡ emptyBench → Playing t w (standing w true 1000) true 0
 unfolding Played
-playing-begins t w e = record { ahead = λ x. rw e at (x .1); back = λ y. (refl, rw e y) }
+playing-begins t w e = record { told = rw e empty-within; stands = rw e empty-within; ahead = λ x. rw e at (x .1); back = λ y. (refl, rw e y) }
 
 both-hold : (p q : Bool) → (p && q) ≡ true → (p ≡ true) × (q ≡ true)
 both-hold true q e = (refl, e)
@@ -149,6 +153,8 @@ module _ (t : List ℕ) (at e : ℕ) (l : at < length t) (ee : e ≡ lineEnd (ta
         let D : Decides h (Right L (built L w) (acted L (built L w) s)) = rw (S, W, k) at d in
         rw (W, S)
         (record {
+          told = built-within L (count-fits _) w (p .told);
+          stands = stands-within L (count-fits _) w (built L w) s (acted L (built L w) s) (p .told) (p .stands) refl refl;
           ahead = λ x. let y = both-hold r h (sym er ∙ x .0) in p .ahead (y .0, rw next (D .0 (y .1), x .1));
           back = λ y. let x = p .back y in let z = rw next at (x .1) in (er ∙ rw (x .0) (D .1 (z .0)), z .1);
         })

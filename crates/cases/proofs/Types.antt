@@ -24,8 +24,8 @@ use Rattle.baos.proofs.item.Item as I
 use Rattle.baos.proofs.item.Item.Laws as I′
 use Rattle.calls.proofs.reply.Reply as R
 use Rattle.calls.proofs.reply.Reply.Laws as R′
-use Rattle.cases.proofs.bench.Lists as T
-use Rattle.cases.proofs.bench.Lists.Laws as T′
+use Rattle.script.proofs.line.Line as T
+use Rattle.script.proofs.line.Line.Laws as T′
 use Rattle.cases.proofs.bench.Bench as B
 use Rattle.cases.proofs.bench.Bench.Laws as B′
 
@@ -40,6 +40,10 @@ count = record { row = UInt w64; ty = tyInt w64 }
 abbrev bytes : ℕ → Member
 bytes n = record { row = Array (UInt w8) n; ty = tyArray (tyInt w8) n }
 
+-- a line of the script
+abbrev line : Member
+line = record { row = Struct (SD.shape T.the-type); ty = T′.mir }
+
 abbrev pub members : List Member
 members =
     record { row = Struct (SD.shape L.the-type); ty = L′.mir }
@@ -47,11 +51,11 @@ members =
     ∷ count
     ∷ record { row = Array (Struct (SD.shape I.the-type)) 4; ty = tyArray I′.mir 4 }
     ∷ count
-    ∷ bytes 255
+    ∷ bytes 264
     ∷ count
-    ∷ record { row = Struct (SD.shape T.the-type); ty = T′.mir }
-    ∷ bytes 14
-    ∷ count
+    ∷ line
+    ∷ line
+    ∷ line
     ∷ bytes 262
     ∷ record { row = R.the-field .row; ty = R′.mir }
     ∷ []

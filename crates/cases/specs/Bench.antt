@@ -1,9 +1,7 @@
 -- The bench, and how one is made.
 use Prim.Native.Nat.{ℕ, _≤_}
-use mathlib.Core.Bool.{Bool, true, false, _&&_}
-use mathlib.Core.List.{List, [], _∷_}
+use mathlib.Core.List.{List}
 use lib.ListN.{replicate}
-use lib.Dec.{leb}
 use Rattle.ft12.specs.declared.record.Link.{Link}
 use Rattle.ft12.specs.Record.{linkWith}
 use Rattle.baos.specs.declared.datapoint.Datapoint.{Datapoint}
@@ -11,7 +9,7 @@ use Rattle.baos.specs.declared.item.Item.{Item}
 use Rattle.calls.specs.declared.reply.Reply.{Reply}
 use Rattle.calls.specs.declared.reply.Reply.the-variants.{Accepted}
 use Rattle.cases.specs.declared.bench.Bench.{Bench}
-use Rattle.cases.specs.declared.bench.Lists.{Lists}
+use Rattle.script.specs.declared.line.Line.{Line}
 
 -- nothing received, nothing outstanding, and these bits
 unfoldable pub idleLink : ℕ → ℕ → Link
@@ -24,8 +22,8 @@ noDatapoint = record { id = 0; typecode = 0; flags = 0; dpt = 0; state = 0; valu
 unfoldable pub noItem : Item
 noItem = record { id = 0; size = 0; writable = 0; bytes = replicate 16 0 }
 
-unfoldable pub noLists : Lists
-noLists = record { site = replicate 264 0; sitesize = 0; defaults = replicate 264 0; defaultsize = 0 }
+unfoldable pub noLine : Line
+noLine = record { letter = 0; bytes = replicate 264 0; size = 0 }
 
 -- "unless said, nothing is outstanding and both bits are odd"
 unfoldable pub emptyBench : Bench
@@ -36,11 +34,11 @@ emptyBench =
       datapointcount = 0;
       items = replicate 4 noItem;
       itemcount = 0;
-      parameters = replicate 255 0;
+      parameters = replicate 264 0;
       parametercount = 0;
-      lists = noLists;
-      value = replicate 14 0;
-      valuesize = 0;
+      site = noLine;
+      defaults = noLine;
+      value = noLine;
       out = replicate 262 0;
       reply = Accepted 0;
     }
@@ -58,9 +56,9 @@ withBits expected send b =
       itemcount = b .itemcount;
       parameters = b .parameters;
       parametercount = b .parametercount;
-      lists = b .lists;
+      site = b .site;
+      defaults = b .defaults;
       value = b .value;
-      valuesize = b .valuesize;
       out = b .out;
       reply = b .reply;
     }
@@ -75,9 +73,9 @@ withDatapoints ds n b =
       itemcount = b .itemcount;
       parameters = b .parameters;
       parametercount = b .parametercount;
-      lists = b .lists;
+      site = b .site;
+      defaults = b .defaults;
       value = b .value;
-      valuesize = b .valuesize;
       out = b .out;
       reply = b .reply;
     }
@@ -92,9 +90,9 @@ withItems is n b =
       itemcount = n;
       parameters = b .parameters;
       parametercount = b .parametercount;
-      lists = b .lists;
+      site = b .site;
+      defaults = b .defaults;
       value = b .value;
-      valuesize = b .valuesize;
       out = b .out;
       reply = b .reply;
     }
@@ -109,15 +107,15 @@ withParameters ps n b =
       itemcount = b .itemcount;
       parameters = ps;
       parametercount = n;
-      lists = b .lists;
+      site = b .site;
+      defaults = b .defaults;
       value = b .value;
-      valuesize = b .valuesize;
       out = b .out;
       reply = b .reply;
     }
 
-unfoldable pub withLists : Lists → Bench → Bench
-withLists ls b =
+unfoldable pub withSite : Line → Bench → Bench
+withSite l b =
     record {
       link = b .link;
       datapoints = b .datapoints;
@@ -126,15 +124,15 @@ withLists ls b =
       itemcount = b .itemcount;
       parameters = b .parameters;
       parametercount = b .parametercount;
-      lists = ls;
+      site = l;
+      defaults = b .defaults;
       value = b .value;
-      valuesize = b .valuesize;
       out = b .out;
       reply = b .reply;
     }
 
-unfoldable pub withValue : ℕ → Bench → Bench
-withValue v b =
+unfoldable pub withDefaults : Line → Bench → Bench
+withDefaults l b =
     record {
       link = b .link;
       datapoints = b .datapoints;
@@ -143,23 +141,35 @@ withValue v b =
       itemcount = b .itemcount;
       parameters = b .parameters;
       parametercount = b .parametercount;
-      lists = b .lists;
-      value = v ∷ replicate 13 0;
-      valuesize = 1;
+      site = b .site;
+      defaults = l;
+      value = b .value;
       out = b .out;
       reply = b .reply;
     }
 
--- no count goes beyond the width of its table
+unfoldable pub withValue : Line → Bench → Bench
+withValue l b =
+    record {
+      link = b .link;
+      datapoints = b .datapoints;
+      datapointcount = b .datapointcount;
+      items = b .items;
+      itemcount = b .itemcount;
+      parameters = b .parameters;
+      parametercount = b .parametercount;
+      site = b .site;
+      defaults = b .defaults;
+      value = l;
+      out = b .out;
+      reply = b .reply;
+    }
+
+-- nothing goes beyond its width
 pub record Within (b : Bench) : Type 0 where
   pub datapoints : b .datapointcount ≤ 50
   pub items : b .itemcount ≤ 4
-  pub parameters : b .parametercount ≤ 255
-  pub value : b .valuesize ≤ 14
-  pub site : b .lists .sitesize ≤ 264
-  pub defaults : b .lists .defaultsize ≤ 264
-
-unfoldable pub isWithin : Bench → Bool
-isWithin b =
-    leb (b .datapointcount) 50 && leb (b .itemcount) 4 && leb (b .parametercount) 255 && leb (b .valuesize) 14
-    && leb (b .lists .sitesize) 264 && leb (b .lists .defaultsize) 264
+  pub parameters : b .parametercount ≤ 264
+  pub site : b .site .size ≤ 264
+  pub defaults : b .defaults .size ≤ 264
+  pub value : b .value .size ≤ 264

@@ -1,18 +1,15 @@
--- What the lines of a script say of the tables, and of the bus.
+-- What the lines of a script say of the tables.
 use Prim.Native.Nat.{ℕ, zero, suc, _+_}
-use mathlib.Core.Bool.{true}
 use mathlib.Core.List.{List}
 use lib.ListN.{getD, set}
 use lib.Dec.{eqb, ltb}
 use Rattle.words.specs.Words.{if_then_else_}
 use Rattle.baos.specs.declared.datapoint.Datapoint.{Datapoint}
 use Rattle.baos.specs.declared.item.Item.{Item}
-use Rattle.calls.specs.declared.event.Event.the-variants.{BusValue}
 use Rattle.cases.specs.declared.bench.Bench.{Bench}
-use Rattle.cases.specs.Bench.{emptyBench, withDatapoints, withItems, withParameters, withLists, withValue}
-use Rattle.cases.specs.Run.{happened}
+use Rattle.cases.specs.Bench.{emptyBench, withDatapoints, withItems, withParameters, withSite, withDefaults}
 use Rattle.script.specs.declared.line.Line.{Line}
-use Rattle.script.specs.Record.{raised, risen, itemOf, datapointOf, parametersOf}
+use Rattle.script.specs.Record.{itemOf, datapointOf}
 
 -- one record more, behind the others; a full table stays
 unfoldable pub withItem : Item → Bench → Bench
@@ -29,37 +26,13 @@ unfoldable pub filled : List ℕ → ℕ → Bench → Bench
 filled a zero b = b
 filled a (suc n) b = withDatapoint (datapointOf a n) (filled a n b)
 
--- the bytes of the line as the site's list of texts, or as the default list
-unfoldable pub withSite : Line → Bench → Bench
-withSite l b =
-    withLists (record {
-      site = l .bytes;
-      sitesize = l .size;
-      defaults = b .lists .defaults;
-      defaultsize = b .lists .defaultsize;
-    }) b
-
-unfoldable pub withDefaults : Line → Bench → Bench
-withDefaults l b =
-    withLists (record {
-      site = b .lists .site;
-      sitesize = b .lists .sitesize;
-      defaults = l .bytes;
-      defaultsize = l .size;
-    }) b
-
 -- the letters e, i, d, p, v and w
 unfoldable pub built : Line → Bench → Bench
 built l b =
     if eqb (l .letter) 0x65 then emptyBench
     else if eqb (l .letter) 0x69 then withItem (itemOf (l .bytes)) b
     else if eqb (l .letter) 0x64 then filled (l .bytes) (getD (l .bytes) 0 0) b
-    else if eqb (l .letter) 0x70 then withParameters (parametersOf (l .bytes)) (l .size) b
+    else if eqb (l .letter) 0x70 then withParameters (l .bytes) (l .size) b
     else if eqb (l .letter) 0x76 then withSite l b
     else if eqb (l .letter) 0x77 then withDefaults l b
     else b
-
--- n bus values, one after the other
-unfoldable pub bussed : List ℕ → ℕ → Bench → Bench
-bussed a zero b = b
-bussed a (suc n) b = happened (BusValue (raised a 1 n)) (withValue (risen (getD a 3 0) true n) (bussed a n b))

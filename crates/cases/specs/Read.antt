@@ -35,6 +35,5 @@ unfoldable pub readIn : Bench → ℕ → ReadingReply
 readIn b id = readingFor id (take (b .datapointcount) (b .datapoints))
 
 -- these bytes are what is given for the ID
-pub record ReadsAs (b : Bench) (id : ℕ) (wanted : List ℕ) : Type 0 where
-  pub within : b .datapointcount ≤ 50
-  pub bytes : replyBytes (readIn b id) ≡ wanted
+abbrev pub ReadsAs : Bench → ℕ → List ℕ → Type 0
+ReadsAs b id wanted = replyBytes (readIn b id) ≡ wanted

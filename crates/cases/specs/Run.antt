@@ -12,12 +12,11 @@ use Rattle.calls.specs.declared.reply.Reply.{Reply}
 use Rattle.calls.specs.declared.reply.Reply.the-variants.{Refused, Accepted}
 use Rattle.cases.specs.declared.bench.Bench.{Bench}
 use Rattle.cases.specs.declared.run.Stand.{Stand}
-use Rattle.cases.specs.Bench.{isWithin}
 use Rattle.cases.specs.Step.{listsOf, stepped}
 
 -- the bench after an event
 unfoldable pub happened : Event → Bench → Bench
-happened e b = if isWithin b then stepped b (listsOf (b .lists)) e else b
+happened e b = stepped b (listsOf b) e
 
 -- how many bytes of the output a call sends; where it was refused, more than the output has
 unfoldable pub countSent : Reply → ℕ

@@ -10,7 +10,7 @@ use Rattle.calls.specs.declared.event.Event.the-variants.{IdleMark}
 use Rattle.calls.specs.Numbers.{eventNumbered}
 use Rattle.cases.specs.declared.bench.Bench.{Bench}
 use Rattle.cases.specs.declared.run.Stand.{Stand}
-use Rattle.cases.specs.Bench.{emptyBench, withBits}
+use Rattle.cases.specs.Bench.{emptyBench, withBits, withValue}
 use Rattle.cases.specs.Read.{ReadsAs}
 use Rattle.cases.specs.Run.{happened, quiet, Sends, standAfter}
 use Rattle.cases.specs.Same.{SameTables, LinkIs}
@@ -18,11 +18,8 @@ use Rattle.script.specs.declared.line.Line.{Line}
 use Rattle.script.specs.Line.{lines, readLine}
 use Rattle.script.specs.Record.{raised}
 use Rattle.cases.specs.Burst.{FindsAs}
-use Rattle.cases.specs.Lent.{built, bussed}
-
--- the bytes of a line
-abbrev pub listed : Line → List ℕ
-listed l = take (l .size) (l .bytes)
+use Rattle.cases.specs.Lent.{built}
+use Rattle.cases.specs.Step.{listed}
 
 abbrev pub standing : Bench → Bool → ℕ → Stand
 standing b q p = record { bench = b; quiet = q; place = p }
@@ -46,7 +43,7 @@ acted l wanted s =
     if eqb (l .letter) 0x73 then started wanted (l .bytes)
     else if eqb (l .letter) 0x68 then standAfter (listed l) (s .bench)
     else if eqb (l .letter) 0x6D then marked (s .bench)
-    else if eqb (l .letter) 0x62 then standing (bussed (l .bytes) (getD (l .bytes) 0 0) (s .bench)) true 1000
+    else if eqb (l .letter) 0x62 then standing (withValue l (s .bench)) true 1000
     else if eqb (l .letter) 0x6E then numbered (l .bytes) (s .bench)
     else s
 

@@ -8,7 +8,7 @@ use Rattle.baos.specs.Table.{Tables, tablesOf}
 use Rattle.calls.specs.declared.event.Event.{Event}
 use Rattle.calls.specs.Call.{Called, call}
 use Rattle.cases.specs.declared.bench.Bench.{Bench}
-use Rattle.cases.specs.declared.bench.Lists.{Lists}
+use Rattle.script.specs.declared.line.Line.{Line}
 use Rattle.cases.specs.Bench.{Within}
 
 -- the tables as far as their counts go, and these text lists
@@ -17,13 +17,17 @@ tablesIn b ts =
     tablesOf (take (b .datapointcount) (b .datapoints)) (take (b .itemcount) (b .items))
     (take (b .parametercount) (b .parameters)) ts
 
--- the text lists as far as their sizes go
-unfoldable pub listsOf : Lists → TextLists
-listsOf l = textLists (take (l .sitesize) (l .site)) (take (l .defaultsize) (l .defaults))
+-- the bytes of a line
+abbrev pub listed : Line → List ℕ
+listed l = take (l .size) (l .bytes)
+
+-- the text lists
+unfoldable pub listsOf : Bench → TextLists
+listsOf b = textLists (listed (b .site)) (listed (b .defaults))
 
 -- what the server's call answers and leaves
 unfoldable pub called : Bench → TextLists → Event → Called
-called b ts e = call e (take (b .valuesize) (b .value)) (tablesIn b ts) (b .link) (b .out)
+called b ts e = call e (listed (b .value)) (tablesIn b ts) (b .link) (b .out)
 
 -- the counts and the value of a bench within its widths, told beside it
 pub record Told (b : Bench) (d i p : ℕ) (v : List ℕ) : Type 0 where
@@ -31,7 +35,7 @@ pub record Told (b : Bench) (d i p : ℕ) (v : List ℕ) : Type 0 where
   pub datapoints : d ≡ b .datapointcount
   pub items : i ≡ b .itemcount
   pub parameters : p ≡ b .parametercount
-  pub value : v ≡ take (b .valuesize) (b .value)
+  pub value : v ≡ listed (b .value)
 
 -- the bench after it: what was not lent stays
 unfoldable pub stepped : Bench → TextLists → Event → Bench
@@ -44,9 +48,9 @@ stepped b ts e =
       itemcount = b .itemcount;
       parameters = called b ts e .tables .parameters ++ drop (b .parametercount) (b .parameters);
       parametercount = b .parametercount;
-      lists = b .lists;
+      site = b .site;
+      defaults = b .defaults;
       value = b .value;
-      valuesize = b .valuesize;
       out = called b ts e .output;
       reply = called b ts e .reply;
     }

@@ -1,19 +1,12 @@
 // The bench: the tables at a fixed width with a count beside each, the link record and the output of one server, by
-// value.
+// value; and the lines of the script that told what is lent for reading.
 ghost use mathlib.Core.Path.{_≡_};
 ghost use Rattle.cases.specs.Bench.{emptyBench};
 use baos::datapoint::Datapoint;
 use baos::item::Item;
 use calls::reply::Reply;
 use ft12::record::Link;
-
-// The text lists that are lent for reading.
-pub struct Lists {
-    pub site: [u8; 264],
-    pub sitesize: usize,
-    pub defaults: [u8; 264],
-    pub defaultsize: usize,
-}
+use script::line::Line;
 
 pub struct Bench {
     pub link: Link,
@@ -21,12 +14,13 @@ pub struct Bench {
     pub datapointcount: usize,
     pub items: [Item; 4],
     pub itemcount: usize,
-    pub parameters: [u8; 255],
+    pub parameters: [u8; 264],
     pub parametercount: usize,
-    pub lists: Lists,
-    // The value that is lent beside a bus value event.
-    pub value: [u8; 14],
-    pub valuesize: usize,
+    // The two text lists.
+    pub site: Line,
+    pub defaults: Line,
+    // The value beside a bus value event.
+    pub value: Line,
     pub out: [u8; 262],
     // What the last call answered.
     pub reply: Reply,
@@ -62,11 +56,10 @@ pub fn empty() -> Bench
         writable: 0,
         bytes: [0; 16],
     };
-    let lists = Lists {
-        site: [0; 264],
-        sitesize: 0,
-        defaults: [0; 264],
-        defaultsize: 0,
+    let line = Line {
+        letter: 0,
+        bytes: [0; 264],
+        size: 0,
     };
     Bench {
         link: link,
@@ -74,11 +67,11 @@ pub fn empty() -> Bench
         datapointcount: 0,
         items: [item; 4],
         itemcount: 0,
-        parameters: [0; 255],
+        parameters: [0; 264],
         parametercount: 0,
-        lists: lists,
-        value: [0; 14],
-        valuesize: 0,
+        site: line,
+        defaults: line,
+        value: line,
         out: [0; 262],
         reply: Reply::Accepted(0),
     }

@@ -11,7 +11,7 @@ use ft12::burst::BurstNumbers;
 use numbers::burst::burst_numbers;
 
 // Where the burst stands in the bytes of a line: behind how it ended, these two counts and as many starts.
-pub fn burst_start(frames: u8, acknowledgements: u8) -> usize
+fn burst_start(frames: u8, acknowledgements: u8) -> usize
     ensures { λ r. ⌜ r ≡ 3 + (frames + acknowledgements) ⌝ }
 {
     3 + (frames as usize + acknowledgements as usize)

@@ -2,12 +2,12 @@
 ghost use mathlib.Core.Path.{_≡_};
 ghost use Prim.Native.Nat.{_≤_};
 ghost use lib.ListN.{getD};
+ghost use Rattle.cases.specs.Bench.{Within};
 ghost use Rattle.cases.specs.Same.{Decides};
 ghost use Rattle.cases.specs.Script.{started, marked, numbered, acted, Damaged, Right, Played};
 use crate::bench::Bench;
 use crate::bench::empty;
 use crate::burst::has_found;
-use crate::lent::after_bus;
 use crate::lent::told;
 use crate::print::noted;
 use crate::print::shown;
@@ -33,8 +33,8 @@ const START: u8 = b's';
 const HOST: u8 = b'h';
 // The line is silent for an idle mark. Nothing is to be sent.
 const MARK: u8 = b'm';
-// Values come from the bus.
-const BUS: u8 = b'b';
+// The value that is lent beside bus value events from now on.
+const VALUE: u8 = b'b';
 // An event by its numbers, as firmware gives them: event, byte, ID and outcome.
 const EVENT: u8 = b'n';
 // The server is to have sent these bytes.
@@ -68,6 +68,7 @@ fn started(wanted: Bench, line: Line) -> Stand
 }
 
 fn marked(bench: Bench) -> Stand
+    requires { ⌜ Within bench ⌝ }
     ensures { λ r. ⌜ r ≡ marked bench ⌝ }
 {
     let b = happens(bench, Event::IdleMark);
@@ -79,6 +80,7 @@ fn marked(bench: Bench) -> Stand
 }
 
 fn numbered(bench: Bench, line: Line) -> Stand
+    requires { ⌜ Within bench ⌝ }
     ensures { λ r. ⌜ r ≡ numbered (line .bytes) bench ⌝ }
 {
     let a = line.bytes;
@@ -92,10 +94,10 @@ fn numbered(bench: Bench, line: Line) -> Stand
 
 // What happens by this line.
 fn acted(stand: Stand, wanted: Bench, line: Line) -> Stand
-    requires { ⌜ line .size ≤ 264 ⌝ }
+    requires { ⌜ Within (stand .bench) × (line .size ≤ 264) ⌝ }
     ensures { λ r. ⌜ r ≡ acted line wanted stand ⌝ }
 {
-    let b = stand.bench;
+    let mut b = stand.bench;
     let a = line.bytes;
     let n = line.size;
     let letter = line.letter;
@@ -103,7 +105,14 @@ fn acted(stand: Stand, wanted: Bench, line: Line) -> Stand
         START => started(wanted, line),
         HOST => hear(b, &a[..n]),
         MARK => marked(b),
-        BUS => after_bus(b, line, a[0]),
+        VALUE => {
+            b.value = line;
+            Stand {
+                bench: b,
+                quiet: true,
+                place: 1000,
+            }
+        }
         EVENT => numbered(b, line),
         _ => stand,
     }
@@ -120,7 +129,7 @@ fn damaged(bench: Bench, place: usize, line: Line) -> bool
 
 // Whether what this line asks holds.
 fn holds(stand: Stand, wanted: Bench, line: Line) -> bool
-    requires { ⌜ line .size ≤ 264 ⌝ }
+    requires { ⌜ Within (stand .bench) × (line .size ≤ 264) ⌝ }
     ensures { λ r. ⌜ Decides r (Right line wanted stand) ⌝ }
 {
     if !stand.quiet {
@@ -156,11 +165,12 @@ pub fn play(script: &[u8]) -> bool
     let mut at: usize = 0;
     while at < script.len() {
         let end = at + line_end(&script[at..]);
-        let line = read(&script[at..end]);
+        let words = &script[at..end];
+        let line = read(words);
         wanted = told(wanted, line);
         stand = acted(stand, wanted, line);
         let b = stand.bench;
-        shown(line, &script[at..end], b);
+        shown(line, words, b);
         right = noted(right, holds(stand, wanted, line), b);
         at = end;
     }

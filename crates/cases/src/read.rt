@@ -7,6 +7,7 @@ ghost use lib.Ieee.{isNan};
 ghost use lib.ListN.{take, drop};
 ghost use Rattle.dpt.specs.Numbers.{readingNumbers, readingReplyNumbers};
 ghost use Rattle.script.specs.Record.{raised};
+ghost use Rattle.cases.specs.Bench.{Within};
 ghost use Rattle.cases.specs.Read.{floatBytes, readingBytes, replyBytes, readIn, ReadsAs};
 ghost use Rattle.cases.specs.Same.{Decides};
 use crate::bench::Bench;
@@ -67,11 +68,9 @@ fn read(bench: Bench, id: u16) -> ReadingReply
 
 // Whether what is given for the ID of a line is what stands behind it.
 pub fn has_read(bench: Bench, line: Line) -> bool
+    requires { ⌜ Within bench ⌝ }
     ensures { λ r. ⌜ Decides r (ReadsAs bench (raised (line .bytes) 0 0) (take 7 (drop 2 (line .bytes)))) ⌝ }
 {
-    if 50 < bench.datapointcount {
-        return false;
-    }
     let a = line.bytes;
     let bytes = reply_bytes(read(bench, raised(a[0], a[1], 0)));
     check::same(&bytes, &a[2..9])

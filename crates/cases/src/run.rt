@@ -1,5 +1,6 @@
 // Events on the bench, one after the other.
 ghost use mathlib.Core.Path.{_≡_};
+ghost use Rattle.cases.specs.Bench.{Within};
 ghost use Rattle.cases.specs.Run.{happened, countSent, Sends, standAfter};
 ghost use Rattle.cases.specs.Same.{Decides};
 use crate::bench::Bench;
@@ -15,27 +16,17 @@ pub struct Stand {
     pub place: usize,
 }
 
-// The bench after this event. One whose counts go beyond its widths makes no call and stays. The value and the text
-// lists are lent from copies, while `step` takes the bench apart.
+// The bench after this event. What is lent for reading is lent from copies, while `step` takes the bench apart.
 pub fn happens(bench: Bench, event: Event) -> Bench
+    requires { ⌜ Within bench ⌝ }
     ensures { λ r. ⌜ r ≡ happened event bench ⌝ }
 {
-    let lists = bench.lists;
-    let s = lists.sitesize;
-    let d = lists.defaultsize;
-    let v = bench.valuesize;
-    let fits = (bench.datapointcount <= 50)
-        & (bench.itemcount <= 4)
-        & (bench.parametercount <= 255)
-        & (v <= 14)
-        & (s <= 264)
-        & (d <= 264);
-    if !fits {
-        return bench;
-    }
-    let value = bench.value;
-    let site = lists.site;
-    let defaults = lists.defaults;
+    let v = bench.value.size;
+    let s = bench.site.size;
+    let d = bench.defaults.size;
+    let value = bench.value.bytes;
+    let site = bench.site.bytes;
+    let defaults = bench.defaults.bytes;
     step(
         bench,
         bench.datapointcount,
@@ -74,6 +65,7 @@ pub fn has_sent(bench: Bench, wanted: &[u8]) -> bool
 // The bench after each of these bytes from the host, in turn. All is quiet where there are some, and none but the last
 // draws anything. Damage is found at the last byte before which the receiver does not drop; 1000 is no place.
 pub fn hear(bench: Bench, bytes: &[u8]) -> Stand
+    requires { ⌜ Within bench ⌝ }
     ensures { λ r. ⌜ r ≡ standAfter (now (bytes .entry)) bench ⌝ }
 {
     let mut b = bench;

@@ -36,6 +36,3 @@ datapointOf a k =
       value = set (put (replicate 14 0) 0 (take 14 (drop 9 a))) 0 (risen (getD a 9 0) (eqb (getD a 8 0) 1) k);
       mark = getD a 7 0;
     }
-
-unfoldable pub parametersOf : List ℕ → List ℕ
-parametersOf a = put (replicate 255 0) 0 (take 255 (drop 0 a))

@@ -6,7 +6,7 @@ pub fn text(s: &[u8]) {
 }
 
 // What stands in front of the byte at place i: nothing, a blank, or a new line, which has 24 bytes.
-pub fn gap(i: usize) {
+fn gap(i: usize) {
     if i % 24 != 0 {
         text(b" ");
         return;
@@ -17,7 +17,7 @@ pub fn gap(i: usize) {
 }
 
 // A byte in hexadecimal.
-pub fn byte(b: u8) {
+fn byte(b: u8) {
     let high = b / 16;
     let low = b % 16;
     text(&[b'0' + high + high / 10 * 7, b'0' + low + low / 10 * 7]);

@@ -2,7 +2,7 @@
 ghost use mathlib.Core.Path.{_≡_};
 ghost use Prim.Native.Nat.{_+_, _%_};
 ghost use Rattle.words.specs.Words.{ofTwoBytes};
-ghost use Rattle.script.specs.Record.{risen, itemOf, datapointOf, parametersOf};
+ghost use Rattle.script.specs.Record.{risen, itemOf, datapointOf};
 use crate::line::Line;
 use baos::datapoint::Datapoint;
 use baos::item::Item;
@@ -17,7 +17,7 @@ pub fn raised(high: u8, low: u8, k: u8) -> u16
 }
 
 // A byte that rises by one k times, or stays.
-pub fn risen(byte: u8, rises: bool, k: u8) -> u8
+fn risen(byte: u8, rises: bool, k: u8) -> u8
     ensures { λ r. ⌜ r ≡ risen byte rises k ⌝ }
 {
     if rises {
@@ -57,13 +57,4 @@ pub fn datapoint_of(line: Line, k: u8) -> Datapoint
         value: value,
         mark: a[7],
     }
-}
-
-pub fn parameters_of(line: Line) -> [u8; 255]
-    ensures { λ r. ⌜ r ≡ parametersOf (line .bytes) ⌝ }
-{
-    let a = line.bytes;
-    let mut bytes = [0u8; 255];
-    put_bytes(&mut bytes, 0, &a[0..255]);
-    bytes
 }

@@ -1,5 +1,6 @@
 use borrow.Author.Needs.{needs}
 use mathlib.Core.Path.{sym, _∙_}
+use Rattle.cases.specs.Bench.{withParameters, withSite, withDefaults}
 use Rattle.cases.proofs.LentLaws.{told-empty, told-item, told-datapoints, told-parameters, told-site, told-defaults, told-nothing}
 use Rattle.cases.proofs.lent.told.Statement.{statement}
 use Rattle.cases.proofs.lent.told.Tie as tie
@@ -19,15 +20,6 @@ array-read-with-datapoints c = search needs
 with-datapoints-requires : tie.Need-with-datapoints-requires
 with-datapoints-requires c κs = search needs
 
-with-parameters-requires : tie.Need-with-parameters-requires
-with-parameters-requires c κs = search needs
-
-with-site-requires : tie.Need-with-site-requires
-with-site-requires c κs = search needs
-
-with-defaults-requires : tie.Need-with-defaults-requires
-with-defaults-requires c κs = search needs
-
 returns : tie.Need-returns
 returns c = c .empty .ensures ∙ sym (told-empty _ _ (c .before .match .keys1))
 
@@ -38,13 +30,16 @@ returns-3 : tie.Need-returns-3
 returns-3 c = c .with-datapoints .ensures ∙ sym (told-datapoints _ _ (c .before .match .keys3))
 
 returns-4 : tie.Need-returns-4
-returns-4 c = c .with-parameters .ensures ∙ sym (told-parameters _ _ (c .before .match .keys4))
+unfolding withParameters
+returns-4 c = sym (told-parameters _ _ (c .match .keys4))
 
 returns-5 : tie.Need-returns-5
-returns-5 c = c .with-site .ensures ∙ sym (told-site _ _ (c .before .match .keys5))
+unfolding withSite
+returns-5 c = sym (told-site _ _ (c .match .keys5))
 
 returns-6 : tie.Need-returns-6
-returns-6 c = c .with-defaults .ensures ∙ sym (told-defaults _ _ (c .before .match .keys6))
+unfolding withDefaults
+returns-6 c = sym (told-defaults _ _ (c .match .keys6))
 
 returns-7 : tie.Need-returns-7
 returns-7 c = sym (told-nothing _ _ (c .match .rest .0 .0 .0 .0 .0 .1) (c .match .rest .0 .0 .0 .0 .1) (c .match .rest .0 .0 .0 .1) (c .match .rest .0 .0 .1) (c .match .rest .0 .1) (c .match .rest .1))
@@ -58,9 +53,6 @@ told-spec =
     with-item-requires
     array-read-with-datapoints
     with-datapoints-requires
-    with-parameters-requires
-    with-site-requires
-    with-defaults-requires
     returns
     returns-2
     returns-3

@@ -3,7 +3,8 @@ use mathlib.Core.Path.{_≡_, sym, _∙_}
 use lib.ListN.{length}
 use lib.Seq.{length-take-le}
 use native.Mathlib.Omega.{arith}
-use Rattle.cases.proofs.ScriptLaws.{starts, host-sends, silence, values-come, event-comes, nothing-happens}
+use Rattle.cases.specs.Bench.{withValue}
+use Rattle.cases.proofs.ScriptLaws.{starts, host-sends, silence, value-lent, event-comes, nothing-happens}
 use Rattle.cases.proofs.play.acted.Statement.{statement}
 use Rattle.cases.proofs.play.acted.Tie as tie
 
@@ -14,25 +15,19 @@ array-share-prefix-a : tie.Need-array-share-prefix-a
 array-share-prefix-a c =
     let b = c .before .before .before in
     let h : length (b .args .line .bytes) ≡ 264 = search (needs, b .good .1 .1) in
-    omega (arith, h, b .pre)
+    omega (arith, h, b .pre .1)
 
 slice-aggregate-hear : tie.Need-slice-aggregate-hear
 slice-aggregate-hear c =
     let b = c .before .before .before .before in
     let h : length (b .args .line .bytes) ≡ 264 = search (needs, b .good .1 .1) in
-    sym (length-take-le (b .args .line .size) (b .args .line .bytes) (omega (arith, h, b .pre)))
+    sym (length-take-le (b .args .line .size) (b .args .line .bytes) (omega (arith, h, b .pre .1)))
 
 hear-requires : tie.Need-hear-requires
 hear-requires c κs = search needs
 
 marked-requires : tie.Need-marked-requires
 marked-requires c κs = search needs
-
-array-read-after-bus : tie.Need-array-read-after-bus
-array-read-after-bus c = search needs
-
-after-bus-requires : tie.Need-after-bus-requires
-after-bus-requires c κs = search needs
 
 numbered-requires : tie.Need-numbered-requires
 numbered-requires c κs = search needs
@@ -47,7 +42,8 @@ returns-3 : tie.Need-returns-3
 returns-3 c = c .marked .ensures ∙ sym (silence _ _ _ (c .before .match .keys3))
 
 returns-4 : tie.Need-returns-4
-returns-4 c = c .after-bus .ensures ∙ sym (values-come _ _ _ (c .before .match .keys4))
+unfolding withValue
+returns-4 c = sym (value-lent _ _ _ (c .match .keys4))
 
 returns-5 : tie.Need-returns-5
 returns-5 c = c .numbered .ensures ∙ sym (event-comes _ _ _ (c .before .match .keys5))
@@ -64,8 +60,6 @@ acted-spec =
     slice-aggregate-hear
     hear-requires
     marked-requires
-    array-read-after-bus
-    after-bus-requires
     numbered-requires
     returns
     returns-2

@@ -11,7 +11,7 @@ use Rattle.cases.proofs.play.holds.Tie as tie
 
 -- the bytes of a line are within its width
 within : (b : tie.Start) → b .args .line .size ≤ length (b .args .line .bytes)
-within b = let h : length (b .args .line .bytes) ≡ 264 = search (needs, b .good .1 .1) in omega (arith, h, b .pre)
+within b = let h : length (b .args .line .bytes) ≡ 264 = search (needs, b .good .1 .1) in omega (arith, h, b .pre .1)
 
 returns : tie.Need-returns
 returns c = refuted (λ q. false-true (sym (not-true _ (c .if1 .taken)) ∙ q .silent))
@@ -35,10 +35,10 @@ same-tables-requires : tie.Need-same-tables-requires
 same-tables-requires c κs = search needs
 
 has-read-requires : tie.Need-has-read-requires
-has-read-requires c κs = search needs
+has-read-requires c κs = c .before .before .before .before .before .before .pre .0
 
 has-found-requires : tie.Need-has-found-requires
-has-found-requires c κs = let b = c .before .before .before .before .before .before in omega (arith, length-take-le (b .args .line .size) (b .args .line .bytes) (within b), b .pre)
+has-found-requires c κs = let b = c .before .before .before .before .before .before in omega (arith, length-take-le (b .args .line .size) (b .args .line .bytes) (within b), b .pre .1)
 
 returns-2 : tie.Need-returns-2
 returns-2 c = replied _ _ _ (not-false _ (c .before .before .before .before .before .if1 .left)) (c .before .match .keys1) (c .has-sent .ensures)

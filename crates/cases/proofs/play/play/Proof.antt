@@ -1,11 +1,10 @@
 use borrow.Author.Needs.{needs}
-use Prim.Native.Nat.{_-_}
+use Prim.Native.Nat.{_+_, _-_, _≤_}
 use lib.ListN.{length}
-use mathlib.Core.Path.{sym, _∙_}
 use native.Mathlib.Omega.{arith}
 use Rattle.script.proofs.LineLaws.{count-fits}
+use Rattle.cases.proofs.BenchLaws.{stands-within}
 use Rattle.cases.proofs.ScriptLaws.{Playing, playing-begins, line-within, line-some, line-there, playing-goes, playing-ends}
-use Rattle.cases.proofs.SameLaws.{left-to}
 use Rattle.cases.proofs.play.play.Statement.{statement}
 use Rattle.cases.proofs.play.play.Tie as tie
 
@@ -14,6 +13,14 @@ Inv-loop script wanted₀ stand₀ right₀ at₀ wanted stand right at = Playin
 
 abbrev μ-loop : tie.MeasureT-loop
 μ-loop script wanted₀ stand₀ right₀ at₀ wanted stand right at = length script - at
+
+-- the line is within the script, and has a byte
+module _ (c : tie.After-line-end Inv-loop μ-loop) where
+  within : c .before .before .before .loop .at + c .line-end .result ≤ length (c .before .before .before .before .before .before .args .script .now)
+  within = line-within (c .before .before .before .before .before .before .args .script .now) (c .before .before .before .loop .at) (c .line-end .result) (c .before .before .loop-test .taken) (c .line-end .ensures)
+
+  some : 1 ≤ c .line-end .result
+  some = line-some (c .before .before .before .before .before .before .args .script .now) (c .before .before .before .loop .at) (c .line-end .result) (c .before .before .loop-test .taken) (c .line-end .ensures)
 
 empty-requires : tie.Need-empty-requires Inv-loop μ-loop
 empty-requires c κs = search needs
@@ -34,16 +41,16 @@ line-end-requires : tie.Need-line-end-requires Inv-loop μ-loop
 line-end-requires c κs = search needs
 
 add-end : tie.Need-add-end Inv-loop μ-loop
-add-end c = omega (arith, line-within (c .before .before .before .before .before .before .args .script .now) (c .before .before .before .loop .at) (c .line-end .result) (c .before .before .loop-test .taken) (c .line-end .ensures))
+add-end c = omega (arith, within c)
 
-sub-read : tie.Need-sub-read Inv-loop μ-loop
-sub-read c = search needs
+sub-words : tie.Need-sub-words Inv-loop μ-loop
+sub-words c = search needs
 
-part-read-start : tie.Need-part-read-start Inv-loop μ-loop
-part-read-start c = search needs
+part-words-start : tie.Need-part-words-start Inv-loop μ-loop
+part-words-start c = search needs
 
-part-read-end : tie.Need-part-read-end Inv-loop μ-loop
-part-read-end c = omega (arith, line-within (c .before .before .before .before .before .before .args .script .now) (c .before .before .before .loop .at) (c .line-end .result) (c .before .before .loop-test .taken) (c .line-end .ensures))
+part-words-end : tie.Need-part-words-end Inv-loop μ-loop
+part-words-end c = omega (arith, within c)
 
 read-requires : tie.Need-read-requires Inv-loop μ-loop
 read-requires c κs = line-there (c .before .before .before .before .before .before .before .args .script .now) (c .before .before .before .before .loop .at) (c .before .line-end .result) (c .before .before .before .loop-test .taken) (c .before .line-end .ensures)
@@ -52,31 +59,28 @@ told-requires : tie.Need-told-requires Inv-loop μ-loop
 told-requires c κs = search needs
 
 acted-requires : tie.Need-acted-requires Inv-loop μ-loop
-acted-requires c κs = rw (c .before .read .ensures) (count-fits _)
-
-sub-shown : tie.Need-sub-shown Inv-loop μ-loop
-sub-shown c = search needs
-
-part-shown-start : tie.Need-part-shown-start Inv-loop μ-loop
-part-shown-start c = search needs
-
-part-shown-end : tie.Need-part-shown-end Inv-loop μ-loop
-part-shown-end c = omega (arith, line-within (c .before .before .before .before .before .before .before .before .before .before .before .args .script .now) (c .before .before .before .before .before .before .before .before .loop .at) (c .before .before .before .before .before .line-end .result) (c .before .before .before .before .before .before .before .loop-test .taken) (c .before .before .before .before .before .line-end .ensures))
+acted-requires c κs = (c .before .before .before .before .before .before .loop .inv .stands, rw (c .before .read .ensures) (count-fits _))
 
 shown-requires : tie.Need-shown-requires Inv-loop μ-loop
-shown-requires c κs = rw (c .before .before .before .before .read .ensures) (count-fits _)
+shown-requires c κs = rw (c .before .before .before .read .ensures) (count-fits _)
 
 holds-requires : tie.Need-holds-requires Inv-loop μ-loop
-holds-requires c κs = rw (c .before .before .before .before .before .read .ensures) (count-fits _)
+holds-requires c κs =
+    let l = c .before .before .before .before in
+    let i = l .before .before .before .before .before .loop .inv in
+    let h : l .read .result .size ≤ 264 = rw (l .read .ensures) (count-fits _) in
+    (stands-within _ h _ _ _ _ (i .told) (i .stands) (c .before .before .before .told .ensures) (c .before .before .acted .ensures), h)
 
 noted-requires : tie.Need-noted-requires Inv-loop μ-loop
 noted-requires c κs = search needs
 
 loop-less : tie.Need-loop-less Inv-loop μ-loop
-loop-less c = omega (arith, line-within (c .before .before .before .before .before .before .before .before .before .before .before .before .before .before .before .args .script .now) (c .before .before .before .before .before .before .before .before .before .before .before .before .loop .at) (c .before .before .before .before .before .before .before .before .before .line-end .result) (c .before .before .before .before .before .before .before .before .before .before .before .loop-test .taken) (c .before .before .before .before .before .before .before .before .before .line-end .ensures), line-some (c .before .before .before .before .before .before .before .before .before .before .before .before .before .before .before .args .script .now) (c .before .before .before .before .before .before .before .before .before .before .before .before .loop .at) (c .before .before .before .before .before .before .before .before .before .line-end .result) (c .before .before .before .before .before .before .before .before .before .before .before .loop-test .taken) (c .before .before .before .before .before .before .before .before .before .line-end .ensures))
+loop-less c = let l = c .before .before .before .before .before .before .before .before in omega (arith, within l, some l)
 
 loop-again : tie.Need-loop-again Inv-loop μ-loop
-loop-again c = playing-goes _ _ _ (c .before .before .before .before .before .before .before .before .before .before .before .loop-test .taken) (c .before .before .before .before .before .before .before .before .before .line-end .ensures) _ _ _ _ _ _ _ _ (c .before .before .before .before .before .before .before .read .ensures) (c .before .before .before .before .before .before .told .ensures) (c .before .before .before .before .before .acted .ensures) (c .before .holds .ensures) (c .noted .ensures) (c .before .before .before .before .before .before .before .before .before .before .before .before .loop .inv)
+loop-again c =
+    let l = c .before .before .before .before .before .before .before .before in
+    playing-goes _ _ _ (l .before .before .loop-test .taken) (l .line-end .ensures) _ _ _ _ _ _ _ _ (c .before .before .before .before .before .before .read .ensures) (c .before .before .before .before .before .told .ensures) (c .before .before .before .before .acted .ensures) (c .before .holds .ensures) (c .noted .ensures) (l .before .before .before .loop .inv)
 
 verdict-requires : tie.Need-verdict-requires Inv-loop μ-loop
 verdict-requires c κs = search needs
@@ -85,4 +89,4 @@ returns : tie.Need-returns Inv-loop μ-loop
 returns c = playing-ends _ _ _ _ _ (c .before .loop-test .left) (c .before .before .loop .inv)
 
 pub play-spec : {M : Type 1} → statement M
-play-spec = tie.close (tie.spec Inv-loop μ-loop empty-requires loop-holds sub-line-end part-line-end-start part-line-end-end line-end-requires add-end sub-read part-read-start part-read-end read-requires told-requires acted-requires sub-shown part-shown-start part-shown-end shown-requires holds-requires noted-requires loop-less loop-again verdict-requires returns)
+play-spec = tie.close (tie.spec Inv-loop μ-loop empty-requires loop-holds sub-line-end part-line-end-start part-line-end-end line-end-requires add-end sub-words part-words-start part-words-end read-requires told-requires acted-requires shown-requires holds-requires noted-requires loop-less loop-again verdict-requires returns)

@@ -33,9 +33,6 @@ frames-requires c κs = search needs
 sent-requires : tie.Need-sent-requires
 sent-requires c κs = search needs
 
-burst-requires : tie.Need-burst-requires
-burst-requires c κs = search needs
-
 returns-2 : tie.Need-returns-2
 returns-2 c = search needs
 
@@ -44,9 +41,6 @@ returns-3 c = search needs
 
 returns-4 : tie.Need-returns-4
 returns-4 c = search needs
-
-returns-5 : tie.Need-returns-5
-returns-5 c = search needs
 
 pub shown-spec : {M : Type 1} → statement M
 shown-spec =
@@ -59,8 +53,6 @@ shown-spec =
     slice-aggregate-frames-2
     frames-requires
     sent-requires
-    burst-requires
     returns-2
     returns-3
-    returns-4
-    returns-5)
+    returns-4)

@@ -3,13 +3,10 @@ use mathlib.Core.Path.{_≡_, sym, ap, _∙_}
 use lib.ListN.{length}
 use native.Mathlib.Omega.{arith}
 use Rattle.cases.specs.Read.{replyBytes}
-use Rattle.cases.proofs.SameLaws.{refuted, left-to}
+use Rattle.cases.proofs.SameLaws.{left-to}
 use Rattle.cases.proofs.ReadLaws.{given-number}
 use Rattle.cases.proofs.read.has_read.Statement.{statement}
 use Rattle.cases.proofs.read.has_read.Tie as tie
-
-returns : tie.Need-returns
-returns c = refuted (λ q. let w = q .within in let t = c .if1 .taken in omega arith)
 
 array-read-raised : tie.Need-array-read-raised
 array-read-raised c = search needs
@@ -21,7 +18,7 @@ raised-requires : tie.Need-raised-requires
 raised-requires c κs = search needs
 
 read-requires : tie.Need-read-requires
-read-requires c κs = let t = c .before .before .if1 .left in omega (arith, t)
+read-requires c κs = c .before .before .pre .datapoints
 
 reply-bytes-requires : tie.Need-reply-bytes-requires
 reply-bytes-requires c κs = given-number _ _ _ (c .read .ensures)
@@ -36,13 +33,13 @@ part-same-start : tie.Need-part-same-start
 part-same-start c = search needs
 
 part-same-end : tie.Need-part-same-end
-part-same-end c = let h : length (c .before .before .before .before .before .before .before .before .args .line .bytes) ≡ 264 = search needs in omega (arith, h)
+part-same-end c = let h : length (c .before .before .before .before .before .before .args .line .bytes) ≡ 264 = search needs in omega (arith, h)
 
 same-requires : tie.Need-same-requires
 same-requires c κs = search needs
 
-returns-2 : tie.Need-returns-2
-returns-2 c = let e = c .before .before .before .before .reply-bytes .ensures ∙ ap replyBytes (rw (c .before .before .before .before .before .before .raised .ensures) at (c .before .before .before .before .before .read .ensures)) in left-to (c .same .ensures) (λ v. record { within = let t = c .before .before .before .before .before .before .before .before .if1 .left in omega (arith, t); bytes = sym e ∙ v }) (λ q. e ∙ q .bytes)
+returns : tie.Need-returns
+returns c = let e = c .before .before .before .before .reply-bytes .ensures ∙ ap replyBytes (rw (c .before .before .before .before .before .before .raised .ensures) at (c .before .before .before .before .before .read .ensures)) in left-to (c .same .ensures) (λ v. sym e ∙ v) (λ q. e ∙ q)
 
 pub has-read-spec : {M : Type 1} → statement M
-has-read-spec = tie.close (tie.spec returns array-read-raised array-read-raised-2 raised-requires read-requires reply-bytes-requires slice-aggregate-same sub-same part-same-start part-same-end same-requires returns-2)
+has-read-spec = tie.close (tie.spec array-read-raised array-read-raised-2 raised-requires read-requires reply-bytes-requires slice-aggregate-same sub-same part-same-start part-same-end same-requires returns)

@@ -13,13 +13,13 @@ abbrev μ-loop : tie.MeasureT-loop
 μ-loop bytes b₀ before₀ quiet₀ place₀ i₀ b before quiet place i = length bytes - i
 
 loop-holds : tie.Need-loop-holds Inv-loop μ-loop
-loop-holds c = feeding-begins _ _
+loop-holds c = feeding-begins _ _ (c .before .pre)
 
 shared-slice-read-t11 : tie.Need-shared-slice-read-t11 Inv-loop μ-loop
 shared-slice-read-t11 c = search needs
 
 happens-requires : tie.Need-happens-requires Inv-loop μ-loop
-happens-requires c κs = search needs
+happens-requires c κs = c .before .before .before .before .loop .inv .fits
 
 sent-count-requires : tie.Need-sent-count-requires Inv-loop μ-loop
 sent-count-requires c κs = search needs

@@ -11,7 +11,7 @@ slice-aggregate-same c = search needs
 slice-aggregate-same-2 : tie.Need-slice-aggregate-same-2
 slice-aggregate-same-2 c =
     let b = c .before .before .before .before .before .before .before .before in
-    let h : length (b .args .b .parameters) ≡ 255 = search (needs, b .good .1 .0 .1 .1 .1 .1 .1 .1 .1 .0) in
+    let h : length (b .args .b .parameters) ≡ 264 = search (needs, b .good .1 .0 .1 .1 .1 .1 .1 .1 .1 .0) in
     sym h
 
 same-requires : tie.Need-same-requires

@@ -81,7 +81,7 @@ room-datapoints m le = (omega (arith, le), omega (arith, le))
 room-items : (m : ℕ) → m ≤ 4 → Room (itemD .row) m
 room-items m le = (omega (arith, le), omega (arith, le))
 
-room-parameters : (m : ℕ) → m ≤ 255 → Room (byteD .row) m
+room-parameters : (m : ℕ) → m ≤ 264 → Room (byteD .row) m
 room-parameters m le = (omega (arith, le), omega (arith, le))
 
 room-out : Room (byteD .row) 262
@@ -101,7 +101,7 @@ module _ (s : Bench) (d : ℕ) (i : ℕ) (p : ℕ) (event : Event) (value : RefT
 
   -- after the call, its result stored
   abbrev s₁ : Bench
-  s₁ = record { link = left .link; datapoints = left .tables .datapoints ++ dropL d (s .datapoints); datapointcount = s .datapointcount; items = left .tables .items ++ dropL i (s .items); itemcount = s .itemcount; parameters = left .tables .parameters ++ dropL p (s .parameters); parametercount = s .parametercount; lists = s .lists; value = s .value; valuesize = s .valuesize; out = left .output; reply = left .reply }
+  s₁ = record { link = left .link; datapoints = left .tables .datapoints ++ dropL d (s .datapoints); datapointcount = s .datapointcount; items = left .tables .items ++ dropL i (s .items); itemcount = s .itemcount; parameters = left .tables .parameters ++ dropL p (s .parameters); parametercount = s .parametercount; site = s .site; defaults = s .defaults; value = s .value; out = left .output; reply = left .reply }
 
   as-stated : Told s d i p (value .now) → s₁ ≡ stepped s ts event
   unfolding stepped called tablesIn
@@ -118,7 +118,7 @@ module _ (s : Bench) (d : ℕ) (i : ℕ) (p : ℕ) (event : Event) (value : RefT
     i≤ : i ≤ 4
     i≤ = let w = told .within .items in omega (arith, told .items)
 
-    p≤ : p ≤ 255
+    p≤ : p ≤ 264
     p≤ = let w = told .within .parameters in omega (arith, told .parameters)
 
     walk : Walk 2 𝓤 H A W ps benchD (f.clauses 𝓤 H A mem run) 𝓣 code.function (κ0, (κ, tt)) (q0, (q, tt)) x tt
@@ -144,30 +144,30 @@ module _ (s : Bench) (d : ℕ) (i : ℕ) (p : ℕ) (event : Event) (value : RefT
         fsplit ! $ move ! (1 ∷ []) $
         fsplit ! $ as-records ! I.the-type 4 fullShare (s .items) (l .1 .1 .1 .1 .1 .1 .1 .1 .1 .0) 1640 $ lends-prefix ! tt itemD tt 4 i (s .items) (l .1 .1 .1 .1 .1 .1 .1 .1 .1 .0) 1640 i≤ (room-items i i≤) (λ ν2 δ2 long2 lu2. move ! (3 ∷ []) $
         fsplit ! $ move ! (1 ∷ []) $
-        fsplit ! $ rewrite ! 0 (λ (zs : List ℕ). ‵ (partAt (Array (byteD .row) 255) fullShare zs (l .1 .1 .1 .1 .1 .1 .1 .1 .1 .0) 1728)) (map-id (s .parameters)) refl $ lends-prefix ! tt byteD tt 255 p (s .parameters) (l .1 .1 .1 .1 .1 .1 .1 .1 .1 .0) 1728 p≤ (room-parameters p p≤) (λ ν3 δ3 long3 lu3. move ! (3 ∷ []) $
+        fsplit ! $ rewrite ! 0 (λ (zs : List ℕ). ‵ (partAt (Array (byteD .row) 264) fullShare zs (l .1 .1 .1 .1 .1 .1 .1 .1 .1 .0) 1728)) (map-id (s .parameters)) refl $ lends-prefix ! tt byteD tt 264 p (s .parameters) (l .1 .1 .1 .1 .1 .1 .1 .1 .1 .0) 1728 p≤ (room-parameters p p≤) (λ ν3 δ3 long3 lu3. move ! (3 ∷ []) $
         fsplit ! $ move ! (1 ∷ []) $
         fsplit ! $ move ! (1 ∷ []) $
         fsplit ! $ move ! (1 ∷ []) $
         fsplit ! $ move ! (1 ∷ []) $
-        fsplit ! $ rewrite ! 0 (λ (zs : List ℕ). ‵ (partAt (Array (byteD .row) 262) fullShare zs (l .1 .1 .1 .1 .1 .1 .1 .1 .1 .0) 2560)) (map-id (s .out)) refl $ lends-array ! tt byteD tt 262 (s .out) (l .1 .1 .1 .1 .1 .1 .1 .1 .1 .0) 2560 room-out (λ ν5 δ5 long5.
+        fsplit ! $ rewrite ! 0 (λ (zs : List ℕ). ‵ (partAt (Array (byteD .row) 262) fullShare zs (l .1 .1 .1 .1 .1 .1 .1 .1 .1 .0) 2840)) (map-id (s .out)) refl $ lends-array ! tt byteD tt 262 (s .out) (l .1 .1 .1 .1 .1 .1 .1 .1 .1 .0) 2840 room-out (λ ν5 δ5 long5.
         move ! (3 ∷ []) $
-        fsplit ! $ rewrite ! 0 (λ (F : Fml). ‵ F) (sym (reply-part (s .reply) (l .1 .1 .1 .1 .1 .1 .1 .1 .1 .0) 2824)) refl $ cell-of ! replyD fullShare (s .reply) (l .1 .1 .1 .1 .1 .1 .1 .1 .1 .0) 2824 (λ was.
+        fsplit ! $ rewrite ! 0 (λ (F : Fml). ‵ F) (sym (reply-part (s .reply) (l .1 .1 .1 .1 .1 .1 .1 .1 .1 .0) 3104)) refl $ cell-of ! replyD fullShare (s .reply) (l .1 .1 .1 .1 .1 .1 .1 .1 .1 .0) 3104 (λ was.
         use0 W (‵ (eventD .row .own event (eventD .val event ∷ []))) (eventD .made 𝓤 H A W event (eventD .val event ∷ []) event-ok) $
         move ! (64 ∷ 18 ∷ 14 ∷ 10 ∷ 65 ∷ 21 ∷ 3 ∷ 0 ∷ 71 ∷ 19 ∷ 15 ∷ 11 ∷ 72 ∷ 73 ∷ 22 ∷ 4 ∷ []) $
-        calls-any ! (fmOf 𝓤 H (W .laws) 𝓣) g.ended (g.clauses 𝓤 H A mem run) known (((κ0, (ν1 ∷ [], (ν2 ∷ [], (ν3 ∷ [], (κ, (ν4 ∷ [], (ν5 ∷ [], tt))))))), (q0, (fullShare, (fullShare, (fullShare, (q, (fullShare, (fullShare, tt))))))), tt, (event, (value, (record { ptr = ((l .1 .1 .1 .1 .1 .1 .1 .1 .1 .0), 530); name = δ1; now = take d (s .datapoints) }, (record { ptr = ((l .1 .1 .1 .1 .1 .1 .1 .1 .1 .0), 1640); name = δ2; now = take i (s .items) }, (record { ptr = ((l .1 .1 .1 .1 .1 .1 .1 .1 .1 .0), 1728); name = δ3; now = take p (s .parameters) }, (site, (defaults, (record { ptr = ((l .1 .1 .1 .1 .1 .1 .1 .1 .1 .0), 0); name = δ4; now = s .link }, (record { ptr = ((l .1 .1 .1 .1 .1 .1 .1 .1 .1 .0), 2560); name = δ5; now = s .out }, tt))))))))), (eventD .val event ∷ [], (sliceVal (value .ptr) (length (value .now)) ∷ [], (sliceVal ((l .1 .1 .1 .1 .1 .1 .1 .1 .1 .0), 530) d ∷ [], (sliceVal ((l .1 .1 .1 .1 .1 .1 .1 .1 .1 .0), 1640) i ∷ [], (sliceVal ((l .1 .1 .1 .1 .1 .1 .1 .1 .1 .0), 1728) p ∷ [], (sliceVal (site .ptr) (length (site .now)) ∷ [], (sliceVal (defaults .ptr) (length (defaults .now)) ∷ [], (vptr (l .1 .1 .1 .1 .1 .1 .1 .1 .1 .0) 0 ∷ [], (sliceVal ((l .1 .1 .1 .1 .1 .1 .1 .1 .1 .0), 2560) 262 ∷ [], tt)))))))))), tt) (id⊢ 𝓤 _) replyD (left .reply) (λ ws. ((ws .1 .1 .0 ≡ left .tables .datapoints) × ((ws .1 .1 .1 .0 ≡ left .tables .items) × ((ws .1 .1 .1 .1 .0 ≡ left .tables .parameters) × ((ws .1 .1 .1 .1 .1 .1 .1 .0 ≡ left .link) × (ws .1 .1 .1 .1 .1 .1 .1 .1 .0 ≡ left .output))))))
+        calls-any ! (fmOf 𝓤 H (W .laws) 𝓣) g.ended (g.clauses 𝓤 H A mem run) known (((κ0, (ν1 ∷ [], (ν2 ∷ [], (ν3 ∷ [], (κ, (ν4 ∷ [], (ν5 ∷ [], tt))))))), (q0, (fullShare, (fullShare, (fullShare, (q, (fullShare, (fullShare, tt))))))), tt, (event, (value, (record { ptr = ((l .1 .1 .1 .1 .1 .1 .1 .1 .1 .0), 530); name = δ1; now = take d (s .datapoints) }, (record { ptr = ((l .1 .1 .1 .1 .1 .1 .1 .1 .1 .0), 1640); name = δ2; now = take i (s .items) }, (record { ptr = ((l .1 .1 .1 .1 .1 .1 .1 .1 .1 .0), 1728); name = δ3; now = take p (s .parameters) }, (site, (defaults, (record { ptr = ((l .1 .1 .1 .1 .1 .1 .1 .1 .1 .0), 0); name = δ4; now = s .link }, (record { ptr = ((l .1 .1 .1 .1 .1 .1 .1 .1 .1 .0), 2840); name = δ5; now = s .out }, tt))))))))), (eventD .val event ∷ [], (sliceVal (value .ptr) (length (value .now)) ∷ [], (sliceVal ((l .1 .1 .1 .1 .1 .1 .1 .1 .1 .0), 530) d ∷ [], (sliceVal ((l .1 .1 .1 .1 .1 .1 .1 .1 .1 .0), 1640) i ∷ [], (sliceVal ((l .1 .1 .1 .1 .1 .1 .1 .1 .1 .0), 1728) p ∷ [], (sliceVal (site .ptr) (length (site .now)) ∷ [], (sliceVal (defaults .ptr) (length (defaults .now)) ∷ [], (vptr (l .1 .1 .1 .1 .1 .1 .1 .1 .1 .0) 0 ∷ [], (sliceVal ((l .1 .1 .1 .1 .1 .1 .1 .1 .1 .0), 2840) 262 ∷ [], tt)))))))))), tt) (id⊢ 𝓤 _) replyD (left .reply) (λ ws. ((ws .1 .1 .0 ≡ left .tables .datapoints) × ((ws .1 .1 .1 .0 ≡ left .tables .items) × ((ws .1 .1 .1 .1 .0 ≡ left .tables .parameters) × ((ws .1 .1 .1 .1 .1 .1 .1 .0 ≡ left .link) × (ws .1 .1 .1 .1 .1 .1 .1 .1 .0 ≡ left .output))))))
         (λ v r ws is. fact-use 𝓤 _ (id⊢ 𝓤 _) (λ z. factI 𝓤 _ _ ((ap (λ (t : ServerTables). t .datapoints) (z .tables), (ap (λ (t : ServerTables). t .items) (z .tables), (ap (λ (t : ServerTables). t .parameters) (z .tables), (z .link, z .output)))), pinned replyD r (left .reply) v is (reply-told r (left .reply) (z .reply)))))
         (and-then ! (load ! (from ! (stop !)) (look ! 42 refl)) (and-then ! (load ! (from ! (stop !)) (look ! 40 refl)) (and-then ! (load ! (from ! (stop !)) (look ! 29 refl)) (and-then ! (load ! (from ! (stop !)) (look ! 25 refl)) (and-then ! (load ! (from ! (stop !)) (look ! 21 refl)) (and-then ! (load ! (from ! (stop !)) (look ! 38 refl)) (and-then ! (load ! (from ! (stop !)) (look ! 36 refl)) (and-then ! (load ! (from ! (stop !)) (look ! 19 refl)) (and-then ! (load ! (from ! (stop !)) (look ! 15 refl)) (no-more !)))))))))) (λ ws e is.
         land ! (from ! (stop !)) (init ! 48 refl (typed 𝓤 H A replyD W (left .reply) is .0)) $
         assigns ! (of-opd ! (load ! (from ! (stop !)) (look ! 48 refl))) (from ! (fld ! refl (stop !))) (store-raw ! 16 refl (typed 𝓤 H A replyD W (left .reply) is .0)) $
         move ! (16 ∷ []) $
-        part-of ! replyD fullShare (left .reply) (l .1 .1 .1 .1 .1 .1 .1 .1 .1 .0) 2824 is $
-        rewrite ! 0 (λ (F : Fml). ‵ F) (reply-part (left .reply) (l .1 .1 .1 .1 .1 .1 .1 .1 .1 .0) 2824) refl $
+        part-of ! replyD fullShare (left .reply) (l .1 .1 .1 .1 .1 .1 .1 .1 .1 .0) 3104 is $
+        rewrite ! 0 (λ (F : Fml). ‵ F) (reply-part (left .reply) (l .1 .1 .1 .1 .1 .1 .1 .1 .1 .0) 3104) refl $
         move ! (0 ∷ 17 ∷ []) $
         fjoin ! $
         rewrite ! 15 (λ (z : Link). ‵ (fres δ4 (linkD .row .coded .code z))) (e .1 .1 .1 .0) refl $
         move ! (7 ∷ 16 ∷ 17 ∷ []) $
-        array-back ! tt byteD 262 (s .out) (l .1 .1 .1 .1 .1 .1 .1 .1 .1 .0) 2560 long5 (ws .1 .1 .1 .1 .1 .1 .1 .1 .0) (s₁ .out) (e .1 .1 .1 .1) (
-        rewrite ! 0 (λ (zs : List ℕ). ‵ (partAt (Array (byteD .row) 262) fullShare zs (l .1 .1 .1 .1 .1 .1 .1 .1 .1 .0) 2560)) (sym (map-id (s₁ .out))) refl $
+        array-back ! tt byteD 262 (s .out) (l .1 .1 .1 .1 .1 .1 .1 .1 .1 .0) 2840 long5 (ws .1 .1 .1 .1 .1 .1 .1 .1 .0) (s₁ .out) (e .1 .1 .1 .1) (
+        rewrite ! 0 (λ (zs : List ℕ). ‵ (partAt (Array (byteD .row) 262) fullShare zs (l .1 .1 .1 .1 .1 .1 .1 .1 .1 .0) 2840)) (sym (map-id (s₁ .out))) refl $
         fjoin ! $
         move ! (15 ∷ 0 ∷ []) $
         fjoin ! $
@@ -178,8 +178,8 @@ module _ (s : Bench) (d : ℕ) (i : ℕ) (p : ℕ) (event : Event) (value : RefT
         move ! (15 ∷ 0 ∷ []) $
         fjoin ! $
         move ! (4 ∷ 11 ∷ 15 ∷ []) $
-        prefix-back ! tt byteD 255 p (s .parameters) (l .1 .1 .1 .1 .1 .1 .1 .1 .1 .0) 1728 p≤ long3 lu3 (ws .1 .1 .1 .1 .0) (left .tables .parameters) (e .1 .1 .0) (
-        rewrite ! 0 (λ (zs : List ℕ). ‵ (partAt (Array (byteD .row) 255) fullShare zs (l .1 .1 .1 .1 .1 .1 .1 .1 .1 .0) 1728)) (sym (map-id (s₁ .parameters))) refl $
+        prefix-back ! tt byteD 264 p (s .parameters) (l .1 .1 .1 .1 .1 .1 .1 .1 .1 .0) 1728 p≤ long3 lu3 (ws .1 .1 .1 .1 .0) (left .tables .parameters) (e .1 .1 .0) (
+        rewrite ! 0 (λ (zs : List ℕ). ‵ (partAt (Array (byteD .row) 264) fullShare zs (l .1 .1 .1 .1 .1 .1 .1 .1 .1 .0) 1728)) (sym (map-id (s₁ .parameters))) refl $
         fjoin ! $
         move ! (13 ∷ 0 ∷ []) $
         fjoin ! $
