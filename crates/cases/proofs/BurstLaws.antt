@@ -8,7 +8,6 @@ use lib.IntN.{ℤ, pos}
 use lib.ListN.{length, getD, take, drop, length-drop}
 use lib.Seq.{take-at, length-take-le}
 use lib.Dec.{eqb}
-use borrow.Author.Tests.{eqb-true, eq-eqb}
 use mir.Syntax.{w32}
 use mir.Val.{SFits, ofZ, toZ}
 use mir.Facts.{toZ-ofZ, toZ-pos}
@@ -20,7 +19,7 @@ use Rattle.ft12.specs.declared.burst.BurstReply.{BurstReply}
 use Rattle.ft12.specs.declared.burst.BurstReply.the-variants.{Read}
 use Rattle.ft12.proofs.BurstLaws.{starts-length, figures-sum, burst-read}
 use Rattle.cases.specs.Same.{Decides}
-use Rattle.cases.proofs.SameLaws.{failed, left-to}
+use Rattle.cases.proofs.SameLaws.{both, compared, failed, left-to}
 use Rattle.cases.specs.Burst.{startCount, burstStart, burstOf, FindsAs}
 
 -- ---- three numbers, compared
@@ -28,12 +27,12 @@ use Rattle.cases.specs.Burst.{startCount, burstStart, burstOf, FindsAs}
 pub bits-tell : (z : ℤ) (n : ℕ) → SFits w32 z → n < 2 ^ 31 → ofZ w32 z ≡ n → z ≡ pos n
 bits-tell z n f l e = sym (toZ-ofZ f) ∙ ap (toZ w32) e ∙ toZ-pos w32 l
 
-module _ (n : BurstNumbers) (e f a : ℕ) where
-  pub numbers-decided : n .number ≡ pos e → n .frames ≡ f → Decides (eqb (n .acknowledgements) a) (n ≡ threeNumbers (pos e) f a)
-  numbers-decided p q = (
-    (λ t. let r = eqb-true (n .acknowledgements) a t in λ i. record { number = p i; frames = q i; acknowledgements = r i }),
-    (λ s. eq-eqb (n .acknowledgements) a (ap (λ (m : BurstNumbers). m .acknowledgements) s)),
-  )
+pub numbers-decided : (n : BurstNumbers) (e f a : ℕ) → SFits w32 (n .number) → e < 2 ^ 31
+    → Decides (eqb (ofZ w32 (n .number)) e && eqb (n .frames) f && eqb (n .acknowledgements) a) (n ≡ threeNumbers (pos e) f a)
+numbers-decided n e f a s l =
+    left-to (both (both (compared _ _) (compared _ _)) (compared _ _))
+    (λ p. let z = bits-tell (n .number) e s l (p .0 .0) in λ i. record { number = z i; frames = p .0 .1 i; acknowledgements = p .1 i })
+    (λ q. ((ap (λ (m : BurstNumbers). ofZ w32 (m .number)) q, ap (λ (m : BurstNumbers). m .frames) q), ap (λ (m : BurstNumbers). m .acknowledgements) q))
 
 -- ---- the reader's answer n and its run
 pub record WasRead (a : List ℕ) (from : ℕ) (n : BurstNumbers) (run : List ℕ) : Type 0 where

@@ -6,7 +6,7 @@ use mathlib.Core.List.{List, [], _∷_, _++_}
 use native.Mathlib.Omega.{arith}
 use native.Mathlib.Numerals.{add-one}
 use lib.ListN.{length, take, getD}
-use lib.Seq.{take-suc, take-all}
+use lib.Seq.{take-suc, take-all, take-take, getD-take}
 use lib.Dec.{eqb}
 use borrow.Author.Tests.{eqb-true, eq-eqb}
 use Rattle.baos.specs.declared.datapoint.Datapoint.{Datapoint}
@@ -55,27 +55,30 @@ datapoint-same a b i t f d s m v = λ j. record { id = i j; typecode = t j; flag
 pub item-same : (a b : Item) → a .id ≡ b .id → a .size ≡ b .size → a .writable ≡ b .writable → a .bytes ≡ b .bytes → a ≡ b
 item-same a b i s w v = λ j. record { id = i j; size = s j; writable = w j; bytes = v j }
 
--- ---- tables of n records, one after the other
-pub record Alike {A : Type 0} (a b : List A) (n i : ℕ) : Type 0 where
+-- ---- tables of n records, one after the other: t is whether the first i are the same
+pub record Alike {A : Type 0} (a b : List A) (n : ℕ) (t : Bool) (i : ℕ) : Type 0 where
   pub within : i ≤ n
-  pub first : take i a ≡ take i b
+  pub first : Decides t (take i a ≡ take i b)
 
-pub alike-begins : {A : Type 0} (a b : List A) (n : ℕ) → Alike a b n 0
-alike-begins a b n = record { within = omega arith; first = refl }
+pub alike-begins : {A : Type 0} (a b : List A) (n : ℕ) → Alike a b n true 0
+alike-begins a b n = record { within = omega arith; first = shown refl }
 
-pub alike-goes : {A : Type 0} (a b : List A) (n i : ℕ) (d : A) → length a ≡ n → length b ≡ n → i < n → getD a i d ≡ getD b i d → Alike a b n i → Alike a b n (i + 1)
-alike-goes {A} a b n i d la lb l e s =
-    record {
-      within = omega arith;
-      first =
-          rw add-one
-          (take-suc a i d (omega arith) ∙ ap (λ (r : List A). r ++ (getD a i d ∷ [])) (s .first) ∙ ap (λ (x : A). take i b ++ (x ∷ [])) e
-          ∙ sym (take-suc b i d (omega arith)));
-    }
+module _ {A : Type 0} (a b : List A) (n i : ℕ) (d : A) (la : length a ≡ n) (lb : length b ≡ n) (l : i < n) where
+  one-more : take i a ≡ take i b → getD a i d ≡ getD b i d → take (i + 1) a ≡ take (i + 1) b
+  one-more p e =
+      rw add-one
+      (take-suc a i d (omega arith) ∙ ap (λ (r : List A). r ++ (getD a i d ∷ [])) p ∙ ap (λ (x : A). take i b ++ (x ∷ [])) e
+      ∙ sym (take-suc b i d (omega arith)))
 
--- the same at every place
-pub same-at : {A : Type 0} (a b : List A) (i : ℕ) (d : A) → a ≡ b → getD a i d ≡ getD b i d
-same-at {A} a b i d e = ap (λ (l : List A). getD l i d) e
+  one-less : take (i + 1) a ≡ take (i + 1) b → (take i a ≡ take i b) × (getD a i d ≡ getD b i d)
+  one-less q = (
+    sym (take-take i (i + 1) a (omega arith)) ∙ ap (take i) q ∙ take-take i (i + 1) b (omega arith),
+    sym (getD-take (i + 1) a i d (omega arith)) ∙ ap (λ (r : List A). getD r i d) q ∙ getD-take (i + 1) b i d (omega arith),
+  )
 
-pub alike-ends : {A : Type 0} (a b : List A) (n i : ℕ) → length a ≡ n → length b ≡ n → n ≤ i → Alike a b n i → a ≡ b
-alike-ends a b n i la lb l s = sym (take-all i a (omega arith)) ∙ s .first ∙ take-all i b (omega arith)
+  pub alike-goes : {t u : Bool} → Decides u (getD a i d ≡ getD b i d) → Alike a b n t i → Alike a b n (t && u) (i + 1)
+  alike-goes e s = record { within = omega arith; first = left-to (both (s .first) e) (λ p. one-more (p .0) (p .1)) one-less }
+
+pub alike-ends : {A : Type 0} (a b : List A) (n i : ℕ) {t : Bool} → length a ≡ n → length b ≡ n → n ≤ i → Alike a b n t i → Decides t (a ≡ b)
+alike-ends a b n i la lb l s =
+    left-to (s .first) (λ p. sym (take-all i a (omega arith)) ∙ p ∙ take-all i b (omega arith)) (λ q. ap (take i) q)

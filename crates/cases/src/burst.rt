@@ -21,13 +21,9 @@ fn burst_start(frames: u8, acknowledgements: u8) -> usize
 fn are_numbers(numbers: BurstNumbers, ending: u8, frames: u8, acknowledgements: u8) -> bool
     ensures { λ r. ⌜ Decides r (numbers ≡ threeNumbers (pos ending) frames acknowledgements) ⌝ }
 {
-    if numbers.number != ending as i32 {
-        return false;
-    }
-    if numbers.frames != frames as u16 {
-        return false;
-    }
-    numbers.acknowledgements == acknowledgements as u16
+    (numbers.number == ending as i32)
+        & (numbers.frames == frames as u16)
+        & (numbers.acknowledgements == acknowledgements as u16)
 }
 
 // Whether these starts stand in the first places of the run.
@@ -35,14 +31,13 @@ fn are_starts(run: &[u16], wanted: &[u8]) -> bool
     requires { ⌜ length (now wanted) ≤ length (now run) ⌝ }
     ensures { λ r. ⌜ Decides r (take (length (now (wanted .entry))) (now (run .entry)) ≡ now (wanted .entry)) ⌝ }
 {
+    let mut same = true;
     let mut i: usize = 0;
     while i < wanted.len() {
-        if run[i] != wanted[i] as u16 {
-            return false;
-        }
+        same = same & (run[i] == wanted[i] as u16);
         i = i + 1;
     }
-    true
+    same
 }
 
 // Whether the burst of a line holds what the line says. An ending has the number that firmware gets.
@@ -54,11 +49,13 @@ pub fn has_found(a: &[u8]) -> bool
     if n < 3 {
         return false;
     }
-    let from = burst_start(a[1], a[2]);
+    let frames = a[1];
+    let acknowledgements = a[2];
+    let from = burst_start(frames, acknowledgements);
     if n < from {
         return false;
     }
     let mut starts = [0u16; 2048];
     let reply = read_burst(&a[from..], &mut starts);
-    are_numbers(burst_numbers(reply), a[0], a[1], a[2]) & are_starts(&starts, &a[3..from])
+    are_numbers(burst_numbers(reply), a[0], frames, acknowledgements) & are_starts(&starts, &a[3..from])
 }

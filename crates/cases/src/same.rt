@@ -31,27 +31,25 @@ fn same_item(a: Item, b: Item) -> bool
 fn same_datapoints(a: [Datapoint; 50], b: [Datapoint; 50]) -> bool
     ensures { λ r. ⌜ Decides r (a ≡ b) ⌝ }
 {
+    let mut same = true;
     let mut i: usize = 0;
     while i < 50 {
-        if !same_datapoint(a[i], b[i]) {
-            return false;
-        }
+        same = same & same_datapoint(a[i], b[i]);
         i = i + 1;
     }
-    true
+    same
 }
 
 fn same_items(a: [Item; 4], b: [Item; 4]) -> bool
     ensures { λ r. ⌜ Decides r (a ≡ b) ⌝ }
 {
+    let mut same = true;
     let mut i: usize = 0;
     while i < 4 {
-        if !same_item(a[i], b[i]) {
-            return false;
-        }
+        same = same & same_item(a[i], b[i]);
         i = i + 1;
     }
-    true
+    same
 }
 
 // Whether the tables of two benches are the same: the counts, and every record.

@@ -10,11 +10,11 @@ use Rattle.cases.proofs.burst.has_found.Tie as tie
 returns : tie.Need-returns
 returns c = refuted (λ q. let h = q .whole in omega arith)
 
-shared-slice-read-burst-start : tie.Need-shared-slice-read-burst-start
-shared-slice-read-burst-start c = search needs
+shared-slice-read-frames : tie.Need-shared-slice-read-frames
+shared-slice-read-frames c = search needs
 
-shared-slice-read-burst-start-2 : tie.Need-shared-slice-read-burst-start-2
-shared-slice-read-burst-start-2 c = search needs
+shared-slice-read-acknowledgements : tie.Need-shared-slice-read-acknowledgements
+shared-slice-read-acknowledgements c = search needs
 
 burst-start-requires : tie.Need-burst-start-requires
 burst-start-requires c κs = search needs
@@ -43,28 +43,22 @@ burst-numbers-requires c κs = search needs
 shared-slice-read-are-numbers : tie.Need-shared-slice-read-are-numbers
 shared-slice-read-are-numbers c = search needs
 
-shared-slice-read-are-numbers-2 : tie.Need-shared-slice-read-are-numbers-2
-shared-slice-read-are-numbers-2 c = search needs
-
-shared-slice-read-are-numbers-3 : tie.Need-shared-slice-read-are-numbers-3
-shared-slice-read-are-numbers-3 c = search needs
-
 are-numbers-requires : tie.Need-are-numbers-requires
 are-numbers-requires c κs = search needs
 
 -- what the reader answered and left, for the laws
 was-read : (c : tie.After-are-numbers)
-    → WasRead (c .before .before .before .before .before .before .before .before .before .before .before .before .before .before .before .args .a .now) (c .before .before .before .before .before .before .before .before .before .before .burst-start .result) (c .before .before .before .before .burst-numbers .result) (c .before .before .before .before .before .before .read-burst .last .1 .0)
+    → WasRead (c .before .before .before .before .before .before .before .before .before .before .before .before .before .args .a .now) (c .before .before .before .before .before .before .before .before .burst-start .result) (c .before .before .burst-numbers .result) (c .before .before .before .before .read-burst .last .1 .0)
 was-read c =
     record {
-      at = c .before .before .before .before .before .before .before .before .before .before .burst-start .ensures;
+      at = c .before .before .before .before .before .before .before .before .burst-start .ensures;
       whole = omega arith;
-      short = omega (arith, c .before .before .before .before .before .before .before .before .before .before .before .before .before .before .before .pre);
+      short = omega (arith, c .before .before .before .before .before .before .before .before .before .before .before .before .before .pre);
       lent = _;
       room = refl;
       reply = _;
-      leaves = c .before .before .before .before .before .before .read-burst .ensures;
-      told = c .before .before .before .before .burst-numbers .ensures;
+      leaves = c .before .before .before .before .read-burst .ensures;
+      told = c .before .before .burst-numbers .ensures;
     }
 
 slice-aggregate-are-starts : tie.Need-slice-aggregate-are-starts
@@ -82,8 +76,8 @@ part-are-starts-end c = search needs
 are-starts-requires : tie.Need-are-starts-requires
 are-starts-requires c κs =
     let w = was-read (c .before .before) in
-    let h : length (c .before .before .before .before .before .before .before .before .read-burst .last .1 .0) ≡ 2048 = search needs in
-    omega (arith, h, starts-long _ _ _ _ w, c .before .before .before .shared-slice-known6 .given 1, c .before .before .before .shared-slice-known6 .given 2)
+    let h : length (c .before .before .before .before .before .before .read-burst .last .1 .0) ≡ 2048 = search needs in
+    omega (arith, h, starts-long _ _ _ _ w, c .before .before .before .shared-slice-known4 .given 1, c .before .before .before .shared-slice-known4 .given 2)
 
 returns-3 : tie.Need-returns-3
 returns-3 c = found-decided _ _ _ _ (was-read (c .before .before .before)) (c .before .before .before .are-numbers .ensures) (c .are-starts .ensures)
@@ -93,8 +87,8 @@ has-found-spec =
     tie.close
     (tie.spec
     returns
-    shared-slice-read-burst-start
-    shared-slice-read-burst-start-2
+    shared-slice-read-frames
+    shared-slice-read-acknowledgements
     burst-start-requires
     returns-2
     sub-read-burst
@@ -104,8 +98,6 @@ has-found-spec =
     read-burst-requires
     burst-numbers-requires
     shared-slice-read-are-numbers
-    shared-slice-read-are-numbers-2
-    shared-slice-read-are-numbers-3
     are-numbers-requires
     slice-aggregate-are-starts
     sub-are-starts

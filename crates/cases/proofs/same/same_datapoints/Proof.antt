@@ -1,17 +1,17 @@
-use lib.ListN.{length}
 use borrow.Author.Needs.{needs}
-use mathlib.Core.Path.{_≡_, sym, ap, _∙_}
+use mathlib.Core.Path.{_≡_}
 use Prim.Native.Nat.{_-_}
 use native.Mathlib.Omega.{arith}
-use Rattle.cases.proofs.SameLaws.{not-true, not-false, failed, shown, same-at, Alike, alike-begins, alike-goes, alike-ends}
+use lib.ListN.{length}
+use Rattle.cases.proofs.SameLaws.{Alike, alike-begins, alike-goes, alike-ends}
 use Rattle.cases.proofs.same.same_datapoints.Statement.{statement}
 use Rattle.cases.proofs.same.same_datapoints.Tie as tie
 
 abbrev Inv-loop : tie.InvT-loop
-Inv-loop a b i₀ i = Alike a b 50 i
+Inv-loop a b same₀ i₀ same i = Alike a b 50 same i
 
 abbrev μ-loop : tie.MeasureT-loop
-μ-loop a b i₀ i = 50 - i
+μ-loop a b same₀ i₀ same i = 50 - i
 
 loop-holds : tie.Need-loop-holds Inv-loop μ-loop
 loop-holds c = alike-begins _ _ _
@@ -31,9 +31,6 @@ array-copy-out-same-datapoint-2 c = omega arith
 same-datapoint-requires : tie.Need-same-datapoint-requires Inv-loop μ-loop
 same-datapoint-requires c κs = search needs
 
-returns : tie.Need-returns Inv-loop μ-loop
-returns c = failed (c .before .same-datapoint .ensures) (not-true _ (c .if1 .taken)) (λ q. same-at _ _ _ _ q)
-
 add-i : tie.Need-add-i Inv-loop μ-loop
 add-i c = omega arith
 
@@ -42,15 +39,15 @@ loop-less c = omega arith
 
 loop-again : tie.Need-loop-again Inv-loop μ-loop
 loop-again c =
-    let la : length (c .before .before .before .before .before .before .args .t1) ≡ 50 = search needs in
-    let lb : length (c .before .before .before .before .before .before .args .t2) ≡ 50 = search needs in
-    alike-goes _ _ _ _ _ la lb (c .before .before .before .before .loop-test .taken) (c .before .same-datapoint .ensures .0 (not-false _ (c .if1 .left))) (c .before .before .before .before .before .loop .inv)
+    let la : length (c .before .before .before .before .before .args .t1) ≡ 50 = search needs in
+    let lb : length (c .before .before .before .before .before .args .t2) ≡ 50 = search needs in
+    alike-goes _ _ _ _ _ la lb (c .before .before .before .loop-test .taken) (c .same-datapoint .ensures) (c .before .before .before .before .loop .inv)
 
-returns-2 : tie.Need-returns-2 Inv-loop μ-loop
-returns-2 c =
+returns : tie.Need-returns Inv-loop μ-loop
+returns c =
     let la : length (c .before .before .args .t1) ≡ 50 = search needs in
     let lb : length (c .before .before .args .t2) ≡ 50 = search needs in
-    shown (alike-ends _ _ _ _ la lb (omega arith) (c .before .loop .inv))
+    alike-ends _ _ _ _ la lb (omega arith) (c .before .loop .inv)
 
 pub same-datapoints-spec : {M : Type 1} → statement M
 same-datapoints-spec =
@@ -64,8 +61,7 @@ same-datapoints-spec =
     mul-same-datapoint-2
     array-copy-out-same-datapoint-2
     same-datapoint-requires
-    returns
     add-i
     loop-less
     loop-again
-    returns-2)
+    returns)

@@ -1,17 +1,17 @@
 use borrow.Author.Needs.{needs}
-use mathlib.Core.Path.{_≡_, sym, ap, _∙_}
+use mathlib.Core.Path.{_≡_}
 use Prim.Native.Nat.{_-_}
-use lib.ListN.{length}
 use native.Mathlib.Omega.{arith}
-use Rattle.cases.proofs.SameLaws.{not-true, not-false, failed, shown, same-at, Alike, alike-begins, alike-goes, alike-ends}
+use lib.ListN.{length}
+use Rattle.cases.proofs.SameLaws.{Alike, alike-begins, alike-goes, alike-ends}
 use Rattle.cases.proofs.same.same_items.Statement.{statement}
 use Rattle.cases.proofs.same.same_items.Tie as tie
 
 abbrev Inv-loop : tie.InvT-loop
-Inv-loop a b i₀ i = Alike a b 4 i
+Inv-loop a b same₀ i₀ same i = Alike a b 4 same i
 
 abbrev μ-loop : tie.MeasureT-loop
-μ-loop a b i₀ i = 4 - i
+μ-loop a b same₀ i₀ same i = 4 - i
 
 loop-holds : tie.Need-loop-holds Inv-loop μ-loop
 loop-holds c = alike-begins _ _ _
@@ -31,9 +31,6 @@ array-copy-out-same-item-2 c = omega arith
 same-item-requires : tie.Need-same-item-requires Inv-loop μ-loop
 same-item-requires c κs = search needs
 
-returns : tie.Need-returns Inv-loop μ-loop
-returns c = failed (c .before .same-item .ensures) (not-true _ (c .if1 .taken)) (λ q. same-at _ _ _ _ q)
-
 add-i : tie.Need-add-i Inv-loop μ-loop
 add-i c = omega arith
 
@@ -42,15 +39,15 @@ loop-less c = omega arith
 
 loop-again : tie.Need-loop-again Inv-loop μ-loop
 loop-again c =
-    let la : length (c .before .before .before .before .before .before .args .t1) ≡ 4 = search needs in
-    let lb : length (c .before .before .before .before .before .before .args .t2) ≡ 4 = search needs in
-    alike-goes _ _ _ _ _ la lb (c .before .before .before .before .loop-test .taken) (c .before .same-item .ensures .0 (not-false _ (c .if1 .left))) (c .before .before .before .before .before .loop .inv)
+    let la : length (c .before .before .before .before .before .args .t1) ≡ 4 = search needs in
+    let lb : length (c .before .before .before .before .before .args .t2) ≡ 4 = search needs in
+    alike-goes _ _ _ _ _ la lb (c .before .before .before .loop-test .taken) (c .same-item .ensures) (c .before .before .before .before .loop .inv)
 
-returns-2 : tie.Need-returns-2 Inv-loop μ-loop
-returns-2 c =
+returns : tie.Need-returns Inv-loop μ-loop
+returns c =
     let la : length (c .before .before .args .t1) ≡ 4 = search needs in
     let lb : length (c .before .before .args .t2) ≡ 4 = search needs in
-    shown (alike-ends _ _ _ _ la lb (omega arith) (c .before .loop .inv))
+    alike-ends _ _ _ _ la lb (omega arith) (c .before .loop .inv)
 
 pub same-items-spec : {M : Type 1} → statement M
 same-items-spec =
@@ -64,8 +61,7 @@ same-items-spec =
     mul-same-item-2
     array-copy-out-same-item-2
     same-item-requires
-    returns
     add-i
     loop-less
     loop-again
-    returns-2)
+    returns)
