@@ -82,7 +82,7 @@ module _ (l : Line) (w : Bench) (s : Stand) (q : s .quiet ≡ true) where
       (λ p. record { silent = q; reply = λ x. absurd (omega (arith, e, x)); damage = λ x. absurd (omega (arith, e, x)); link = λ x. absurd (omega (arith, e, x)); tables = λ _. p; reading = λ x. absurd (omega (arith, e, x)); burst = λ x. absurd (omega (arith, e, x)) })
       (λ y. y .tables e)
 
-  pub given : {r : Bool} → l .letter ≡ 0x67 → Decides r (ReadsAs (s .bench) (raised (l .bytes) 0 0) (take 7 (drop 2 (l .bytes)))) → Decides r (Right l w s)
+  pub given : {r : Bool} → l .letter ≡ 0x67 → Decides r (ReadsAs (s .bench) (l .bytes)) → Decides r (Right l w s)
   given e d =
       left-to d
       (λ p. record { silent = q; reply = λ x. absurd (omega (arith, e, x)); damage = λ x. absurd (omega (arith, e, x)); link = λ x. absurd (omega (arith, e, x)); tables = λ x. absurd (omega (arith, e, x)); reading = λ _. p; burst = λ x. absurd (omega (arith, e, x)) })

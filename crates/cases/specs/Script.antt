@@ -60,7 +60,7 @@ pub record Right (l : Line) (wanted : Bench) (s : Stand) : Type 0 where
   pub damage : l .letter ≡ 0x78 → Damaged (getD (l .bytes) 0 0) (s .place) (s .bench)
   pub link : l .letter ≡ 0x6C → LinkIs (s .bench .link) (listed l)
   pub tables : l .letter ≡ 0x74 → SameTables (s .bench) wanted
-  pub reading : l .letter ≡ 0x67 → ReadsAs (s .bench) (raised (l .bytes) 0 0) (take 7 (drop 2 (l .bytes)))
+  pub reading : l .letter ≡ 0x67 → ReadsAs (s .bench) (l .bytes)
   pub burst : l .letter ≡ 0x75 → FindsAs (listed l)
 
 -- all that the lines ask holds, each after what the lines up to it did

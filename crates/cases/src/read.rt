@@ -1,60 +1,29 @@
-// Readings on the bench, and as bytes.
+// Readings on the bench, by the numbers that firmware gets.
 ghost use mathlib.Core.Path.{_≡_};
 ghost use mathlib.Core.Bool.{not};
 ghost use Prim.Native.Nat.{_≤_};
 ghost use lib.Dec.{T};
 ghost use lib.Ieee.{isNan};
-ghost use lib.ListN.{take, drop};
-ghost use Rattle.dpt.specs.Numbers.{readingNumbers, readingReplyNumbers};
-ghost use Rattle.script.specs.Record.{raised};
 ghost use Rattle.cases.specs.Bench.{Within};
-ghost use Rattle.cases.specs.Read.{floatBytes, readingBytes, replyBytes, readIn, ReadsAs};
+ghost use Rattle.cases.specs.Read.{AreNumbers, readIn, ReadsAs};
 ghost use Rattle.cases.specs.Same.{Decides};
 use crate::bench::Bench;
-use dpt::reading::Reading;
+use dpt::reading::ReadingNumbers;
 use dpt::reading::ReadingReply;
+use readings::numbers::reply_numbers;
+use readings::reading::of_four_bytes;
 use readings::reading::reading;
 use script::line::Line;
 use script::record::raised;
 
-// The case, no refusal, no whole number, and the bits of the floating one.
-fn float_bytes(case: u8, x: f32) -> [u8; 7]
-    requires { ⌜ T (not (isNan x)) ⌝ }
-    ensures { λ r. ⌜ r ≡ floatBytes case x ⌝ }
+// Whether these are the numbers: those of a case, or minus a refusal's.
+fn are_numbers(numbers: ReadingNumbers, case: u8, refusal: u8, whole: u8, bits: u32) -> bool
+    requires { ⌜ T (not (isNan (numbers .value))) ⌝ }
+    ensures { λ r. ⌜ Decides r (AreNumbers numbers case refusal whole bits) ⌝ }
 {
-    let n = f32::to_bits(x);
-    [
-        case,
-        0,
-        0,
-        (n / 16777216 % 256) as u8,
-        (n / 65536 % 256) as u8,
-        (n / 256 % 256) as u8,
-        (n % 256) as u8,
-    ]
-}
-
-fn reading_bytes(reading: Reading) -> [u8; 7]
-    requires { ⌜ T (not (isNan (readingNumbers reading .value))) ⌝ }
-    ensures { λ r. ⌜ r ≡ readingBytes reading ⌝ }
-{
-    match reading {
-        Reading::Switch(on) => [1, 0, on as u8, 0, 0, 0, 0],
-        Reading::Count(n) => [2, 0, n, 0, 0, 0, 0],
-        Reading::TwoOctet(x) => float_bytes(3, x),
-        Reading::Single(x) => float_bytes(4, x),
-        Reading::Unreadable => [5, 0, 0, 0, 0, 0, 0],
-    }
-}
-
-fn reply_bytes(reply: ReadingReply) -> [u8; 7]
-    requires { ⌜ T (not (isNan (readingReplyNumbers reply .value))) ⌝ }
-    ensures { λ r. ⌜ r ≡ replyBytes reply ⌝ }
-{
-    match reply {
-        ReadingReply::Refused(n) => [0, n, 0, 0, 0, 0, 0],
-        ReadingReply::Given(reading) => reading_bytes(reading),
-    }
+    (numbers.number == case as i32 - (refusal as i32))
+        & (numbers.whole == whole as u32)
+        & (f32::to_bits(numbers.value) == bits)
 }
 
 // The one function that lends the datapoints for a reading, as far as their count goes.
@@ -69,9 +38,10 @@ fn read(bench: Bench, id: u16) -> ReadingReply
 // Whether what is given for the ID of a line is what stands behind it.
 pub fn has_read(bench: Bench, line: Line) -> bool
     requires { ⌜ Within bench ⌝ }
-    ensures { λ r. ⌜ Decides r (ReadsAs bench (raised (line .bytes) 0 0) (take 7 (drop 2 (line .bytes)))) ⌝ }
+    ensures { λ r. ⌜ Decides r (ReadsAs bench (line .bytes)) ⌝ }
 {
     let a = line.bytes;
-    let bytes = reply_bytes(read(bench, raised(a[0], a[1], 0)));
-    check::same(&bytes, &a[2..9])
+    let numbers = reply_numbers(read(bench, raised(a[0], a[1], 0)));
+    let bits = of_four_bytes(a[5], a[6], a[7], a[8]);
+    are_numbers(numbers, a[2], a[3], a[4], bits)
 }

@@ -38,7 +38,7 @@ fn single_reading(bits: u32) -> Reading
 }
 
 // The highest first.
-fn of_four_bytes(a: u8, b: u8, c: u8, d: u8) -> u32
+pub fn of_four_bytes(a: u8, b: u8, c: u8, d: u8) -> u32
     ensures { λ r. ⌜ r ≡ ofFourBytes a b c d ⌝ }
 {
     let high = (a as u32) * 256 + (b as u32);

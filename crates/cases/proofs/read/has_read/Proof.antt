@@ -1,9 +1,4 @@
 use borrow.Author.Needs.{needs}
-use mathlib.Core.Path.{_≡_, sym, ap, _∙_}
-use lib.ListN.{length}
-use native.Mathlib.Omega.{arith}
-use Rattle.cases.specs.Read.{replyBytes}
-use Rattle.cases.proofs.SameLaws.{left-to}
 use Rattle.cases.proofs.ReadLaws.{given-number}
 use Rattle.cases.proofs.read.has_read.Statement.{statement}
 use Rattle.cases.proofs.read.has_read.Tie as tie
@@ -20,26 +15,38 @@ raised-requires c κs = search needs
 read-requires : tie.Need-read-requires
 read-requires c κs = c .before .before .pre .datapoints
 
-reply-bytes-requires : tie.Need-reply-bytes-requires
-reply-bytes-requires c κs = given-number _ _ _ (c .read .ensures)
+reply-numbers-requires : tie.Need-reply-numbers-requires
+reply-numbers-requires c κs = search needs
 
-slice-aggregate-same : tie.Need-slice-aggregate-same
-slice-aggregate-same c = search needs
+array-read-of-four-bytes : tie.Need-array-read-of-four-bytes
+array-read-of-four-bytes c = search needs
 
-sub-same : tie.Need-sub-same
-sub-same c = search needs
+array-read-of-four-bytes-2 : tie.Need-array-read-of-four-bytes-2
+array-read-of-four-bytes-2 c = search needs
 
-part-same-start : tie.Need-part-same-start
-part-same-start c = search needs
+array-read-of-four-bytes-3 : tie.Need-array-read-of-four-bytes-3
+array-read-of-four-bytes-3 c = search needs
 
-part-same-end : tie.Need-part-same-end
-part-same-end c = let h : length (c .before .before .before .before .before .before .args .line .bytes) ≡ 264 = search needs in omega (arith, h)
+array-read-of-four-bytes-4 : tie.Need-array-read-of-four-bytes-4
+array-read-of-four-bytes-4 c = search needs
 
-same-requires : tie.Need-same-requires
-same-requires c κs = search needs
+of-four-bytes-requires : tie.Need-of-four-bytes-requires
+of-four-bytes-requires c κs = search needs
+
+array-read-are-numbers : tie.Need-array-read-are-numbers
+array-read-are-numbers c = search needs
+
+array-read-are-numbers-2 : tie.Need-array-read-are-numbers-2
+array-read-are-numbers-2 c = search needs
+
+array-read-are-numbers-3 : tie.Need-array-read-are-numbers-3
+array-read-are-numbers-3 c = search needs
+
+are-numbers-requires : tie.Need-are-numbers-requires
+are-numbers-requires c κs = rw (c .before .reply-numbers .ensures) (given-number _ _ _ (c .before .before .read .ensures))
 
 returns : tie.Need-returns
-returns c = let e = c .before .before .before .before .reply-bytes .ensures ∙ ap replyBytes (rw (c .before .before .before .before .before .before .raised .ensures) at (c .before .before .before .before .before .read .ensures)) in left-to (c .same .ensures) (λ v. sym e ∙ v) (λ q. e ∙ q)
+returns c = rw (c .before .before .reply-numbers .ensures, c .before .before .before .read .ensures, c .before .before .before .before .raised .ensures, c .before .of-four-bytes .ensures) at (c .are-numbers .ensures)
 
 pub has-read-spec : {M : Type 1} → statement M
-has-read-spec = tie.close (tie.spec array-read-raised array-read-raised-2 raised-requires read-requires reply-bytes-requires slice-aggregate-same sub-same part-same-start part-same-end same-requires returns)
+has-read-spec = tie.close (tie.spec array-read-raised array-read-raised-2 raised-requires read-requires reply-numbers-requires array-read-of-four-bytes array-read-of-four-bytes-2 array-read-of-four-bytes-3 array-read-of-four-bytes-4 of-four-bytes-requires array-read-are-numbers array-read-are-numbers-2 array-read-are-numbers-3 are-numbers-requires returns)
