@@ -6,6 +6,7 @@ from .texts import Mistake, each_macro
 
 ROOT = os.path.join(os.path.dirname(os.path.abspath(__file__)), '..', '..')
 STRUCTS = {}
+HELD = {}  # by an enum's variants: the types
 
 
 def declared():
@@ -16,11 +17,13 @@ def declared():
                     text = re.sub(r'//.*', '', open(os.path.join(folder, f)).read())
                     for m in re.finditer(r'pub struct (\w+) \{([^}]*)\}', text):
                         STRUCTS[m.group(1)] = re.findall(r'(\w+): ([^,\n]+),', m.group(2))
+                    for m in re.finditer(r'pub enum (\w+) \{([^}]*)\}', text):
+                        HELD[m.group(1)] = [t.strip() for held in re.findall(r'\(([^)]*)\)', m.group(2)) for t in held.split(',')]
     return STRUCTS
 
 
 def size_of(type):
-    '''size and alignment of a type; of an enum, which stands last where it stands, nothing is known'''
+    '''size and alignment of a type; of an enum, which stands last where it stands, only the alignment'''
     numbers = {'u8': 1, 'bool': 1, 'u16': 2, 'u32': 4, 'u64': 8, 'usize': 8}
     m = re.match(r'\[(\w+); (\d+)\]$', type)
     if m:
@@ -28,7 +31,9 @@ def size_of(type):
         return size * int(m.group(2)), align
     if type in numbers:
         return numbers[type], numbers[type]
-    return layout(type)[1:] if type in declared() else (0, 1)
+    if type in declared():
+        return layout(type)[1:]
+    return 0, max([1] + [size_of(held)[1] for held in HELD.get(type, [])])
 
 
 def layout(struct):

@@ -57,5 +57,6 @@ pub fn has_found(a: &[u8]) -> bool
     }
     let mut starts = [0u16; 2048];
     let reply = read_burst(&a[from..], &mut starts);
-    are_numbers(burst_numbers(reply), a[0], frames, acknowledgements) & are_starts(&starts, &a[3..from])
+    are_numbers(burst_numbers(reply), a[0], frames, acknowledgements)
+        & are_starts(&starts, &a[3..from])
 }

@@ -28,16 +28,16 @@ part-play-end : tie.Need-part-play-end Inv-loop μ-loop
 part-play-end c = search needs
 
 play-requires : tie.Need-play-requires Inv-loop μ-loop
-play-requires c κs = search needs
+play-requires c κs = tt
 
 cast-wrapping-add-u8 : tie.Need-cast-wrapping-add-u8 Inv-loop μ-loop
 cast-wrapping-add-u8 c = search needs
 
 wrapping-add-u8-requires : tie.Need-wrapping-add-u8-requires Inv-loop μ-loop
-wrapping-add-u8-requires c κs = search needs
+wrapping-add-u8-requires c κs = tt
 
 wrapping-add-u8-requires-2 : tie.Need-wrapping-add-u8-requires-2 Inv-loop μ-loop
-wrapping-add-u8-requires-2 c κs = search needs
+wrapping-add-u8-requires-2 c κs = tt
 
 add-from : tie.Need-add-from Inv-loop μ-loop
 add-from c = search needs
@@ -61,13 +61,13 @@ part-text-end : tie.Need-part-text-end Inv-loop μ-loop
 part-text-end c = search needs
 
 text-requires : tie.Need-text-requires Inv-loop μ-loop
-text-requires c κs = search needs
+text-requires c κs = tt
 
 counted-requires : tie.Need-counted-requires Inv-loop μ-loop
-counted-requires c κs = search needs
+counted-requires c κs = tt
 
 returns : tie.Need-returns Inv-loop μ-loop
-returns c = search needs
+returns c = tt
 
 pub cases-spec : {M : Type 1} → statement M
 cases-spec = tie.close (tie.spec Inv-loop μ-loop loop-holds shared-slice-read-if1 sub-play part-play-start part-play-end play-requires cast-wrapping-add-u8 wrapping-add-u8-requires wrapping-add-u8-requires-2 add-from add-i loop-less loop-again sub-text part-text-start part-text-end text-requires counted-requires returns)

@@ -17,7 +17,7 @@ shared-slice-read-acknowledgements : tie.Need-shared-slice-read-acknowledgements
 shared-slice-read-acknowledgements c = search needs
 
 burst-start-requires : tie.Need-burst-start-requires
-burst-start-requires c κs = search needs
+burst-start-requires c κs = tt
 
 returns-2 : tie.Need-returns-2
 returns-2 c = refuted (λ q. omega (arith, q .whole, c .before .burst-start .ensures))
@@ -35,16 +35,16 @@ slice-aggregate-read-burst : tie.Need-slice-aggregate-read-burst
 slice-aggregate-read-burst c = search needs
 
 read-burst-requires : tie.Need-read-burst-requires
-read-burst-requires c κs = search needs
+read-burst-requires c κs = tt
 
 burst-numbers-requires : tie.Need-burst-numbers-requires
-burst-numbers-requires c κs = search needs
+burst-numbers-requires c κs = tt
 
 shared-slice-read-are-numbers : tie.Need-shared-slice-read-are-numbers
 shared-slice-read-are-numbers c = search needs
 
 are-numbers-requires : tie.Need-are-numbers-requires
-are-numbers-requires c κs = search needs
+are-numbers-requires c κs = tt
 
 -- what the reader answered and left, for the laws
 was-read : (c : tie.After-are-numbers)

@@ -6,19 +6,19 @@ use Rattle.cases.proofs.lent.told.Statement.{statement}
 use Rattle.cases.proofs.lent.told.Tie as tie
 
 empty-requires : tie.Need-empty-requires
-empty-requires c κs = search needs
+empty-requires c κs = tt
 
 item-of-requires : tie.Need-item-of-requires
-item-of-requires c κs = search needs
+item-of-requires c κs = tt
 
 with-item-requires : tie.Need-with-item-requires
-with-item-requires c κs = search needs
+with-item-requires c κs = tt
 
 array-read-with-datapoints : tie.Need-array-read-with-datapoints
 array-read-with-datapoints c = search needs
 
 with-datapoints-requires : tie.Need-with-datapoints-requires
-with-datapoints-requires c κs = search needs
+with-datapoints-requires c κs = tt
 
 returns : tie.Need-returns
 returns c = c .empty .ensures ∙ sym (told-empty _ _ (c .before .match .keys1))

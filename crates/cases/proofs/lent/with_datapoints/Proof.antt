@@ -17,10 +17,10 @@ loop-holds : tie.Need-loop-holds Inv-loop μ-loop
 loop-holds c = (omega arith, sym (filled-none _ _))
 
 datapoint-of-requires : tie.Need-datapoint-of-requires Inv-loop μ-loop
-datapoint-of-requires c κs = search needs
+datapoint-of-requires c κs = tt
 
 with-datapoint-requires : tie.Need-with-datapoint-requires Inv-loop μ-loop
-with-datapoint-requires c κs = search needs
+with-datapoint-requires c κs = tt
 
 add-k : tie.Need-add-k Inv-loop μ-loop
 add-k c = omega (arith, c .before .before .before .loop .inv .0)

@@ -9,7 +9,7 @@ use Rattle.cases.proofs.play.acted.Statement.{statement}
 use Rattle.cases.proofs.play.acted.Tie as tie
 
 started-requires : tie.Need-started-requires
-started-requires c κs = search needs
+started-requires c κs = tt
 
 array-share-prefix-a : tie.Need-array-share-prefix-a
 array-share-prefix-a c =
@@ -24,13 +24,13 @@ slice-aggregate-hear c =
     sym (length-take-le (b .args .line .size) (b .args .line .bytes) (omega (arith, h, b .pre .1)))
 
 hear-requires : tie.Need-hear-requires
-hear-requires c κs = search needs
+hear-requires c κs = c .before .before .before .before .pre .0
 
 marked-requires : tie.Need-marked-requires
-marked-requires c κs = search needs
+marked-requires c κs = c .before .before .before .pre .0
 
 numbered-requires : tie.Need-numbered-requires
-numbered-requires c κs = search needs
+numbered-requires c κs = c .before .before .before .pre .0
 
 returns : tie.Need-returns
 returns c = c .started .ensures ∙ sym (starts _ _ _ (c .before .match .keys1))

@@ -11,7 +11,7 @@ cast-result : tie.Need-cast-result
 cast-result c = search needs
 
 sent-count-requires : tie.Need-sent-count-requires
-sent-count-requires c κs = search needs
+sent-count-requires c κs = tt
 
 returns : tie.Need-returns
 returns c =

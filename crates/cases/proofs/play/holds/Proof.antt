@@ -23,16 +23,16 @@ slice-aggregate-asked : tie.Need-slice-aggregate-asked
 slice-aggregate-asked c = let b = c .before .before .before .before .before in sym (length-take-le (b .args .line .size) (b .args .line .bytes) (within b))
 
 has-sent-requires : tie.Need-has-sent-requires
-has-sent-requires c κs = search needs
+has-sent-requires c κs = tt
 
 damaged-requires : tie.Need-damaged-requires
-damaged-requires c κs = search needs
+damaged-requires c κs = tt
 
 is-link-requires : tie.Need-is-link-requires
-is-link-requires c κs = search needs
+is-link-requires c κs = tt
 
 same-tables-requires : tie.Need-same-tables-requires
-same-tables-requires c κs = search needs
+same-tables-requires c κs = tt
 
 has-read-requires : tie.Need-has-read-requires
 has-read-requires c κs = c .before .before .before .before .before .before .pre .0

@@ -16,16 +16,16 @@ array-read-raised-2 : tie.Need-array-read-raised-2
 array-read-raised-2 c = search needs
 
 raised-requires : tie.Need-raised-requires
-raised-requires c κs = search needs
+raised-requires c κs = tt
 
 array-read-event-numbered-3 : tie.Need-array-read-event-numbered-3
 array-read-event-numbered-3 c = search needs
 
 event-numbered-requires : tie.Need-event-numbered-requires
-event-numbered-requires c κs = search needs
+event-numbered-requires c κs = tt
 
 happens-requires : tie.Need-happens-requires
-happens-requires c κs = search needs
+happens-requires c κs = c .before .before .before .pre
 
 returns : tie.Need-returns
 unfolding numbered

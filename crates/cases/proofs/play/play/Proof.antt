@@ -23,7 +23,7 @@ module _ (c : tie.After-line-end Inv-loop μ-loop) where
   some = line-some (c .before .before .before .before .before .before .args .script .now) (c .before .before .before .loop .at) (c .line-end .result) (c .before .before .loop-test .taken) (c .line-end .ensures)
 
 empty-requires : tie.Need-empty-requires Inv-loop μ-loop
-empty-requires c κs = search needs
+empty-requires c κs = tt
 
 loop-holds : tie.Need-loop-holds Inv-loop μ-loop
 loop-holds c = playing-begins _ _ (c .empty .ensures)
@@ -38,7 +38,7 @@ part-line-end-end : tie.Need-part-line-end-end Inv-loop μ-loop
 part-line-end-end c = search needs
 
 line-end-requires : tie.Need-line-end-requires Inv-loop μ-loop
-line-end-requires c κs = search needs
+line-end-requires c κs = tt
 
 add-end : tie.Need-add-end Inv-loop μ-loop
 add-end c = omega (arith, within c)
@@ -56,7 +56,7 @@ read-requires : tie.Need-read-requires Inv-loop μ-loop
 read-requires c κs = line-there (c .before .before .before .before .before .before .before .args .script .now) (c .before .before .before .before .loop .at) (c .before .line-end .result) (c .before .before .before .loop-test .taken) (c .before .line-end .ensures)
 
 told-requires : tie.Need-told-requires Inv-loop μ-loop
-told-requires c κs = search needs
+told-requires c κs = tt
 
 acted-requires : tie.Need-acted-requires Inv-loop μ-loop
 acted-requires c κs = (c .before .before .before .before .before .before .loop .inv .stands, rw (c .before .read .ensures) (count-fits _))
@@ -72,7 +72,7 @@ holds-requires c κs =
     (stands-within _ h _ _ _ _ (i .told) (i .stands) (c .before .before .before .told .ensures) (c .before .before .acted .ensures), h)
 
 noted-requires : tie.Need-noted-requires Inv-loop μ-loop
-noted-requires c κs = search needs
+noted-requires c κs = tt
 
 loop-less : tie.Need-loop-less Inv-loop μ-loop
 loop-less c = let l = c .before .before .before .before .before .before .before .before in omega (arith, within l, some l)
@@ -83,7 +83,7 @@ loop-again c =
     playing-goes _ _ _ (l .before .before .loop-test .taken) (l .line-end .ensures) _ _ _ _ _ _ _ _ (c .before .before .before .before .before .before .read .ensures) (c .before .before .before .before .before .told .ensures) (c .before .before .before .before .acted .ensures) (c .before .holds .ensures) (c .noted .ensures) (l .before .before .before .loop .inv)
 
 verdict-requires : tie.Need-verdict-requires Inv-loop μ-loop
-verdict-requires c κs = search needs
+verdict-requires c κs = tt
 
 returns : tie.Need-returns Inv-loop μ-loop
 returns c = playing-ends _ _ _ _ _ (c .before .loop-test .left) (c .before .before .loop .inv)

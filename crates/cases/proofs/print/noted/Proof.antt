@@ -11,10 +11,10 @@ slice-aggregate-text : tie.Need-slice-aggregate-text
 slice-aggregate-text c = search needs
 
 text-requires : tie.Need-text-requires
-text-requires c κs = search needs
+text-requires c κs = tt
 
 sent-requires : tie.Need-sent-requires
-sent-requires c κs = search needs
+sent-requires c κs = tt
 
 returns-2 : tie.Need-returns-2
 returns-2 c = rw (c .before .before .before .if1 .left) (sym (and-false (c .before .before .before .before .args .right)))

@@ -7,7 +7,7 @@ use Rattle.cases.proofs.print.sent.Statement.{statement}
 use Rattle.cases.proofs.print.sent.Tie as tie
 
 sent-count-requires : tie.Need-sent-count-requires
-sent-count-requires c κs = search needs
+sent-count-requires c κs = tt
 
 slice-aggregate-frames : tie.Need-slice-aggregate-frames
 slice-aggregate-frames c = search needs
@@ -22,13 +22,13 @@ slice-aggregate-frames-2 c =
     sym (length-take-le (c .before .before .before .sent-count .result) (b .args .bench .out) (omega arith))
 
 frames-requires : tie.Need-frames-requires
-frames-requires c κs = search needs
+frames-requires c κs = tt
 
 returns : tie.Need-returns
-returns c = search needs
+returns c = tt
 
 returns-2 : tie.Need-returns-2
-returns-2 c = search needs
+returns-2 c = tt
 
 pub sent-spec : {M : Type 1} → statement M
 sent-spec = tie.close (tie.spec sent-count-requires slice-aggregate-frames array-share-prefix-out slice-aggregate-frames-2 frames-requires returns returns-2)

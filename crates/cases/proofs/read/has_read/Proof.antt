@@ -10,13 +10,13 @@ array-read-raised-2 : tie.Need-array-read-raised-2
 array-read-raised-2 c = search needs
 
 raised-requires : tie.Need-raised-requires
-raised-requires c κs = search needs
+raised-requires c κs = tt
 
 read-requires : tie.Need-read-requires
 read-requires c κs = c .before .before .pre .datapoints
 
 reply-numbers-requires : tie.Need-reply-numbers-requires
-reply-numbers-requires c κs = search needs
+reply-numbers-requires c κs = tt
 
 array-read-of-four-bytes : tie.Need-array-read-of-four-bytes
 array-read-of-four-bytes c = search needs
@@ -31,7 +31,7 @@ array-read-of-four-bytes-4 : tie.Need-array-read-of-four-bytes-4
 array-read-of-four-bytes-4 c = search needs
 
 of-four-bytes-requires : tie.Need-of-four-bytes-requires
-of-four-bytes-requires c κs = search needs
+of-four-bytes-requires c κs = tt
 
 array-read-are-numbers : tie.Need-array-read-are-numbers
 array-read-are-numbers c = search needs

@@ -9,7 +9,7 @@ use Rattle.cases.proofs.run.has_sent.Statement.{statement}
 use Rattle.cases.proofs.run.has_sent.Tie as tie
 
 sent-count-requires : tie.Need-sent-count-requires
-sent-count-requires c κs = search needs
+sent-count-requires c κs = tt
 
 returns : tie.Need-returns
 returns c = refuted (λ q. let w = q .within in let e = c .before .sent-count .ensures in let t = c .if1 .taken in omega arith)
@@ -23,7 +23,7 @@ slice-aggregate-same c =
     sym (length-take-le (c .before .before .before .sent-count .result) (c .before .before .before .before .before .args .bench .out) (omega arith))
 
 same-requires : tie.Need-same-requires
-same-requires c κs = search needs
+same-requires c κs = tt
 
 returns-2 : tie.Need-returns-2
 returns-2 c =

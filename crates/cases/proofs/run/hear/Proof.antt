@@ -22,7 +22,7 @@ happens-requires : tie.Need-happens-requires Inv-loop μ-loop
 happens-requires c κs = c .before .before .before .before .loop .inv .fits
 
 sent-count-requires : tie.Need-sent-count-requires Inv-loop μ-loop
-sent-count-requires c κs = search needs
+sent-count-requires c κs = tt
 
 add-i : tie.Need-add-i Inv-loop μ-loop
 add-i c = search needs

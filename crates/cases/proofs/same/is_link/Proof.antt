@@ -36,7 +36,7 @@ part-same-end : tie.Need-part-same-end
 part-same-end c = search needs
 
 same-requires : tie.Need-same-requires
-same-requires c κs = search needs
+same-requires c κs = tt
 
 shared-slice-read-result : tie.Need-shared-slice-read-result
 shared-slice-read-result c = search needs

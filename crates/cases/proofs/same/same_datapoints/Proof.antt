@@ -29,7 +29,7 @@ array-copy-out-same-datapoint-2 : tie.Need-array-copy-out-same-datapoint-2 Inv-l
 array-copy-out-same-datapoint-2 c = omega arith
 
 same-datapoint-requires : tie.Need-same-datapoint-requires Inv-loop μ-loop
-same-datapoint-requires c κs = search needs
+same-datapoint-requires c κs = tt
 
 add-i : tie.Need-add-i Inv-loop μ-loop
 add-i c = omega arith

@@ -29,7 +29,7 @@ array-copy-out-same-item-2 : tie.Need-array-copy-out-same-item-2 Inv-loop μ-loo
 array-copy-out-same-item-2 c = omega arith
 
 same-item-requires : tie.Need-same-item-requires Inv-loop μ-loop
-same-item-requires c κs = search needs
+same-item-requires c κs = tt
 
 add-i : tie.Need-add-i Inv-loop μ-loop
 add-i c = omega arith

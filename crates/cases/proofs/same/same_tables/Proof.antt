@@ -15,13 +15,13 @@ slice-aggregate-same-2 c =
     sym h
 
 same-requires : tie.Need-same-requires
-same-requires c κs = search needs
+same-requires c κs = tt
 
 same-items-requires : tie.Need-same-items-requires
-same-items-requires c κs = search needs
+same-items-requires c κs = tt
 
 same-datapoints-requires : tie.Need-same-datapoints-requires
-same-datapoints-requires c κs = search needs
+same-datapoints-requires c κs = tt
 
 returns : tie.Need-returns
 returns c =

@@ -35,7 +35,7 @@ shared-slice-read-digit-2 : tie.Need-shared-slice-read-digit-2 Inv-loop μ-loop
 shared-slice-read-digit-2 c = let g = test (c .before .before .before) in omega (arith, g .1)
 
 digit-requires-2 : tie.Need-digit-requires-2 Inv-loop μ-loop
-digit-requires-2 c κs = search needs
+digit-requires-2 c κs = tt
 
 add-bytes : tie.Need-add-bytes Inv-loop μ-loop
 add-bytes c = let e = c .before .before .digit .ensures in let f = c .digit2 .ensures in omega arith

@@ -28,7 +28,7 @@ array-read-risen-2 : tie.Need-array-read-risen-2
 array-read-risen-2 c = search needs
 
 risen-requires : tie.Need-risen-requires
-risen-requires c κs = search needs
+risen-requires c κs = tt
 
 array-write-value : tie.Need-array-write-value
 array-write-value c = search needs
@@ -40,7 +40,7 @@ array-read-raised-2 : tie.Need-array-read-raised-2
 array-read-raised-2 c = search needs
 
 raised-requires : tie.Need-raised-requires
-raised-requires c κs = search needs
+raised-requires c κs = tt
 
 array-read-t19 : tie.Need-array-read-t19
 array-read-t19 c = search needs

@@ -28,7 +28,7 @@ array-read-raised-2 : tie.Need-array-read-raised-2
 array-read-raised-2 c = search needs
 
 raised-requires : tie.Need-raised-requires
-raised-requires c κs = search needs
+raised-requires c κs = tt
 
 array-read-t21 : tie.Need-array-read-t21
 array-read-t21 c = search needs

@@ -5,7 +5,7 @@ use Rattle.script.proofs.record.risen.Statement.{statement}
 use Rattle.script.proofs.record.risen.Tie as tie
 
 wrapping-add-u8-requires : tie.Need-wrapping-add-u8-requires
-wrapping-add-u8-requires c κs = search needs
+wrapping-add-u8-requires c κs = tt
 
 returns : tie.Need-returns
 unfolding risen
