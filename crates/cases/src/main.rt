@@ -37,7 +37,7 @@ fn cases(s: &[u8]) {
 }
 
 fn main() {
-    let mut input = io::large_buffer();
+    let mut input = [0u8; 131072];
     let n = io::read_full(STDIN_FILENO, &mut input);
     cases(&input[..n]);
 }
