@@ -1,5 +1,5 @@
 -- Bytes from the host, one after the other: the loop that feeds them; and what is sent at the last.
-use Prim.Native.Nat.{ℕ, suc, _+_, _≤_, _<_}
+use Prim.Native.Nat.{ℕ, _+_, _≤_, _<_}
 use mathlib.Core.Path.{_≡_, refl, sym, _∙_, ap}
 use mathlib.Core.Bool.{Bool, true, false, _&&_, and-assoc, and-true, and-false}
 use mathlib.Core.List.{List, [], _∷_}
@@ -11,7 +11,6 @@ use borrow.Author.Tests.{ne-eqb}
 use Rattle.words.specs.Words.{if_then_else_, isYes}
 use Rattle.calls.specs.declared.event.Event.the-variants.{HostByte}
 use Rattle.cases.specs.declared.bench.Bench.{Bench}
-use Rattle.cases.specs.declared.run.Stand.{Stand}
 use Rattle.cases.specs.Run.{happened, countSent, quiet, Sends, heard, onlyLast, lastSound, standAfter}
 use Rattle.cases.specs.Same.{Decides}
 use Rattle.cases.specs.Bench.{Within}

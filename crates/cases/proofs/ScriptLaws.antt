@@ -1,5 +1,5 @@
 -- A script goes on: what each line does and asks is done and asked of the whole.
-use Prim.Native.Nat.{ℕ, suc, _+_, _-_, _≤_, _<_}
+use Prim.Native.Nat.{ℕ, _+_, _-_, _≤_, _<_}
 use mathlib.Core.Path.{_≡_, refl, sym, _∙_, ap}
 use mathlib.Core.Bool.{Bool, true, false, _&&_}
 use mathlib.Core.List.{List, [], _∷_}
@@ -15,10 +15,9 @@ use Rattle.cases.specs.Bench.{emptyBench, withValue, Within}
 use Rattle.cases.specs.Read.{ReadsAs}
 use Rattle.cases.specs.Run.{happened, countSent, quiet, Sends, standAfter}
 use Rattle.cases.specs.Same.{Decides, SameTables, LinkIs}
-use Rattle.cases.proofs.SameLaws.{false-true, refuted, shown, left-to}
+use Rattle.cases.proofs.SameLaws.{false-true, shown, left-to}
 use Rattle.script.specs.declared.line.Line.{Line}
 use Rattle.script.specs.Line.{lines, lineEnd, readLine}
-use Rattle.script.specs.Record.{raised}
 use Rattle.cases.specs.Burst.{FindsAs}
 use Rattle.cases.specs.Lent.{built}
 use Rattle.cases.specs.Step.{listed}

@@ -7,7 +7,6 @@ use mir.Syntax.{w8, w64, tyInt, tyArray}
 use prog.Wp.{Heap}
 use ghost.Atoms.{Atoms}
 use types.Kit.{Given}
-use denote.RattleType.{RattleType}
 use denote.Laws.{Lawfuls}
 use denote.Plain.{UInt}
 use denote.Array.{Array}

@@ -6,7 +6,6 @@ use Rattle.ft12.specs.declared.record.Link.{Link}
 use Rattle.ft12.specs.Record.{linkWith}
 use Rattle.baos.specs.declared.datapoint.Datapoint.{Datapoint}
 use Rattle.baos.specs.declared.item.Item.{Item}
-use Rattle.calls.specs.declared.reply.Reply.{Reply}
 use Rattle.calls.specs.declared.reply.Reply.the-variants.{Accepted}
 use Rattle.cases.specs.declared.bench.Bench.{Bench}
 use Rattle.script.specs.declared.line.Line.{Line}

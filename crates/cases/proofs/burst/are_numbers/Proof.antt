@@ -1,4 +1,3 @@
-use mathlib.Core.Path.{ap}
 use native.Mathlib.Omega.{arith}
 use Rattle.cases.proofs.BurstLaws.{numbers-decided}
 use Rattle.cases.proofs.burst.are_numbers.Statement.{statement}

@@ -1,4 +1,3 @@
-use borrow.Author.Needs.{needs}
 use Rattle.cases.proofs.ScriptLaws.{mark-quiet}
 use Rattle.cases.proofs.play.marked.Statement.{statement}
 use Rattle.cases.proofs.play.marked.Tie as tie

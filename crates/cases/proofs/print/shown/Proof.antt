@@ -6,7 +6,6 @@ use lib.Seq.{length-take-le}
 use native.Mathlib.Omega.{arith}
 use Rattle.cases.proofs.print.shown.Statement.{statement}
 use Rattle.cases.proofs.print.shown.Tie as tie
-use Rattle.cases.proofs.print.shown.Lts as lts
 
 -- the bytes of a line are within its width
 within : (b : tie.Start) → b .args .line .size ≤ length (b .args .line .bytes)

@@ -1,4 +1,3 @@
-use borrow.Author.Needs.{needs}
 use mathlib.Core.Path.{refl}
 use Rattle.script.specs.Record.{risen}
 use Rattle.script.proofs.record.risen.Statement.{statement}
