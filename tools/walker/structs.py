@@ -6,7 +6,7 @@ from .texts import Mistake, each_macro
 
 ROOT = os.path.join(os.path.dirname(os.path.abspath(__file__)), '..', '..')
 STRUCTS = {}
-HELD = {}  # by an enum's variants: the types
+HELD = {}  # by an enum: the types that its variants hold
 
 
 def declared():
@@ -24,7 +24,7 @@ def declared():
 
 def size_of(type):
     '''size and alignment of a type; of an enum, which stands last where it stands, only the alignment'''
-    numbers = {'u8': 1, 'bool': 1, 'u16': 2, 'u32': 4, 'u64': 8, 'usize': 8}
+    numbers = {'u8': 1, 'bool': 1, 'u16': 2, 'u32': 4, 'i32': 4, 'f32': 4, 'u64': 8, 'usize': 8}
     m = re.match(r'\[(\w+); (\d+)\]$', type)
     if m:
         size, align = size_of(m.group(1))
@@ -33,7 +33,9 @@ def size_of(type):
         return numbers[type], numbers[type]
     if type in declared():
         return layout(type)[1:]
-    return 0, max([1] + [size_of(held)[1] for held in HELD.get(type, [])])
+    if type not in HELD:
+        raise Mistake(f'no type {type}')
+    return 0, max([1] + [size_of(held)[1] for held in HELD[type]])
 
 
 def layout(struct):

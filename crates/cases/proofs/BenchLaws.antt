@@ -62,6 +62,9 @@ filled-within a zero b w = w
 filled-within a (suc n) b w = datapoint-within (datapointOf a n) (filled a n b) (filled-within a n b w)
 
 -- ---- lines
+abbrev Stands : Stand → Type 0
+Stands s = Within (s .bench)
+
 module _ (l : Line) (h : l .size ≤ 264) where
   pub built-within : (b : Bench) → Within b → Within (built l b)
   unfolding built withParameters withSite withDefaults
@@ -73,17 +76,11 @@ module _ (l : Line) (h : l .size ≤ 264) where
       (either Within (eqb (l .letter) 0x76) (λ _. record { datapoints = w .datapoints; items = w .items; parameters = w .parameters; site = h; defaults = w .defaults; value = w .value })
       (either Within (eqb (l .letter) 0x77) (λ _. record { datapoints = w .datapoints; items = w .items; parameters = w .parameters; site = w .site; defaults = h; value = w .value }) w)))))
 
-  StandsWithin : Stand → Type 0
-  StandsWithin s = Within (s .bench)
-
-  acted-within : (b : Bench) (s : Stand) → Within b → Within (s .bench) → Within (acted l b s .bench)
-  unfolding acted started withBits standAfter marked withValue numbered StandsWithin
+  pub acted-within : (b : Bench) (s : Stand) → Within b → Within (s .bench) → Within (acted l b s .bench)
+  unfolding acted started withBits standAfter marked withValue numbered
   acted-within b s w v =
-      either StandsWithin (eqb (l .letter) 0x73) (λ _. record { datapoints = w .datapoints; items = w .items; parameters = w .parameters; site = w .site; defaults = w .defaults; value = w .value })
-      (either StandsWithin (eqb (l .letter) 0x68) (λ _. heard-within _ (s .bench) v)
-      (either StandsWithin (eqb (l .letter) 0x6D) (λ _. happened-within IdleMark (s .bench) v)
-      (either StandsWithin (eqb (l .letter) 0x62) (λ _. record { datapoints = v .datapoints; items = v .items; parameters = v .parameters; site = v .site; defaults = v .defaults; value = h })
-      (either StandsWithin (eqb (l .letter) 0x6E) (λ _. happened-within _ (s .bench) v) v))))
-
-  pub stands-within : (b b′ : Bench) (s s′ : Stand) → Within b → Within (s .bench) → b′ ≡ built l b → s′ ≡ acted l b′ s → Within (s′ .bench)
-  stands-within b b′ s s′ w v eb es = rw es (acted-within b′ s (rw eb (built-within b w)) v)
+      either Stands (eqb (l .letter) 0x73) (λ _. record { datapoints = w .datapoints; items = w .items; parameters = w .parameters; site = w .site; defaults = w .defaults; value = w .value })
+      (either Stands (eqb (l .letter) 0x68) (λ _. heard-within _ (s .bench) v)
+      (either Stands (eqb (l .letter) 0x6D) (λ _. happened-within IdleMark (s .bench) v)
+      (either Stands (eqb (l .letter) 0x62) (λ _. record { datapoints = v .datapoints; items = v .items; parameters = v .parameters; site = v .site; defaults = v .defaults; value = h })
+      (either Stands (eqb (l .letter) 0x6E) (λ _. happened-within _ (s .bench) v) v))))

@@ -4,13 +4,12 @@ use mathlib.Core.Path.{_≡_, refl, sym, _∙_, ap}
 use mathlib.Core.Bool.{Bool, true, false, _&&_}
 use mathlib.Core.List.{List}
 use native.Mathlib.Omega.{arith}
-use lib.IntN.{ℤ, pos}
+use lib.IntN.{pos}
 use lib.ListN.{length, getD, take, drop, length-drop}
 use lib.Seq.{take-at, length-take-le}
 use lib.Dec.{eqb}
 use mir.Syntax.{w32}
-use mir.Val.{SFits, ofZ, toZ}
-use mir.Facts.{toZ-ofZ, toZ-pos}
+use mir.Val.{SFits, ofZ}
 use Rattle.words.specs.Words.{put}
 use Rattle.words.proofs.WordLaws.{rest-whole}
 use Rattle.ft12.specs.Burst.{contents, figuresOf, startsOf, BurstCalled, readBurst, endingNumber, threeNumbers, burstNumbers, BurstLeaves}
@@ -19,19 +18,15 @@ use Rattle.ft12.specs.declared.burst.BurstReply.{BurstReply}
 use Rattle.ft12.specs.declared.burst.BurstReply.the-variants.{Read}
 use Rattle.ft12.proofs.BurstLaws.{starts-length, figures-sum, burst-read}
 use Rattle.cases.specs.Same.{Decides}
-use Rattle.cases.proofs.SameLaws.{both, compared, failed, left-to}
+use Rattle.cases.proofs.SameLaws.{both, compared, bits-tell, failed, left-to}
 use Rattle.cases.specs.Burst.{startCount, burstStart, burstOf, FindsAs}
 
 -- ---- three numbers, compared
--- the code compares the bits of the first
-pub bits-tell : (z : ℤ) (n : ℕ) → SFits w32 z → n < 2 ^ 31 → ofZ w32 z ≡ n → z ≡ pos n
-bits-tell z n f l e = sym (toZ-ofZ f) ∙ ap (toZ w32) e ∙ toZ-pos w32 l
-
-pub numbers-decided : (n : BurstNumbers) (e f a : ℕ) → SFits w32 (n .number) → e < 2 ^ 31
+pub figures-decided : (n : BurstNumbers) (e f a : ℕ) → SFits w32 (n .number) → e < 2 ^ 31
     → Decides (eqb (ofZ w32 (n .number)) e && eqb (n .frames) f && eqb (n .acknowledgements) a) (n ≡ threeNumbers (pos e) f a)
-numbers-decided n e f a s l =
+figures-decided n e f a s l =
     left-to (both (both (compared _ _) (compared _ _)) (compared _ _))
-    (λ p. let z = bits-tell (n .number) e s l (p .0 .0) in λ i. record { number = z i; frames = p .0 .1 i; acknowledgements = p .1 i })
+    (λ p. let z = bits-tell (n .number) (pos e) s (record { sfits = l }) (p .0 .0) in λ i. record { number = z i; frames = p .0 .1 i; acknowledgements = p .1 i })
     (λ q. ((ap (λ (m : BurstNumbers). ofZ w32 (m .number)) q, ap (λ (m : BurstNumbers). m .frames) q), ap (λ (m : BurstNumbers). m .acknowledgements) q))
 
 -- ---- the reader's answer n and its run

@@ -1,13 +1,18 @@
 -- Tests that decide whether records are the same.
 use Prim.Native.Nat.{ℕ, _+_, _≤_, _<_}
 use mathlib.Core.Path.{_≡_, refl, sym, _∙_, ap}
-use mathlib.Core.Bool.{Bool, true, false, not, _&&_}
+use mathlib.Core.Bool.{Bool, true, false, not, _&&_, _||_}
+use mathlib.Core.Logic.{_⊎_, inl, inr, ⊎-elim}
 use mathlib.Core.List.{List, [], _∷_, _++_}
 use native.Mathlib.Omega.{arith}
 use native.Mathlib.Numerals.{add-one}
 use lib.ListN.{length, take, getD}
 use lib.Seq.{take-suc, take-all, take-take, getD-take}
 use lib.Dec.{eqb}
+use lib.IntN.{ℤ}
+use mir.Syntax.{w32}
+use mir.Val.{SFits, ofZ, toZ}
+use mir.Facts.{toZ-ofZ}
 use borrow.Author.Tests.{eqb-true, eq-eqb}
 use Rattle.baos.specs.declared.datapoint.Datapoint.{Datapoint}
 use Rattle.baos.specs.declared.item.Item.{Item}
@@ -38,6 +43,15 @@ failed d e f = refuted (λ q. false-true (sym e ∙ d .1 (f q)))
 -- two numbers, compared
 pub compared : (a b : ℕ) → Decides (eqb a b) (a ≡ b)
 compared a b = ((λ e. eqb-true a b e), (λ q. eq-eqb a b q))
+
+-- two numbers of 32 bits, of which the code compares the bits
+pub bits-tell : (y z : ℤ) → SFits w32 y → SFits w32 z → ofZ w32 y ≡ ofZ w32 z → y ≡ z
+bits-tell y z f g e = sym (toZ-ofZ f) ∙ ap (toZ w32) e ∙ toZ-ofZ g
+
+-- one of two tests
+pub one-of : {P Q : Type 0} {a b : Bool} → Decides a P → Decides b Q → Decides (a || b) (P ⊎ Q)
+one-of {a = true} d e = ((λ _. inl (d .0 refl)), (λ _. refl))
+one-of {a = false} d e = ((λ t. inr (e .0 t)), (λ q. ⊎-elim (λ p. absurd (false-true (d .1 p))) (e .1) q))
 
 -- two tests, both made
 pub both : {P Q : Type 0} {a b : Bool} → Decides a P → Decides b Q → Decides (a && b) (P × Q)

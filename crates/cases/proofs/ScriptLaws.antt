@@ -17,12 +17,11 @@ use Rattle.cases.specs.Run.{happened, countSent, quiet, Sends, standAfte
 use Rattle.cases.specs.Same.{Decides, SameTables, LinkIs}
 use Rattle.cases.proofs.SameLaws.{false-true, shown, left-to}
 use Rattle.script.specs.declared.line.Line.{Line}
-use Rattle.script.specs.Line.{lines, lineEnd, readLine}
+use Rattle.script.specs.Line.{listed, lines, lineEnd, readLine}
 use Rattle.cases.specs.Burst.{FindsAs}
 use Rattle.cases.specs.Lent.{built}
-use Rattle.cases.specs.Step.{listed}
 use Rattle.cases.specs.Script.{standing, started, marked, numbered, acted, Damaged, Right, AllRight, Played}
-use Rattle.cases.proofs.BenchLaws.{empty-within, built-within, stands-within}
+use Rattle.cases.proofs.BenchLaws.{empty-within, built-within, acted-within}
 use Rattle.script.proofs.LineLaws.{lines-next, end-within, end-some, count-fits}
 
 -- ---- what happens by a line: a law for each letter
@@ -117,6 +116,10 @@ both-hold : (p q : Bool) → (p && q) ≡ true → (p ≡ true) × (q ≡ true)
 both-hold true q e = (refl, e)
 both-hold false q e = absurd (false-true e)
 
+-- after a line
+pub stands-within : (l : Line) → l .size ≤ 264 → (w w′ : Bench) (s s′ : Stand) → w′ ≡ built l w → s′ ≡ acted l w′ s → Within w → Within (s .bench) → Within (s′ .bench)
+stands-within l h w w′ s s′ ew es a b = rw es (acted-within l h w′ s (rw ew (built-within l h w a)) b)
+
 -- the rest of a script, and its first line
 module _ (t : List ℕ) (at e : ℕ) (l : at < length t) (ee : e ≡ lineEnd (take (length t - at) (drop at t))) where
   abbrev rest : List ℕ
@@ -153,7 +156,7 @@ module _ (t : List ℕ) (at e : ℕ) (l : at < length t) (ee : e ≡ lineEnd (ta
         rw (W, S)
         (record {
           told = built-within L (count-fits _) w (p .told);
-          stands = stands-within L (count-fits _) w (built L w) s (acted L (built L w) s) (p .told) (p .stands) refl refl;
+          stands = acted-within L (count-fits _) (built L w) s (built-within L (count-fits _) w (p .told)) (p .stands);
           ahead = λ x. let y = both-hold r h (sym er ∙ x .0) in p .ahead (y .0, rw next (D .0 (y .1), x .1));
           back = λ y. let x = p .back y in let z = rw next at (x .1) in (er ∙ rw (x .0) (D .1 (z .0)), z .1);
         })

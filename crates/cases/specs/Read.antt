@@ -1,6 +1,7 @@
 -- Readings on the bench, by the numbers that firmware gets.
 use Prim.Native.Nat.{ℕ}
 use mathlib.Core.Path.{_≡_}
+use mathlib.Core.Logic.{_⊎_}
 use mathlib.Core.List.{List}
 use lib.IntN.{pos, _-ℤ_}
 use lib.ListN.{getD, take}
@@ -13,8 +14,9 @@ use Rattle.dpt.specs.Numbers.{readingReplyNumbers}
 use Rattle.script.specs.Record.{raised}
 use Rattle.cases.specs.declared.bench.Bench.{Bench}
 
--- the case, with a refusal of 0, or minus the refusal, with a case of 0; the whole number; the bits of the floating one
+-- the case and no refusal, or minus the refusal and no case; the whole number; the bits of the floating one
 pub record AreNumbers (n : ReadingNumbers) (case refusal whole bits : ℕ) : Type 0 where
+  pub one-of-them : (case ≡ 0) ⊎ (refusal ≡ 0)
   pub number-is : n .number ≡ pos case -ℤ pos refusal
   pub whole-is : n .whole ≡ whole
   pub bits-are : toBits binary32 (n .value) ≡ bits

@@ -15,11 +15,10 @@ use Rattle.cases.specs.Read.{ReadsAs}
 use Rattle.cases.specs.Run.{happened, quiet, Sends, standAfter}
 use Rattle.cases.specs.Same.{SameTables, LinkIs}
 use Rattle.script.specs.declared.line.Line.{Line}
-use Rattle.script.specs.Line.{lines, readLine}
+use Rattle.script.specs.Line.{listed, lines, readLine}
 use Rattle.script.specs.Record.{raised}
 use Rattle.cases.specs.Burst.{FindsAs}
 use Rattle.cases.specs.Lent.{built}
-use Rattle.cases.specs.Step.{listed}
 
 abbrev pub standing : Bench → Bool → ℕ → Stand
 standing b q p = record { bench = b; quiet = q; place = p }

@@ -8,7 +8,7 @@ use Rattle.baos.specs.Table.{Tables, tablesOf}
 use Rattle.calls.specs.declared.event.Event.{Event}
 use Rattle.calls.specs.Call.{Called, call}
 use Rattle.cases.specs.declared.bench.Bench.{Bench}
-use Rattle.script.specs.declared.line.Line.{Line}
+use Rattle.script.specs.Line.{listed}
 use Rattle.cases.specs.Bench.{Within}
 
 -- the tables as far as their counts go, and these text lists
@@ -16,10 +16,6 @@ unfoldable pub tablesIn : Bench → TextLists → Tables
 tablesIn b ts =
     tablesOf (take (b .datapointcount) (b .datapoints)) (take (b .itemcount) (b .items))
     (take (b .parametercount) (b .parameters)) ts
-
--- the bytes of a line
-abbrev pub listed : Line → List ℕ
-listed l = take (l .size) (l .bytes)
 
 -- the text lists
 unfoldable pub listsOf : Bench → TextLists

@@ -36,8 +36,11 @@ fn cases(s: &[u8]) {
     counted(count, right);
 }
 
+// What stands behind so many bytes of the input is not played.
+const MOST_INPUT: usize = 131072;
+
 fn main() {
-    let mut input = [0u8; 131072];
+    let mut input = [0u8; MOST_INPUT];
     let n = io::read_full(STDIN_FILENO, &mut input);
     cases(&input[..n]);
 }

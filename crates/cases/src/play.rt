@@ -33,7 +33,7 @@ const START: u8 = b's';
 const HOST: u8 = b'h';
 // The line is silent for an idle mark. Nothing is to be sent.
 const MARK: u8 = b'm';
-// The value that is lent beside bus value events from now on.
+// The value that is lent beside bus value events, up to the next start.
 const VALUE: u8 = b'b';
 // An event by its numbers, as firmware gives them: event, byte, ID and outcome.
 const EVENT: u8 = b'n';
@@ -165,12 +165,12 @@ pub fn play(script: &[u8]) -> bool
     let mut at: usize = 0;
     while at < script.len() {
         let end = at + line_end(&script[at..]);
-        let words = &script[at..end];
-        let line = read(words);
+        let text = &script[at..end];
+        let line = read(text);
         wanted = told(wanted, line);
         stand = acted(stand, wanted, line);
         let b = stand.bench;
-        shown(line, words, b);
+        shown(line, text, b);
         right = noted(right, holds(stand, wanted, line), b);
         at = end;
     }

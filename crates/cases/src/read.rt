@@ -4,7 +4,6 @@ ghost use mathlib.Core.Bool.{not};
 ghost use Prim.Native.Nat.{_≤_};
 ghost use lib.Dec.{T};
 ghost use lib.Ieee.{isNan};
-ghost use Rattle.cases.specs.Bench.{Within};
 ghost use Rattle.cases.specs.Read.{AreNumbers, readIn, ReadsAs};
 ghost use Rattle.cases.specs.Same.{Decides};
 use crate::bench::Bench;
@@ -16,12 +15,13 @@ use readings::reading::reading;
 use script::line::Line;
 use script::record::raised;
 
-// Whether these are the numbers: those of a case, or minus a refusal's.
+// Whether these are the numbers: those of a case, with a refusal of 0, or minus a refusal's, with a case of 0.
 fn are_numbers(numbers: ReadingNumbers, case: u8, refusal: u8, whole: u8, bits: u32) -> bool
     requires { ⌜ T (not (isNan (numbers .value))) ⌝ }
     ensures { λ r. ⌜ Decides r (AreNumbers numbers case refusal whole bits) ⌝ }
 {
-    (numbers.number == case as i32 - (refusal as i32))
+    ((case == 0) | (refusal == 0))
+        & (numbers.number == case as i32 - (refusal as i32))
         & (numbers.whole == whole as u32)
         & (f32::to_bits(numbers.value) == bits)
 }
@@ -37,7 +37,7 @@ fn read(bench: Bench, id: u16) -> ReadingReply
 
 // Whether what is given for the ID of a line is what stands behind it.
 pub fn has_read(bench: Bench, line: Line) -> bool
-    requires { ⌜ Within bench ⌝ }
+    requires { ⌜ bench .datapointcount ≤ 50 ⌝ }
     ensures { λ r. ⌜ Decides r (ReadsAs bench (line .bytes)) ⌝ }
 {
     let a = line.bytes;

@@ -1,7 +1,7 @@
 -- A script's text: its lines, and what stands in one.
 use Prim.Native.Nat.{ℕ, zero, suc, _+_, _-_, _*_, _/_, _%_}
 use mathlib.Core.List.{List, [], _∷_}
-use lib.ListN.{length, getD, set, replicate}
+use lib.ListN.{length, getD, set, take, replicate}
 use lib.Dec.{ltb, eqb}
 use Rattle.words.specs.Words.{if_then_else_}
 use Rattle.script.specs.declared.line.Line.{Line}
@@ -38,6 +38,10 @@ byteCount s = if ltb ((length s - 1) / 3) 264 then (length s - 1) / 3 else 264
 unfoldable pub written : List ℕ → ℕ → List ℕ
 written s zero = replicate 264 0
 written s (suc n) = set (written s n) n (byteOf (getD s (3 * n + 2) 0) (getD s (3 * n + 2 + 1) 0))
+
+-- the bytes of a line
+abbrev pub listed : Line → List ℕ
+listed l = take (l .size) (l .bytes)
 
 unfoldable pub readLine : List ℕ → Line
 readLine s = record { letter = getD s 0 0; bytes = written s (byteCount s); size = byteCount s }

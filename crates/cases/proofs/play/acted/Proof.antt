@@ -1,5 +1,6 @@
 use borrow.Author.Needs.{needs}
 use mathlib.Core.Path.{_≡_, sym, _∙_}
+use Prim.Native.Nat.{_≤_}
 use lib.ListN.{length}
 use lib.Seq.{length-take-le}
 use native.Mathlib.Omega.{arith}
@@ -8,20 +9,18 @@ use Rattle.cases.proofs.ScriptLaws.{starts, host-sends, silence, value-
 use Rattle.cases.proofs.play.acted.Statement.{statement}
 use Rattle.cases.proofs.play.acted.Tie as tie
 
+-- the bytes of a line are within its width
+within : (b : tie.Start) → b .args .line .size ≤ length (b .args .line .bytes)
+within b = let h : length (b .args .line .bytes) ≡ 264 = search (needs, b .good .1 .1) in omega (arith, h, b .pre .1)
+
 started-requires : tie.Need-started-requires
 started-requires c κs = tt
 
 array-share-prefix-a : tie.Need-array-share-prefix-a
-array-share-prefix-a c =
-    let b = c .before .before .before in
-    let h : length (b .args .line .bytes) ≡ 264 = search (needs, b .good .1 .1) in
-    omega (arith, h, b .pre .1)
+array-share-prefix-a c = within (c .before .before .before)
 
 slice-aggregate-hear : tie.Need-slice-aggregate-hear
-slice-aggregate-hear c =
-    let b = c .before .before .before .before in
-    let h : length (b .args .line .bytes) ≡ 264 = search (needs, b .good .1 .1) in
-    sym (length-take-le (b .args .line .size) (b .args .line .bytes) (omega (arith, h, b .pre .1)))
+slice-aggregate-hear c = let b = c .before .before .before .before in sym (length-take-le (b .args .line .size) (b .args .line .bytes) (within b))
 
 hear-requires : tie.Need-hear-requires
 hear-requires c κs = c .before .before .before .before .pre .0

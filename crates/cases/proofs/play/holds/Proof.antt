@@ -35,7 +35,7 @@ same-tables-requires : tie.Need-same-tables-requires
 same-tables-requires c κs = tt
 
 has-read-requires : tie.Need-has-read-requires
-has-read-requires c κs = c .before .before .before .before .before .before .pre .0
+has-read-requires c κs = c .before .before .before .before .before .before .pre .0 .datapoints
 
 has-found-requires : tie.Need-has-found-requires
 has-found-requires c κs = let b = c .before .before .before .before .before .before in omega (arith, length-take-le (b .args .line .size) (b .args .line .bytes) (within b), b .pre .1)

@@ -3,8 +3,7 @@ use Prim.Native.Nat.{_+_, _-_, _≤_}
 use lib.ListN.{length}
 use native.Mathlib.Omega.{arith}
 use Rattle.script.proofs.LineLaws.{count-fits}
-use Rattle.cases.proofs.BenchLaws.{stands-within}
-use Rattle.cases.proofs.ScriptLaws.{Playing, playing-begins, line-within, line-some, line-there, playing-goes, playing-ends}
+use Rattle.cases.proofs.ScriptLaws.{Playing, playing-begins, stands-within, line-within, line-some, line-there, playing-goes, playing-ends}
 use Rattle.cases.proofs.play.play.Statement.{statement}
 use Rattle.cases.proofs.play.play.Tie as tie
 
@@ -43,14 +42,14 @@ line-end-requires c κs = tt
 add-end : tie.Need-add-end Inv-loop μ-loop
 add-end c = omega (arith, within c)
 
-sub-words : tie.Need-sub-words Inv-loop μ-loop
-sub-words c = search needs
+sub-text : tie.Need-sub-text Inv-loop μ-loop
+sub-text c = search needs
 
-part-words-start : tie.Need-part-words-start Inv-loop μ-loop
-part-words-start c = search needs
+part-text-start : tie.Need-part-text-start Inv-loop μ-loop
+part-text-start c = search needs
 
-part-words-end : tie.Need-part-words-end Inv-loop μ-loop
-part-words-end c = omega (arith, within c)
+part-text-end : tie.Need-part-text-end Inv-loop μ-loop
+part-text-end c = omega (arith, within c)
 
 read-requires : tie.Need-read-requires Inv-loop μ-loop
 read-requires c κs = line-there (c .before .before .before .before .before .before .before .args .script .now) (c .before .before .before .before .loop .at) (c .before .line-end .result) (c .before .before .before .loop-test .taken) (c .before .line-end .ensures)
@@ -69,7 +68,7 @@ holds-requires c κs =
     let l = c .before .before .before .before in
     let i = l .before .before .before .before .before .loop .inv in
     let h : l .read .result .size ≤ 264 = rw (l .read .ensures) (count-fits _) in
-    (stands-within _ h _ _ _ _ (i .told) (i .stands) (c .before .before .before .told .ensures) (c .before .before .acted .ensures), h)
+    (stands-within _ h _ _ _ _ (c .before .before .before .told .ensures) (c .before .before .acted .ensures) (i .told) (i .stands), h)
 
 noted-requires : tie.Need-noted-requires Inv-loop μ-loop
 noted-requires c κs = tt
@@ -89,4 +88,4 @@ returns : tie.Need-returns Inv-loop μ-loop
 returns c = playing-ends _ _ _ _ _ (c .before .loop-test .left) (c .before .before .loop .inv)
 
 pub play-spec : {M : Type 1} → statement M
-play-spec = tie.close (tie.spec Inv-loop μ-loop empty-requires loop-holds sub-line-end part-line-end-start part-line-end-end line-end-requires add-end sub-words part-words-start part-words-end read-requires told-requires acted-requires shown-requires holds-requires noted-requires loop-less loop-again verdict-requires returns)
+play-spec = tie.close (tie.spec Inv-loop μ-loop empty-requires loop-holds sub-line-end part-line-end-start part-line-end-end line-end-requires add-end sub-text part-text-start part-text-end read-requires told-requires acted-requires shown-requires holds-requires noted-requires loop-less loop-again verdict-requires returns)

@@ -1,6 +1,6 @@
 use borrow.Author.Needs.{needs}
 use native.Mathlib.Omega.{arith}
-use Rattle.cases.proofs.ReadLaws.{difference-fits, numbers-decided}
+use Rattle.cases.proofs.ReadLaws.{difference-fits, reading-decided}
 use Rattle.cases.proofs.read.are_numbers.Statement.{statement}
 use Rattle.cases.proofs.read.are_numbers.Tie as tie
 
@@ -19,7 +19,7 @@ float-to-bits-result c = search needs
 returns : tie.Need-returns
 returns c =
     let b = c .before .before .before .before in
-    numbers-decided (b .args .case) (b .args .refusal) (omega (arith, b .fits .case)) (omega (arith, b .fits .refusal)) _ _ _ (record { sfits = c .before .before .struct-told .given .0 .1 })
+    reading-decided (b .args .case) (b .args .refusal) (omega (arith, b .fits .case)) (omega (arith, b .fits .refusal)) _ _ _ (record { sfits = c .before .before .struct-told .given .0 .1 })
 
 pub are-numbers-spec : {M : Type 1} → statement M
 are-numbers-spec = tie.close (tie.spec cast-result cast-result-2 sub-result float-to-bits-result returns)

@@ -13,7 +13,7 @@ raised-requires : tie.Need-raised-requires
 raised-requires c κs = tt
 
 read-requires : tie.Need-read-requires
-read-requires c κs = c .before .before .pre .datapoints
+read-requires c κs = c .before .before .pre
 
 reply-numbers-requires : tie.Need-reply-numbers-requires
 reply-numbers-requires c κs = tt
