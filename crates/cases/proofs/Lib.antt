@@ -1,4 +1,4 @@
-pub mod BenchLaws
+pub mod WithinLaws
 pub mod RunLaws
 pub mod ReadLaws
 pub mod SameLaws

@@ -14,7 +14,7 @@ use Rattle.cases.specs.declared.bench.Bench.{Bench}
 use Rattle.cases.specs.Run.{happened, countSent, quiet, Sends, heard, onlyLast, lastSound, standAfter}
 use Rattle.cases.specs.Same.{Decides}
 use Rattle.cases.specs.Bench.{Within}
-use Rattle.cases.proofs.BenchLaws.{happened-within}
+use Rattle.cases.proofs.WithinLaws.{happened-within}
 use Rattle.cases.proofs.SameLaws.{left-to}
 
 -- ---- what the last call sends

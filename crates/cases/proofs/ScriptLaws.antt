@@ -21,7 +21,7 @@ use Rattle.script.specs.Line.{listed, lines, lineEnd, readLine}
 use Rattle.cases.specs.Burst.{FindsAs}
 use Rattle.cases.specs.Lent.{built}
 use Rattle.cases.specs.Script.{standing, started, marked, numbered, acted, Damaged, Right, AllRight, Played}
-use Rattle.cases.proofs.BenchLaws.{empty-within, built-within, acted-within}
+use Rattle.cases.proofs.WithinLaws.{empty-within, built-within, acted-within}
 use Rattle.script.proofs.LineLaws.{lines-next, end-within, end-some, count-fits}
 
 -- ---- what happens by a line: a law for each letter
