@@ -24,7 +24,6 @@ pub mod LookupLaws
 pub mod MarkLaws
 pub mod MeasureLaws
 pub mod OrderLaws
-pub mod Pairs
 pub mod ParameterLaws
 pub mod PassLaws
 pub mod PlaceLaws

@@ -132,15 +132,15 @@ ends_in t u b ts e w o =
     let v : Within t ts = subst (λ (z : Stretch). Within z ts) (sym e) w in
     subst (λ (z : Bool). t.from + t.size ≤ length (if z then ts.site else ts.defaults)) o v.ends
 
-pub handed : (t u : Stretch) (b : Bool) (site defaults r : Bor (List ℕ)) → t ≡ u → t.ofsite ≡ b → r.ref_ptr.0 ≡ (if b then site else defaults).ptr.0
-    → r.ref_ptr.1 ≡ t.from + (if b then site else defaults).ptr.1
+pub handed : (t u : Stretch) (b : Bool) (site defaults r : Bor (List ℕ)) → t ≡ u → t.ofsite ≡ b → r.ref_ptr.0 ≡ (if b then site else defaults).ref_ptr.0
+    → r.ref_ptr.1 ≡ t.from + (if b then site else defaults).ref_ptr.1
     → r.now ≡ take (t.from + t.size - t.from) (drop t.from (if b then site.now else defaults.now)) → HandedOn u site defaults r
 unfolding stretch_bytes
 handed t u b site defaults r e o l p q =
     subst (λ (z : Stretch). HandedOn z site defaults r) e
     record {
-      list = l ∙ ap (λ (z : Bool). (if z then site else defaults).ptr.0) (sym o);
-      place = p ∙ ap (λ (z : Bool). t.from + (if z then site else defaults).ptr.1) (sym o);
+      list = l ∙ ap (λ (z : Bool). (if z then site else defaults).ref_ptr.0) (sym o);
+      place = p ∙ ap (λ (z : Bool). t.from + (if z then site else defaults).ref_ptr.1) (sym o);
       bytes = q ∙ ap (λ (n : ℕ). take n (drop t.from (if b then site.now else defaults.now))) {x = t.from + t.size - t.from} {y = t.size} (omega arith)
           ∙ ap (λ (z : Bool). take t.size (drop t.from (if z then site.now else defaults.now))) (sym o);
     }

@@ -1,5 +1,7 @@
 // Tables and services as definitions: records, tables, requests, answers, the indication. No function: the code is in
 // `services` and the crates that it stands on.
+#![tactic(auto)]
+
 pub mod bus;
 pub mod code;
 pub mod datapoint;

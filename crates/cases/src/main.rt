@@ -2,6 +2,8 @@
 // out as a line trace; what the server sends and what its tables and its link then hold is compared with what the script
 // says. The file stdin beside src has the examples of document 01, section "Examples", the worked exchange of document
 // 000, section 4.1, and worked cases of document 02.
+#![tactic(auto)]
+
 mod bench;
 mod burst;
 mod lent;

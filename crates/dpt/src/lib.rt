@@ -1,2 +1,4 @@
 // Datapoint types: how a datapoint's value is read as a number, as definitions. No function: the code is in `readings`.
+#![tactic(auto)]
+
 pub mod reading;

@@ -1,2 +1,4 @@
 // The entries of answers, one record each.
+#![tactic(auto)]
+
 pub mod entry;

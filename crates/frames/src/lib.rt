@@ -1,2 +1,4 @@
 // The frames of FT1.2: built into a lent buffer, and tested.
+#![tactic(auto)]
+
 pub mod frame;

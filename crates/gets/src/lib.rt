@@ -1,3 +1,5 @@
 // The gets: entries gathered into an answer.
+#![tactic(auto)]
+
 pub mod gather;
 pub mod get;

@@ -1,2 +1,4 @@
 // SetParameterByte.
+#![tactic(auto)]
+
 pub mod parameter;

@@ -7,7 +7,7 @@ use Prim.Native.Nat.{ℕ, ◌+◌}
 use mathlib.Core.List.{List, [], ◌∷◌, map-id}
 use lib.ListN.{length}
 use seplogic.Ra.Ura.{Ura}
-use seplogic.Ra.TreeShare.{full_share}
+use base.Fraction.{full_share}
 use mir.Syntax.{named, erased, Name, Place, Opd as Operand, seq, call, Body as Code}
 use mir.Val.{Val, vptr}
 use base.Logic.{ent, emp, id⊢}

@@ -1,2 +1,4 @@
 // A message carried out.
+#![tactic(auto)]
+
 pub mod service;

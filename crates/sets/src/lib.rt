@@ -1,2 +1,4 @@
 // The sets of items and datapoints: entries found, judged, then applied.
+#![tactic(auto)]
+
 pub mod set;

@@ -1,3 +1,5 @@
 // Text lists, and the text that an ID has in them.
+#![tactic(auto)]
+
 pub mod text;
 pub mod text_list;

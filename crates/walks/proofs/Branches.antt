@@ -12,7 +12,7 @@ use Prim.Native.Nat.{ℕ, zero, suc}
 use mathlib.Core.Bool.{Bool, true, false, not}
 use mathlib.Core.List.{List}
 use seplogic.Ra.Ura.{Ura}
-use mir.Syntax.{Width, Body, Opd as Operand, Arms, skip, seq, assign, block, loop, cond, switch, exit, return, call, arm, default, no_default}
+use mir.Syntax.{Width, Body, Opd as Operand, Arms, skip, seq, assign, block, loop, cond, switch, exit, return, call, unreachable, call_v, lend_static, arm, default, no_default}
 use mir.Val.{vint, vbool}
 use base.Logic.{SProp, ent, id⊢, via}
 use prog.Wp.{Out, next, exits, returns, Env, Wp, WpArms, after_seq, Tables, Calls, Loops}
@@ -70,6 +70,9 @@ arm_of (switch c arms) k = nth_arm arms k
 arm_of (exit n) k = skip
 arm_of return k = skip
 arm_of (call f xs d) k = skip
+arm_of unreachable k = skip
+arm_of (call_v _ _ _ _) k = skip
+arm_of (lend_static _ _ _) k = skip
 
 module _ {M : Type 1} {𝓤 : Ura M} {𝓛 : Logic 𝓤} {K : Type 0} {Γ : List (Item 𝓤)} {E : Env 𝓤 𝓛.H} {C : Calls 𝓤 𝓛.H} {Λ : Loops 𝓤 𝓛.H} {q : Post 𝓤 𝓛.H} where
   -- the arm is walked, and then the code after the match
@@ -91,6 +94,9 @@ in_line (switch c arms) rest = seq (switch c arms) rest
 in_line (exit n) rest = seq (exit n) rest
 in_line return rest = seq return rest
 in_line (call f xs d) rest = seq (call f xs d) rest
+in_line unreachable rest = seq unreachable rest
+in_line (call_v f g xs d) rest = seq (call_v f g xs d) rest
+in_line (lend_static p q r) rest = seq (lend_static p q r) rest
 
 module _ {M : Type 1} {𝓤 : Ura M} (𝓛 : Logic 𝓤) (𝓣 : Tables 𝓤 𝓛.H) (E : Env 𝓤 𝓛.H) (Q : Out → SProp 𝓤) where
   open 𝓛 use {H}
@@ -124,6 +130,9 @@ module _ {M : Type 1} {𝓤 : Ura M} (𝓛 : Logic 𝓤) (𝓣 : Tables 𝓤 �
   laid (exit n) rest = id⊢ 𝓤 _
   laid return rest = id⊢ 𝓤 _
   laid (call f xs d) rest = id⊢ 𝓤 _
+  laid unreachable rest = id⊢ 𝓤 _
+  laid (call_v f g xs d) rest = id⊢ 𝓤 _
+  laid (lend_static p q r) rest = id⊢ 𝓤 _
 
 module _ {M : Type 1} {𝓤 : Ura M} {𝓛 : Logic 𝓤} {K : Type 0} {Γ : List (Item 𝓤)} {E : Env 𝓤 𝓛.H} {q : Post 𝓤 𝓛.H} where
   -- a branch, with the code after it taken into both arms

@@ -16,7 +16,7 @@ use lib.WfN.{lt-wf_rel}
 use lib.Dec.{T}
 use lib.ListN.{length, get_or, set, drop as drop_l}
 use seplogic.Ra.Ura.{Ura}
-use seplogic.Ra.TreeShare.{full_share}
+use base.Fraction.{full_share}
 use mir.Syntax.{Ty, Body, Rv as RValue, seq, assign, copy}
 use mir.Val.{Val, WT, has_ty}
 use base.Fml.{Share, Fml, fat, froom, fdies}

@@ -8,7 +8,7 @@ use Rattle.walks.proofs.Parts.{shares_prefix, prefix_unshared}
 use Rattle.walks.proofs.Locals.{local_part, part_local}
 use Rattle.std.proofs.Common.{◌≡◌, ℕ, ◌+◌, ◌*◌, ◌^◌, ◌<◌, ◌≤◌, List, [], ◌∷◌, length, take, sym, refl, arith}
 use seplogic.Ra.Ura.{Ura}
-use seplogic.Ra.TreeShare.{full_share}
+use base.Fraction.{full_share}
 use mir.Val.{Val}
 use base.Logic.{SProp, emp, via, fst∗, id⊢}
 use base.Fml.{Lft, Share}

@@ -9,7 +9,7 @@ use Rattle.walks.proofs.Parts.{lends_prefix, prefix_back}
 use Rattle.walks.proofs.Locals.{local_part, part_local}
 use Rattle.std.proofs.Common.{◌≡◌, ℕ, ◌≤◌, List, [], ◌∷◌, ◌++◌, length, take, drop as drop_l, sym, refl, ap, map-id, arith, w8, Bor}
 use seplogic.Ra.Ura.{Ura}
-use seplogic.Ra.TreeShare.{full_share}
+use base.Fraction.{full_share}
 use mir.Val.{vptr}
 use base.Logic.{SProp, emp, via, fst∗, id⊢}
 use base.Fml.{Lft, Share, GName, Fml, fres}

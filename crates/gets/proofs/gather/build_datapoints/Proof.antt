@@ -15,7 +15,7 @@ use mathlib.Core.List.{List, [], ◌∷◌, ◌++◌}
 use lib.ListN.{length, get_or, set, length-set, length-append, take as takeL, drop as drop_l}
 use lib.Dec.{T as Holds, leb, ltb, ltb→lt, nltb→le, leb→le}
 use seplogic.Ra.Ura.{Ura}
-use seplogic.Ra.TreeShare.{full_share}
+use base.Fraction.{full_share}
 use mir.Syntax.{w64, ty_ptr}
 use mir.Val.{Val, vint, vptr}
 use base.Logic.{SProp, ent, emp, id⊢}

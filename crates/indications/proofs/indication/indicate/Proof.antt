@@ -13,7 +13,7 @@ use mathlib.Core.List.{List, [], ◌∷◌}
 use lib.ListN.{length, get_or}
 use lib.Dec.{T as Holds, eqb, eqb→eq}
 use seplogic.Ra.Ura.{Ura}
-use seplogic.Ra.TreeShare.{full_share}
+use base.Fraction.{full_share}
 use mir.Syntax.{w64}
 use mir.Val.{Val, vint}
 use base.Logic.{SProp, ent, emp, id⊢}

@@ -13,7 +13,7 @@ use lib.Dec.{T, eqb, ltb, leb, eqb→eq}
 use lib.ListN.{length, take, drop, get_or, set, length-set, length-drop, take-append-drop}
 use lib.Seq.{length-take-le}
 use seplogic.Ra.Ura.{Ura}
-use seplogic.Ra.TreeShare.{full_share}
+use base.Fraction.{full_share}
 use mir.Syntax.{w8, w16, w64, ty_ptr, ty_int, ty_ref, imm, erased}
 use mir.Val.{Val, vptr}
 use base.Logic.{SProp, emp, via, fst∗, id⊢}

@@ -8,7 +8,7 @@ use Rattle.walks.proofs.Loops.{by_measure, stack, val, lets, sets}
 use Rattle.std.proofs.Common.{◌≡◌, ℕ, suc, ◌+◌, ◌-◌, ◌*◌, ◌^◌, ◌<◌, ◌≤◌, Bool, true, false, not, ◌&&◌, T as Holds, ltb, List, [], ◌∷◌, length, get_or, drop as drop_l, sym, refl, ap, ◌∙◌, arith, lit<, ltb→lt, nltb→le, w16, w64, Bor}
 use mathlib.Core.Option.{none, some}
 use seplogic.Ra.Ura.{Ura}
-use seplogic.Ra.TreeShare.{full_share}
+use base.Fraction.{full_share}
 use mir.Syntax.{ty_ptr}
 use mir.Val.{Val, vint, vbool, vptr}
 use base.Logic.{SProp, ent, emp, id⊢, via, fst∗}

@@ -12,7 +12,7 @@ use mathlib.Core.List.{List, [], ◌∷◌}
 use lib.ListN.{length, get_or, set}
 use lib.Dec.{lit<, leb→le, nleb→lt}
 use seplogic.Ra.Ura.{Ura}
-use seplogic.Ra.TreeShare.{full_share}
+use base.Fraction.{full_share}
 use mir.Syntax.{erased, ty_ptr}
 use mir.Val.{Val, vptr}
 use base.Logic.{SProp, ent, emp, id⊢}

@@ -12,7 +12,7 @@ use mathlib.Core.List.{[], ◌∷◌, List}
 use lib.Dec.{T, eqb, lit<}
 use lib.ListN.{length}
 use seplogic.Ra.Ura.{Ura}
-use seplogic.Ra.TreeShare.{full_share}
+use base.Fraction.{full_share}
 use mir.Syntax.{w16, erased}
 use mir.Val.{Val, vptr}
 use base.Logic.{SProp, emp, via, fst∗, id⊢}

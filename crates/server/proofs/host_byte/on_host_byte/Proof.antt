@@ -13,7 +13,7 @@ use mathlib.Core.List.{[], ◌∷◌, List}
 use lib.Dec.{T, eqb, eqb→eq}
 use lib.ListN.{length}
 use seplogic.Ra.Ura.{Ura}
-use seplogic.Ra.TreeShare.{full_share}
+use base.Fraction.{full_share}
 use mir.Val.{Val, vptr}
 use base.Logic.{SProp, emp, id⊢}
 use base.Fml.{Lft, Share, fres}

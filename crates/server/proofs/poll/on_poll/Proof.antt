@@ -13,7 +13,7 @@ use mathlib.Core.List.{[], ◌∷◌, List}
 use lib.Dec.{T}
 use lib.ListN.{length, take, drop}
 use seplogic.Ra.Ura.{Ura}
-use seplogic.Ra.TreeShare.{full_share}
+use base.Fraction.{full_share}
 use mir.Syntax.{w16}
 use mir.Val.{Val, vptr}
 use base.Logic.{SProp, emp, id⊢}

@@ -14,7 +14,7 @@ use lib.ListN.{length, get_or, set, drop}
 use lib.Seq.{get_or-drop}
 use lib.Dec.{T, eqb, leb→le, nleb→lt, eqb→eq}
 use seplogic.Ra.Ura.{Ura}
-use seplogic.Ra.TreeShare.{full_share}
+use base.Fraction.{full_share}
 use mir.Syntax.{ty_ptr}
 use mir.Val.{Val, vunit, vptr}
 use base.Logic.{SProp, ent, emp, id⊢}

@@ -15,7 +15,7 @@ use mathlib.Core.List.{List, [], ◌∷◌, ◌++◌, map}
 use lib.ListN.{length, set, drop as drop_l}
 use lib.Dec.{T as Holds, eqb, ltb, ltb→lt, nltb→le, lit<}
 use seplogic.Ra.Ura.{Ura}
-use seplogic.Ra.TreeShare.{full_share}
+use base.Fraction.{full_share}
 use mir.Syntax.{w16, w64, ty_ptr}
 use mir.Val.{Val, vint, vbool, vptr}
 use base.Logic.{SProp, ent, emp, id⊢}

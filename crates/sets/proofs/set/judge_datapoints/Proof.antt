@@ -15,7 +15,7 @@ use mathlib.Core.List.{List, [], ◌∷◌, map}
 use lib.ListN.{length, get_or, take, drop}
 use lib.Dec.{T, ltb, ltb→lt, nltb→le, lit<}
 use seplogic.Ra.Ura.{Ura}
-use seplogic.Ra.TreeShare.{full_share}
+use base.Fraction.{full_share}
 use mir.Syntax.{w16, w64}
 use mir.Val.{Val, vint, vptr}
 use base.Logic.{SProp, ent, emp, id⊢}

@@ -13,7 +13,7 @@ use mathlib.Core.List.{[], ◌∷◌, ◌++◌, List, map}
 use lib.Dec.{T, lit<}
 use lib.ListN.{length, take, drop, replicate}
 use seplogic.Ra.Ura.{Ura}
-use seplogic.Ra.TreeShare.{full_share}
+use base.Fraction.{full_share}
 use mir.Syntax.{erased}
 use mir.Val.{Val}
 use base.Logic.{SProp, emp, id⊢}

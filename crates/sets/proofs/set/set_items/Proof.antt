@@ -12,7 +12,7 @@ use mathlib.Core.List.{[], ◌∷◌, List, map}
 use lib.Dec.{lit<}
 use lib.ListN.{length, drop}
 use seplogic.Ra.Ura.{Ura}
-use seplogic.Ra.TreeShare.{full_share}
+use base.Fraction.{full_share}
 use mir.Val.{Val}
 use base.Logic.{SProp, emp, id⊢}
 use base.Fml.{Lft, Share}
