@@ -1,7 +1,7 @@
 // What the bus has for a datapoint.
 
 // What becomes of a transmission on the bus.
-#[derive(Drop)]
+#[derive(Clone, Copy)]
 pub enum Outcome {
     Sent,
     Failed,
@@ -9,7 +9,7 @@ pub enum Outcome {
 }
 
 // A bus event at the datapoint of an ID: a value, which is lent beside it, or the outcome of a transmission.
-#[derive(Drop)]
+#[derive(Clone, Copy)]
 pub enum BusEvent {
     Value,
     Transmission(Outcome),

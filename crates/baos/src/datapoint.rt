@@ -2,7 +2,7 @@
 
 // A datapoint: one record of the lent run of records.
 #[repr(C)]
-#[derive(Drop)]
+#[derive(Clone, Copy)]
 pub struct Datapoint {
     pub id: u16,
     pub typecode: u8,

@@ -2,7 +2,7 @@
 // definitions stand in specs/Inner.
 
 // What is to be gathered.
-#[derive(Drop)]
+#[derive(Clone, Copy)]
 pub struct Wanted {
     pub start: u16,
     // The first ID behind the range: start + number, which 16 bits do not hold.
@@ -13,7 +13,7 @@ pub struct Wanted {
 }
 
 // What the first pass has found.
-#[derive(Drop)]
+#[derive(Clone, Copy)]
 pub struct Gathered {
     pub count: u16,
     // How many bytes the entries take.
@@ -25,21 +25,21 @@ pub struct Gathered {
 }
 
 // How many datapoints an indication carries, and where their entries end.
-#[derive(Drop)]
+#[derive(Clone, Copy)]
 pub struct Told {
     pub count: u16,
     pub end: usize,
 }
 
 // What the checks of a request find: an ID and a code, 0 where nothing is wrong.
-#[derive(Drop)]
+#[derive(Clone, Copy)]
 pub struct Verdict {
     pub id: u16,
     pub code: u8,
 }
 
 // An entry of a set of datapoints: where it begins in the message, and the place where the datapoint of its ID belongs.
-#[derive(Drop)]
+#[derive(Clone, Copy)]
 pub struct EntryPlace {
     pub at: u16,
     pub place: u16,
@@ -47,7 +47,7 @@ pub struct EntryPlace {
 
 // What the first pass over strings has found, and where it stands in the two text lists: the fields of `Gathered` and
 // of `Cursors`, side by side, since the proofs of the passes read one field deep.
-#[derive(Drop)]
+#[derive(Clone, Copy)]
 pub struct Strings {
     pub count: u16,
     pub size: usize,
@@ -58,7 +58,7 @@ pub struct Strings {
 }
 
 // Where the second pass over strings stands: in the buffer, and in the two text lists.
-#[derive(Drop)]
+#[derive(Clone, Copy)]
 pub struct StringsEnd {
     pub end: usize,
     pub site: usize,
@@ -66,7 +66,7 @@ pub struct StringsEnd {
 }
 
 // Where a search stands in the two text lists.
-#[derive(Drop)]
+#[derive(Clone, Copy)]
 pub struct Cursors {
     pub site: usize,
     pub defaults: usize,

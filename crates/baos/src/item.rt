@@ -2,7 +2,7 @@
 
 // A server item.
 #[repr(C)]
-#[derive(Drop)]
+#[derive(Clone, Copy)]
 pub struct Item {
     pub id: u16,
     // How many bytes of data it has, 1 to 16.

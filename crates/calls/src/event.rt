@@ -2,7 +2,7 @@
 use baos::bus::Outcome;
 
 // The six things that happen. The value of a bus value is lent beside it.
-#[derive(Drop)]
+#[derive(Clone, Copy)]
 pub enum Event {
     HostByte(u8),
     IdleMark,

@@ -8,7 +8,7 @@ pub const LEAST_PLACES: usize = 2048;
 pub const BAD_BURST: u8 = 8;
 
 // "whether the burst ended clean, in damage or in an unfinished frame"
-#[derive(Drop)]
+#[derive(Clone, Copy)]
 pub enum Ending {
     Clean,
     Damaged,
@@ -16,7 +16,7 @@ pub enum Ending {
 }
 
 // "how many sound frames (ignored ones too) and acknowledgements it found", and how the burst ended.
-#[derive(Drop)]
+#[derive(Clone, Copy)]
 pub struct Figures {
     pub frames: u16,
     pub acknowledgements: u16,
@@ -24,7 +24,7 @@ pub struct Figures {
 }
 
 // What the reader of bursts answers: the refusal's number, or what it found.
-#[derive(Drop)]
+#[derive(Clone, Copy)]
 pub enum BurstReply {
     Refused(u8),
     Read(Figures),
@@ -33,7 +33,7 @@ pub enum BurstReply {
 // The same as C has it: minus the refusal's number, or the place of the ending in the paper's list, 1 to 3; and the two
 // counts, 0 where the burst was refused.
 #[repr(C)]
-#[derive(Drop)]
+#[derive(Clone, Copy)]
 pub struct BurstNumbers {
     pub number: i32,
     pub frames: u16,

@@ -1,7 +1,7 @@
 // The byte-wise receiver: what a byte is after those gathered before it.
 
 // What a byte is, after the bytes gathered before it.
-#[derive(Drop)]
+#[derive(Clone, Copy)]
 pub enum Judgement {
     // It fits, and the frame is not yet whole.
     More,

@@ -1,7 +1,7 @@
 // What the link rules find.
 
 // What a host byte is to the link.
-#[derive(Drop)]
+#[derive(Clone, Copy)]
 pub enum Heard {
     // A byte of a frame that is not yet whole.
     Gathered,
@@ -20,7 +20,7 @@ pub enum Heard {
 }
 
 // The two count bits and the count of resends, as the record holds them.
-#[derive(Drop)]
+#[derive(Clone, Copy)]
 pub struct Bits {
     pub expected: u8,
     pub send: u8,

@@ -3,7 +3,7 @@ ghost use Rattle.std.specs.Prelude.{◌≡◌, [], ◌∷◌};
 ghost use Rattle.masks.specs.Mask.{word, are_clear};
 
 // Bits of two words of eight bytes.
-#[derive(Drop)]
+#[derive(Clone, Copy)]
 pub struct Masks {
     pub low: u64,
     pub high: u64,
