@@ -8,16 +8,10 @@ returns-then-f-ne-DATA_START c =
     let a = c.args in
     other_start a.f.now (length a.f.now - 6) a.c (omega arith) (omega arith)
 
-pub overflow_cast-f : goal.overflow_cast-f
-overflow_cast-f c = omega (arith, c.shared_slice_known-2-1.given 1)
-
 pub returns-then-f-count : goal.returns-then-f-count
 returns-then-f-count c =
     let a = c.args in
     other_count a.f.now (length a.f.now - 6) a.c (omega arith) (omega arith)
-
-pub overflow_cast-f-2 : goal.overflow_cast-f-2
-overflow_cast-f-2 c = omega (arith, c.shared_slice_known-3-1.given 2)
 
 pub returns-then-f-count-2 : goal.returns-then-f-count-2
 returns-then-f-count-2 c =

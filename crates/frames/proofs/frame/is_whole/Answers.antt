@@ -12,16 +12,16 @@ returns-then-n-gt-LONGEST_FRAME c = whole_long _ _ (omega arith)
 pub returns-then-f-n : goal.returns-then-f-n
 returns-then-f-n c =
     let s = c in
-    let h = s.before.before.before in
-    let a = h.before.before.before.before.args in
-    whole_end a.c a.f.now (omega arith) (omega arith) (sym s.before.before.if3.true ∙ h.is-headed.ensures) s.checksum.result s.checksum.ensures (omega arith)
+    let h = s in
+    let a = h.args in
+    whole_end a.c a.f.now (omega arith) (omega arith) (sym s.if-is_headed.true ∙ h.is_headed.ensures) s.checksum-sum.result s.checksum-sum.ensures (omega arith)
 
 pub returns-then-is_headed : goal.returns-then-is_headed
 returns-then-is_headed c =
     let s = c in
-    let h = s.before.before.before in
-    let a = h.before.before.before.before.args in
-    whole_sum a.c a.f.now (omega arith) (omega arith) (sym s.before.before.if3.true ∙ h.is-headed.ensures) s.checksum.result s.checksum.ensures (omega arith)
+    let h = s in
+    let a = h.args in
+    whole_sum a.c a.f.now (omega arith) (omega arith) (sym s.if-is_headed.true ∙ h.is_headed.ensures) s.checksum-sum.result s.checksum-sum.ensures (omega arith)
 
 pub returns : goal.returns
 returns c = whole_head _ _ (sym c.if-is_headed.false ∙ c.is_headed.ensures)

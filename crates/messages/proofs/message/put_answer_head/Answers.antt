@@ -15,4 +15,4 @@ pub returns : goal.returns
 unfolding sub_service
 returns c =
     let a = c.args in
-    written_as a.out.now a.at c.put_head.ensures (ap (λ (s : ℕ). 0xF0 ∷ (sub_service a.m.now + 0x80) ∷ two_bytes s ++ two_bytes a.count) (sym c.start_of_lem.ensures))
+    written_as a.out.now a.at c.put_head.ensures (ap (λ (s : ℕ). 0xF0 ∷ (sub_service a.m.now + 0x80) ∷ two_bytes s ++ two_bytes a.count) (sym c.start_of-start.ensures))

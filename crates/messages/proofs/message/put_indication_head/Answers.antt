@@ -4,7 +4,6 @@ use native.Mathlib.Numerals.{towards_suc}
 use native.Mathlib.Omega.{arith}
 use lib.ListN.{length-set}
 use Rattle.words.proofs.ByteLaws.{put_sets}
-use borrow.Author.Rules.{rules}
 use Rattle.messages.proofs.message.put_indication_head.Goals as goal
 
 pub bounds-out-at-4 : goal.bounds-out-at-4
@@ -21,9 +20,6 @@ bounds-out-at-7 c = simp length-set (omega arith)
 
 pub bounds-out-at-8 : goal.bounds-out-at-8
 bounds-out-at-8 c = simp length-set (omega arith)
-
-pub shape_of-out : goal.shape_of-out
-shape_of-out c = search rules depth 12
 
 pub returns : goal.returns
 returns c =

@@ -8,14 +8,14 @@ use Rattle.ft12.specs.Burst.{three_numbers, burst_numbers}
 use Rattle.numbers.proofs.burst.burst_numbers.Goals as goal
 
 pub overflow_sub-result : goal.overflow_sub-result
-overflow_sub-result c = fits_minus c.reply-1.given.0.0 (omega (arith, c.known_told-1.given))
+overflow_sub-result c = fits_minus c.in-Refused.number (omega (arith, c.in-Refused.known_told-1-own.given))
 
 pub returns-in-Refused : goal.returns-in-Refused
 unfolding burst_numbers
-returns-in-Refused c = rw c.reply-1.given.1 (ap (λ (z : ℤ). three_numbers z 0 0) (is_minus c.reply-1.given.0.0 (omega (arith, c.known_told-1.given))))
+returns-in-Refused c = rw c.in-Refused.is (ap (λ (z : ℤ). three_numbers z 0 0) (is_minus c.in-Refused.number (omega (arith, c.in-Refused.known_told-1-own.given))))
 
 pub returns-in-Read : goal.returns-in-Read
 unfolding burst_numbers
 returns-in-Read c =
-    let f = c.reply-in-Read-1.given.0.0 in
-    rw c.reply-in-Read-1.given.1 (ap (λ (z : ℤ). three_numbers z f.frames f.acknowledgements) (is_plus c.ending_number.result (omega (arith, c.ending_number.ensures, ending_small f.ending)) ∙ ap pos c.ending_number.ensures))
+    let f = c.in-Read.figures in
+    rw c.in-Read.is (ap (λ (z : ℤ). three_numbers z f.frames f.acknowledgements) (is_plus c.ending_number.result (omega (arith, c.ending_number.ensures, ending_small f.ending)) ∙ ap pos c.ending_number.ensures))

@@ -1,7 +1,6 @@
-use Prim.Native.Nat.{◌+◌}
 use mathlib.Core.Path.{sym, ◌∙◌}
 use native.Mathlib.Omega.{arith}
-use Rattle.baos.proofs.TextListLaws.{entry_here, for_end, for_other, for_found}
+use Rattle.baos.proofs.TextListLaws.{entry_here_lem, for_end, for_other, for_found}
 use Rattle.texts.proofs.text.size_at.Goals as goal
 
 pub returns-then-list-at : goal.returns-then-list-at
@@ -12,7 +11,7 @@ returns-then-list-at c =
 pub id_at-requires : goal.id_at-requires
 id_at-requires c =
     let b = c in
-    let e = entry_here b.args.id b.args.at b.args.list.now b.requires.0 b.requires.1 (omega arith) in
+    let e = entry_here_lem b.args.id b.args.at b.args.list.now b.requires.0 b.requires.1 (omega arith) in
     omega (arith, e.whole)
 
 pub returns-then-id_at-id : goal.returns-then-id_at-id
@@ -23,11 +22,8 @@ returns-then-id_at-id c =
 pub bounds-list-at : goal.bounds-list-at
 bounds-list-at c =
     let b = c in
-    let e = entry_here b.args.id b.args.at b.args.list.now b.requires.0 b.requires.1 (omega arith) in
+    let e = entry_here_lem b.args.id b.args.at b.args.list.now b.requires.0 b.requires.1 (omega arith) in
     omega (arith, e.whole)
-
-pub overflow_cast-result : goal.overflow_cast-result
-overflow_cast-result c = omega (arith, c.shared_slice_known-2-1.given (c.args.at + 2))
 
 pub returns : goal.returns
 returns c =

@@ -20,9 +20,6 @@ returns-then-left-lt-ENTRY_HEAD c =
 pub bounds-list-at : goal.bounds-list-at
 bounds-list-at c = omega arith
 
-pub overflow_cast-size : goal.overflow_cast-size
-overflow_cast-size c = omega (arith, c.shared_slice_known-in-loop-at-1.given (c.loop-at.at + 2))
-
 pub returns-then-size-gt-LONGEST_TEXT : goal.returns-then-size-gt-LONGEST_TEXT
 returns-then-size-gt-LONGEST_TEXT c =
     let l = c.loop-at in

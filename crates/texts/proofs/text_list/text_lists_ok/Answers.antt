@@ -20,7 +20,7 @@ pub returns-then-not-text_list_ok : goal.returns-then-not-text_list_ok
 unfolding text_lists_ok
 returns-then-not-text_list_ok c =
     let a = c.args in
-    sym (ap (λ (b : Bool). b && text_list_ok a.defaults.now) (sym c.text_list_ok.ensures ∙ is_false _ c.if-not-text_list_ok.true))
+    sym (ap (λ (b : Bool). b && text_list_ok a.defaults.now) (sym c.text_list_ok.ensures ∙ is_false _ (ap not c.if-not-text_list_ok.true)))
 
 pub text_list_ok-requires-2 : goal.text_list_ok-requires-2
 text_list_ok-requires-2 c = tt
@@ -30,4 +30,4 @@ unfolding text_lists_ok
 returns c =
     let a = c.args in
     c.text_list_ok-2.ensures
-    ∙ sym (ap (λ (b : Bool). b && text_list_ok a.defaults.now) (sym c.text_list_ok.ensures ∙ is_true _ c.if-not-text_list_ok.false))
+    ∙ sym (ap (λ (b : Bool). b && text_list_ok a.defaults.now) (sym c.text_list_ok.ensures ∙ is_true _ (ap not c.if-not-text_list_ok.false)))

@@ -28,9 +28,6 @@ bounds-list-place c =
     let b = search_entry a.id l.place a.list.now l.invariant (omega arith) in
     omega (arith, b.whole)
 
-pub overflow_cast-place : goal.overflow_cast-place
-overflow_cast-place c = omega (arith, c.shared_slice_known-in-loop-place-1.given (c.loop-place.place + 2))
-
 pub overflow_add-place-in-loop-place : goal.overflow_add-place-in-loop-place
 overflow_add-place-in-loop-place c = omega (arith, c.shared_slice_known-in-loop-place-1.given (c.loop-place.place + 2))
 

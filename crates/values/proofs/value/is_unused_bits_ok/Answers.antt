@@ -13,9 +13,6 @@ use Rattle.values.proofs.value.is_unused_bits_ok.Goals as goal
 pub returns-then-value-eq0 : goal.returns-then-value-eq0
 returns-then-value-eq0 c = sym (none_unused _ _ (omega arith))
 
-pub overflow_cast-first : goal.overflow_cast-first
-overflow_cast-first c = omega (arith, c.shared_slice_known-1.given 0)
-
 pub returns-then-typecode-gt14 : goal.returns-then-typecode-gt14
 unfolding unused_bits_ok
 returns-then-typecode-gt14 c =
