@@ -39,6 +39,7 @@ pub mod TableLaws
 pub mod TextLaws
 pub mod TextListLaws
 pub mod Types
+pub mod Pairs
 pub mod ValueLaws
 pub mod WideLaws
 pub mod WrittenLaws

@@ -38,40 +38,40 @@ use Rattle.baos.proofs.bus.BusEvent.TheLaws as B'
 use Rattle.walks.proofs.Data.{Data, Good, struct_d, enum_d, uint_d}
 
 abbrev pub datapoint_d : Data
-datapoint_d = struct_d D.the_type D'.the_laws D'.the_plain (λ x f. refl)
+datapoint_d = struct_d D.the_type D'.the_laws D'.the_plain D'.the_copy (λ x f. refl)
 
 abbrev pub item_d : Data
-item_d = struct_d I.the_type I'.the_laws I'.the_plain (λ x f. refl)
+item_d = struct_d I.the_type I'.the_laws I'.the_plain I'.the_copy (λ x f. refl)
 
 abbrev pub wanted_d : Data
-wanted_d = struct_d W.the_type W'.the_laws W'.the_plain (λ x f. refl)
+wanted_d = struct_d W.the_type W'.the_laws W'.the_plain W'.the_copy (λ x f. refl)
 
 abbrev pub gathered_d : Data
-gathered_d = struct_d G.the_type G'.the_laws G'.the_plain (λ x f. refl)
+gathered_d = struct_d G.the_type G'.the_laws G'.the_plain G'.the_copy (λ x f. refl)
 
 abbrev pub told_d : Data
-told_d = struct_d Said.the_type Said'.the_laws Said'.the_plain (λ x f. refl)
+told_d = struct_d Said.the_type Said'.the_laws Said'.the_plain Said'.the_copy (λ x f. refl)
 
 abbrev pub verdict_d : Data
-verdict_d = struct_d Judged.the_type Judged'.the_laws Judged'.the_plain (λ x f. refl)
+verdict_d = struct_d Judged.the_type Judged'.the_laws Judged'.the_plain Judged'.the_copy (λ x f. refl)
 
 abbrev pub entry_place_d : Data
-entry_place_d = struct_d Sought.the_type Sought'.the_laws Sought'.the_plain (λ x f. refl)
+entry_place_d = struct_d Sought.the_type Sought'.the_laws Sought'.the_plain Sought'.the_copy (λ x f. refl)
 
 abbrev pub cursors_d : Data
-cursors_d = struct_d C.the_type C'.the_laws C'.the_plain (λ x f. refl)
+cursors_d = struct_d C.the_type C'.the_laws C'.the_plain C'.the_copy (λ x f. refl)
 
 abbrev pub strings_d : Data
-strings_d = struct_d S.the_type S'.the_laws S'.the_plain (λ x f. refl)
+strings_d = struct_d S.the_type S'.the_laws S'.the_plain S'.the_copy (λ x f. refl)
 
 abbrev pub strings_end_d : Data
-strings_end_d = struct_d E.the_type E'.the_laws E'.the_plain (λ x f. refl)
+strings_end_d = struct_d E.the_type E'.the_laws E'.the_plain E'.the_copy (λ x f. refl)
 
 abbrev pub outcome_d : Data
-outcome_d = enum_d O.the_type O'.the_laws tt O'.the_plain (λ x f. refl)
+outcome_d = enum_d O.the_type O'.the_laws tt O'.the_plain O'.the_copy (λ x f. refl)
 
 abbrev pub bus_event_d : Data
-bus_event_d = enum_d B.the_type B'.the_laws tt B'.the_plain (λ x f. refl)
+bus_event_d = enum_d B.the_type B'.the_laws tt B'.the_plain B'.the_copy (λ x f. refl)
 
 abbrev pub byte_d : Data
 byte_d = uint_d w8

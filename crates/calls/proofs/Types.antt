@@ -7,7 +7,7 @@ use Rattle.calls.specs.contracts.event.Event as E
 use Rattle.calls.proofs.event.Event.TheLaws as E'
 
 abbrev pub reply_d : Data
-reply_d = enum_d R.the_type R'.the_laws tt R'.the_plain (λ x f. refl)
+reply_d = enum_d R.the_type R'.the_laws tt R'.the_plain R'.the_copy (λ x f. refl)
 
 abbrev pub event_d : Data
-event_d = enum_d E.the_type E'.the_laws tt E'.the_plain (λ x f. refl)
+event_d = enum_d E.the_type E'.the_laws tt E'.the_plain E'.the_copy (λ x f. refl)

@@ -25,7 +25,7 @@ use Rattle.cases.specs.contracts.bench.Bench as B
 use Rattle.cases.proofs.bench.Bench.TheLaws as B'
 
 abbrev pub bench_d : Data
-bench_d = struct_d B.the_type B'.the_laws B'.the_plain (λ x f. refl)
+bench_d = struct_d B.the_type B'.the_laws B'.the_plain B'.the_copy (λ x f. refl)
 
 -- a count
 abbrev count : Member

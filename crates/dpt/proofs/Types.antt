@@ -7,7 +7,7 @@ use Rattle.dpt.specs.contracts.reading.ReadingNumbers as N
 use Rattle.dpt.proofs.reading.ReadingNumbers.TheLaws as N'
 
 abbrev pub reading_reply_d : Data
-reading_reply_d = enum_d R.the_type R'.the_laws tt R'.the_plain (λ x f. refl)
+reading_reply_d = enum_d R.the_type R'.the_laws tt R'.the_plain R'.the_copy (λ x f. refl)
 
 abbrev pub reading_numbers_d : Data
-reading_numbers_d = struct_d N.the_type N'.the_laws N'.the_plain (λ x f. refl)
+reading_numbers_d = struct_d N.the_type N'.the_laws N'.the_plain N'.the_copy (λ x f. refl)

@@ -23,10 +23,10 @@ abbrev pub size_d : Data
 size_d = uint_d w64
 
 abbrev pub link_d : Data
-link_d = struct_d L.the_type L'.the_laws L'.the_plain (λ x f. refl)
+link_d = struct_d L.the_type L'.the_laws L'.the_plain L'.the_copy (λ x f. refl)
 
 abbrev pub heard_d : Data
-heard_d = enum_d K.the_type K'.the_laws tt K'.the_plain (λ x f. refl)
+heard_d = enum_d K.the_type K'.the_laws tt K'.the_plain K'.the_copy (λ x f. refl)
 
 -- the rows of the record's two memories
 abbrev pub receiver_r : RattleType

@@ -1,5 +1,5 @@
 -- Plain data, and references to it.
---     Data                             a type of plain data: its row, the machine value of each value, its laws
+--     Data                             a type of plain data: its row, the machine value of each value, its laws, and those of a `&` to a value of it
 --     uintD, boolD, unitD              numbers, bools, and nothing
 --     structD, enum_d                   a declared struct, a declared enum
 --     Good, good, typed                what is known of a value of the type; the same from any machine value; its machine value has MIR's type
@@ -18,15 +18,16 @@ use base.Logic.{sep, emp, via, emp∗, mono_l}
 use base.Fml.{Lft, GName, Fml, ftrue}
 use types.Logic.{Logic, sem}
 use contract.Monad.{fact_use}
-use denote.RattleType.{RattleType}
+use denote.RattleType.{RattleType, RowLaws}
 use denote.Laws.{Is, Tells, Lawful, Makes, Typed, shows, Copy}
 use denote.Ref.{MutRef, ShrRef}
 use denote.Slice.{slice_val, MutSlice, ShrSlice}
+use denote.Copied.{Copied, uint_Copied, bool_Copied, Nothing-Copied}
 use denote.Steps.{only}
 use denote.Exit.{yes, Last, left}
 use denote.Struct.Struct.{Plains}
 use denote.Enum.Enum.{Few, Plainss}
-use denote.Plain.{Nothing, Nothing-Tells, Nothing-Lawful, Nothing-Makes, UInt, Boolean, bool_Tells, bool_Lawful, bool_Makes, uint_Tells, uint_Lawful, uint_Makes}
+use denote.Plain.{Nothing, Nothing-Tells, Nothing-Lawful, Nothing-Makes, UInt, Boolean, uint_row_laws, bool-row_laws, unit-row_laws, bool_Tells, bool_Lawful, bool_Makes, uint_Tells, uint_Lawful, uint_Makes}
 use denote.Struct.Declared as SD
 use denote.Struct.Laws as SL
 use denote.Enum.Declared as ED
@@ -44,28 +45,32 @@ pub record Data : Type 2 where
   pub lawful : {M : Type 1} {𝓤 : Ura M} (𝓛 : Logic 𝓤) → Lawful 𝓛 row
   -- what a value owns is had for nothing
   pub made : {M : Type 1} {𝓤 : Ura M} (𝓛 : Logic 𝓤) → Makes 𝓛 row (Is row)
+  -- what a `&` to a value holds can be had twice, and at each lifetime that ends no later
+  pub shr_laws : RowLaws row
+  -- a `&` to a value is made of any share of it, with no token, and is looked into
+  pub copied : {M : Type 1} {𝓤 : Ura M} (𝓛 : Logic 𝓤) → Copied 𝓛 row
   -- nothing is said of it at exit: `λ x f. refl` at each type that is written out
   pub silent : (x : row.Denot) (f : Last (row.exit yes) x) → left (row.exit yes) x f ≡ ftrue
 
 -- unsigned integers
 abbrev pub uint_d : Width → Data
-uint_d w = record { row = UInt w; val = λ n. vint w n; tells = uint_Tells w; lawful = λ 𝓛. uint_Lawful 𝓛 w; made = λ 𝓛. uint_Makes 𝓛 w; silent = λ x f. refl }
+uint_d w = record { row = UInt w; val = λ n. vint w n; tells = uint_Tells w; lawful = λ 𝓛. uint_Lawful 𝓛 w; made = λ 𝓛. uint_Makes 𝓛 w; shr_laws = uint_row_laws w; copied = λ 𝓛. uint_Copied 𝓛 w; silent = λ x f. refl }
 
 -- bools
 abbrev pub bool_d : Data
-bool_d = record { row = Boolean; val = λ t. vbool t; tells = bool_Tells; lawful = λ 𝓛. bool_Lawful 𝓛; made = λ 𝓛. bool_Makes 𝓛; silent = λ x f. refl }
+bool_d = record { row = Boolean; val = λ t. vbool t; tells = bool_Tells; lawful = λ 𝓛. bool_Lawful 𝓛; made = λ 𝓛. bool_Makes 𝓛; shr_laws = bool-row_laws; copied = λ 𝓛. bool_Copied 𝓛; silent = λ x f. refl }
 
 -- nothing, `()`
 abbrev pub unit_d : Data
-unit_d = record { row = Nothing; val = λ _. vunit; tells = Nothing-Tells; lawful = λ 𝓛. Nothing-Lawful 𝓛; made = λ 𝓛. Nothing-Makes 𝓛; silent = λ x f. refl }
+unit_d = record { row = Nothing; val = λ _. vunit; tells = Nothing-Tells; lawful = λ 𝓛. Nothing-Lawful 𝓛; made = λ 𝓛. Nothing-Makes 𝓛; shr_laws = unit-row_laws; copied = λ 𝓛. Nothing-Copied 𝓛; silent = λ x f. refl }
 
--- a declared struct: `struct_d T.the_type T'.the_laws T'.the_plain (λ x f. refl)`
-abbrev pub struct_d : (T : SD.Declared) (L : SL.Laws T) → Plains (SD.fields T) → ((x : (SD.row T).Denot) (f : Last ((SD.row T).exit yes) x) → left ((SD.row T).exit yes) x f ≡ ftrue) → Data
-struct_d T L P sil = record { row = SD.row T; val = SL.val T L; tells = SL.tells T L; lawful = λ 𝓛. SL.lawful T L 𝓛; made = λ 𝓛. SL.makes T P 𝓛; silent = sil }
+-- a declared struct: `struct_d T.the_type T'.the_laws T'.the_plain T'.the_copy (λ x f. refl)`
+abbrev pub struct_d : (T : SD.Declared) (L : SL.Laws T) → Plains (SD.fields T) → SL.Copyables T.parts → ((x : (SD.row T).Denot) (f : Last ((SD.row T).exit yes) x) → left ((SD.row T).exit yes) x f ≡ ftrue) → Data
+struct_d T L P C sil = record { row = SD.row T; val = SL.val T L; tells = SL.tells T L; lawful = λ 𝓛. SL.lawful T L 𝓛; made = λ 𝓛. SL.makes T P 𝓛; shr_laws = λ x. (SL.field_copy T C).shr_laws (T.to x); copied = λ 𝓛. SL.copied T C 𝓛; silent = sil }
 
--- a declared enum: `enum_d T.the_type T'.the_laws tt T'.the_plain (λ x f. refl)`
-abbrev pub enum_d : (T : ED.Declared) (L : EL.Laws T) → Few (ED.shape T) → Plainss (ED.variants T) → ((x : (ED.row T).Denot) (f : Last ((ED.row T).exit yes) x) → left ((ED.row T).exit yes) x f ≡ ftrue) → Data
-enum_d T L few P sil = record { row = ED.row T; val = EL.val T L; tells = EL.tells T L; lawful = λ 𝓛. EL.lawful T L 𝓛 few; made = λ 𝓛. EL.makes T P 𝓛; silent = sil }
+-- a declared enum: `enum_d T.the_type T'.the_laws tt T'.the_plain T'.the_copy (λ x f. refl)`
+abbrev pub enum_d : (T : ED.Declared) (L : EL.Laws T) → Few (ED.shape T) → Plainss (ED.variants T) → EL.Copyabless T.parts → ((x : (ED.row T).Denot) (f : Last ((ED.row T).exit yes) x) → left ((ED.row T).exit yes) x f ≡ ftrue) → Data
+enum_d T L few P C sil = record { row = ED.row T; val = EL.val T L; tells = EL.tells T L; lawful = λ 𝓛. EL.lawful T L 𝓛 few; made = λ 𝓛. EL.makes T P 𝓛; shr_laws = λ x. (EL.field_copy T C).shr_laws (T.to x); copied = λ 𝓛. EL.copied T C 𝓛; silent = sil }
 
 -- x is a value of the type: what whoever holds one knows
 abbrev pub Good : (D : Data) → D.row.Denot → Type 0
@@ -94,14 +99,14 @@ module _ {M : Type 1} {𝓤 : Ura M} (𝓛 : Logic 𝓤) where
 abbrev pub Mut : (D : Data) → Lft → ℕ → ℕ → GName → D.row.Denot → Fml
 Mut D κ b o γ x = (MutRef erased κ D.row).own_val (record { ref_ptr = (b, o); ghost_name = γ; now = x }) (vptr b o ∷ [])
 
--- of a `&κ D`
-abbrev pub Shr : (D : Data) → Lft → ℕ → ℕ → GName → D.row.Denot → Fml
-Shr D κ b o γ x = (ShrRef erased κ D.row).own_val (record { ref_ptr = (b, o); now = x }) (vptr b o ∷ [])
+-- of a `&κ D`, which has no name
+abbrev pub Shr : (D : Data) → Lft → ℕ → ℕ → D.row.Denot → Fml
+Shr D κ b o x = (ShrRef erased κ D.row).own_val (record { ref_ptr = (b, o); now = x }) (vptr b o ∷ [])
 
 -- what the holder of a `&κ mut [D]` at (b, o) under γ owns, at the list xs, where its count is n; and of a `&κ [D]`
 abbrev pub MutS : (D : Data) → Lft → ℕ → ℕ → GName → ℕ → List D.row.Denot → Fml
 MutS D κ b o γ n xs = (MutSlice erased κ D.row).own_val (record { ref_ptr = (b, o); ghost_name = γ; now = xs }) (slice_val (b, o) n ∷ [])
 
 -- of a `&κ [D]`
-abbrev pub ShrS : (D : Data) → Lft → ℕ → ℕ → GName → ℕ → List D.row.Denot → Fml
-ShrS D κ b o γ n xs = (ShrSlice erased κ D.row).own_val (record { ref_ptr = (b, o); now = xs }) (slice_val (b, o) n ∷ [])
+abbrev pub ShrS : (D : Data) → Lft → ℕ → ℕ → ℕ → List D.row.Denot → Fml
+ShrS D κ b o n xs = (ShrSlice erased κ D.row).own_val (record { ref_ptr = (b, o); now = xs }) (slice_val (b, o) n ∷ [])

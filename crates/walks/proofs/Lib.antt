@@ -1,3 +1,10 @@
 pub mod Data
+pub mod Walk
 pub mod Branches
+pub mod Fields
+pub mod Slices
+pub mod Calls
+pub mod Parts
+pub mod Locals
 pub mod Loops
+pub mod Repeated
