@@ -15,7 +15,6 @@ mod same;
 mod step;
 
 use crate::play::play;
-use libc::STDIN_FILENO;
 use script::print::{counted, text};
 use std::num::wrapping_add_u8;
 
@@ -36,6 +35,9 @@ fn cases(s: &[u8]) {
     text(&s[from..]);
     counted(count, right);
 }
+
+// Standard input, as the C library numbers it.
+const STDIN_FILENO: i32 = 0;
 
 // What stands behind so many bytes of the input is not played.
 const MOST_INPUT: usize = 131072;

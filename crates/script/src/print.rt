@@ -1,5 +1,6 @@
 // The trace, on standard output. No contract can say what is written: these functions are proved safe and ending.
-use libc::STDOUT_FILENO;
+// Standard output, as the C library numbers it.
+const STDOUT_FILENO: i32 = 1;
 
 pub fn text(s: &[u8]) {
     io::write_all(STDOUT_FILENO, s);
