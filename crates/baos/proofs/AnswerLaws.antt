@@ -7,7 +7,8 @@ use native.Mathlib.Omega.{arith}
 use lib.ListN.{length, get_or, length-append}
 use lib.Dec.{T, leb, ltb, eqb, leb→le, le→leb}
 use borrow.Author.Tests.{ltb-false, leb-true}
-use Rattle.words.specs.Words.{if◌then◌else◌, is_yes, is_empty, every, keep}
+use Rattle.std.specs.Prelude.{if◌then◌else◌}
+use Rattle.words.specs.Words.{is_yes, is_empty, every, keep}
 use Rattle.words.proofs.WordLaws.{left, true_T, every_map, every_true, every-keep}
 use Rattle.baos.specs.declared.datapoint.Datapoint.{Datapoint}
 use Rattle.baos.specs.declared.item.Item.{Item}

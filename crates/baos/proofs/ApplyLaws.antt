@@ -8,7 +8,7 @@ use lib.ListN.{length, get_or, take, drop, set, length-drop}
 use lib.Seq.{get_or-drop, take-suc}
 use borrow.Author.Tests.{eq-eqb, ne_eqb}
 use lib.Dec.{eqb}
-use Rattle.words.specs.Words.{if◌then◌else◌}
+use Rattle.std.specs.Prelude.{if◌then◌else◌}
 use Rattle.baos.specs.declared.datapoint.Datapoint.{Datapoint}
 use Rattle.baos.specs.Datapoint.{with_valid, with_request, with_status, with_state, with_value, commanded, zero_datapoint}
 use Rattle.baos.specs.Set.{span, first_datapoint_entry, set_datapoint}

@@ -8,7 +8,8 @@ use lib.ListN.{length, replicate}
 use lib.Seq.{take_at}
 use lib.Dec.{T, leb, ltb, eqb, leb→le, ltb→lt, lt→ltb, eqb→eq}
 use borrow.Author.Tests.{eqb-true}
-use Rattle.words.specs.Words.{if◌then◌else◌, is_yes_or_no, pad, is_padded}
+use Rattle.std.specs.Prelude.{if◌then◌else◌}
+use Rattle.words.specs.Words.{is_yes_or_no, pad, is_padded}
 use Rattle.words.proofs.WordLaws.{left, right, both, parts3, parts4, join3, join4, pad_padded, padded_decided}
 use Rattle.baos.specs.declared.datapoint.Datapoint.{Datapoint}
 use Rattle.baos.specs.declared.item.Item.{Item}

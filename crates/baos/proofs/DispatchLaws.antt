@@ -5,7 +5,7 @@ use mathlib.Core.Bool.{Bool, true, false}
 use mathlib.Core.List.{List, []}
 use lib.Dec.{eqb}
 use borrow.Author.Tests.{eqb-true}
-use Rattle.words.specs.Words.{if◌then◌else◌}
+use Rattle.std.specs.Prelude.{if◌then◌else◌}
 use Rattle.baos.specs.Table.{Tables}
 use Rattle.baos.specs.Message.{sub_service, start_of, coded, Served}
 use Rattle.baos.specs.Get.{get_server_item, get_datapoint_description, get_description_string, get_datapoint_value, get_parameter_byte}

@@ -9,7 +9,8 @@ use lib.Dec.{eqb}
 use lib.ListN.{length, get_or, take, drop, set}
 use lib.Seq.{get_or-drop, drop-drop, set-get_or}
 use borrow.Author.Tests.{eq-eqb, ne_eqb, lt-ltb, le-ltb}
-use Rattle.words.specs.Words.{if◌then◌else◌, of_two_bytes}
+use Rattle.std.specs.Prelude.{if◌then◌else◌}
+use Rattle.words.specs.Words.{of_two_bytes}
 use Rattle.baos.specs.Datapoint.{datapoint_id, zero_datapoint, commanded}
 use Rattle.baos.specs.Item.{item_id, zero_item, with_bytes}
 use Rattle.baos.specs.Lookup.{lookup_of, is_present}

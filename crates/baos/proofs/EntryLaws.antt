@@ -8,7 +8,8 @@ use lib.ListN.{length, get_or, take, drop, replicate}
 use lib.Seq.{sets, length-take-le, take-suc}
 use lib.Dec.{leb, eqb}
 use borrow.Author.Tests.{eqb-true, eq-eqb, ne_eqb, le-leb, lt-leb}
-use Rattle.words.specs.Words.{if◌then◌else◌, pad, put, is_empty}
+use Rattle.std.specs.Prelude.{if◌then◌else◌}
+use Rattle.words.specs.Words.{pad, put, is_empty}
 use Rattle.words.proofs.WordLaws.{true_T}
 use Rattle.words.proofs.ByteLaws.{length-put, put_sets, put-put, put_in_front}
 use Rattle.baos.specs.declared.datapoint.Datapoint.{Datapoint}

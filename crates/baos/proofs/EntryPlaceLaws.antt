@@ -11,7 +11,7 @@ use lib.Seq.{get_or-drop, drop-drop, drop-cons, set_at, append_snoc, take_at}
 use lib.Dec.{leb, ltb, eqb}
 use borrow.Author.Tests.{lt-leb, le-leb}
 use denote.Struct.Laws as LL
-use Rattle.words.specs.Words.{if◌then◌else◌}
+use Rattle.std.specs.Prelude.{if◌then◌else◌}
 use Rattle.words.proofs.WordLaws.{true_T}
 use Rattle.baos.specs.declared.datapoint.Datapoint.{Datapoint}
 use Rattle.baos.specs.declared.inner.EntryPlace.{EntryPlace}

@@ -7,7 +7,8 @@ use native.Mathlib.Omega.{arith}
 use lib.ListN.{length, drop}
 use lib.Dec.{T, eqb, leb, ltb}
 use borrow.Author.Tests.{lt-leb, ne_eqb, eqb-true}
-use Rattle.words.specs.Words.{if◌then◌else◌, is_empty, keep, every}
+use Rattle.std.specs.Prelude.{if◌then◌else◌}
+use Rattle.words.specs.Words.{is_empty, keep, every}
 use Rattle.words.proofs.WordLaws.{left, right}
 use Rattle.baos.specs.declared.datapoint.Datapoint.{Datapoint}
 use Rattle.baos.specs.declared.item.Item.{Item}

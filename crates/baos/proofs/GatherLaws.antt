@@ -7,7 +7,8 @@ use native.Mathlib.Omega.{arith}
 use lib.ListN.{length, get_or, take, drop, length-append, length-map, take-append-drop}
 use lib.Dec.{T, leb, ltb, eqb, ltb→lt, lt→ltb, leb→le}
 use borrow.Author.Tests.{lt-ltb, le-ltb, le-leb, lt-leb, eq-eqb, ne_eqb, ltb-true, ltb-false, leb-true, eqb-true, eqb-false}
-use Rattle.words.specs.Words.{if◌then◌else◌, two_bytes, is_empty, every, keep}
+use Rattle.std.specs.Prelude.{if◌then◌else◌}
+use Rattle.words.specs.Words.{two_bytes, is_empty, every, keep}
 use Rattle.words.proofs.WordLaws
 use Rattle.baos.specs.declared.datapoint.Datapoint.{Datapoint}
 use Rattle.baos.specs.declared.item.Item.{Item}

@@ -6,7 +6,8 @@ use mathlib.Core.Path.{◌≡◌, refl, ◌∙◌, ap}
 use native.Mathlib.Omega.{arith}
 use lib.Dec.{ltb, eqb}
 use lib.ListN.{length, get_or}
-use Rattle.words.specs.Words.{if◌then◌else◌, is_empty}
+use Rattle.std.specs.Prelude.{if◌then◌else◌}
+use Rattle.words.specs.Words.{is_empty}
 use Rattle.baos.specs.Inner.Gather.{filter_asked, size_asked, request_finding}
 use Rattle.baos.specs.Get.{AnswerEntry, overflow, room_for_entries, listing, get_finding, getting}
 use Rattle.baos.specs.Message.{sub_service, start_of, number_of, coded, Finding, fine, bad, verdict_of, Served, answer_of, after_of, served}

@@ -6,7 +6,8 @@ use mathlib.Core.List.{List, [], ◌∷◌, map}
 use lib.ListN.{length, drop}
 use lib.Dec.{T, leb, eqb, eqb→eq}
 use borrow.Author.Tests.{eq-eqb}
-use Rattle.words.specs.Words.{if◌then◌else◌, is_yes, is_empty, every, put}
+use Rattle.std.specs.Prelude.{if◌then◌else◌}
+use Rattle.words.specs.Words.{is_yes, is_empty, every, put}
 use Rattle.words.proofs.WordLaws.{left, right, both, parts3, parts4, join3, join4, true_T, T_true, every_imp, every_true}
 use Rattle.baos.specs.declared.datapoint.Datapoint.{Datapoint}
 use Rattle.baos.specs.declared.item.Item.{Item}

@@ -7,7 +7,8 @@ use native.Mathlib.Omega.{arith}
 use native.Mathlib.Decide.{ℕ_discrete}
 use lib.Dec.{T, leb, ltb, eqb, ltb→lt}
 use borrow.Author.Tests.{le-leb, lt-leb, lt-ltb, eq-eqb, ne_eqb, eqb-true}
-use Rattle.words.specs.Words.{if◌then◌else◌, keep, every}
+use Rattle.std.specs.Prelude.{if◌then◌else◌}
+use Rattle.words.specs.Words.{keep, every}
 use Rattle.words.proofs.WordLaws.{left, right}
 use Rattle.baos.specs.Table.{rising, found}
 use Rattle.baos.specs.Message.{start_of, number_of}

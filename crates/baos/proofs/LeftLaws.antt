@@ -8,7 +8,8 @@ use lib.ListN.{length, drop, length-drop, get_or}
 use lib.Seq.{drop-drop}
 use borrow.Author.Tests.{eq-eqb, eqb-true}
 use lib.Dec.{T, leb, eqb, leb→le, le→leb}
-use Rattle.words.specs.Words.{if◌then◌else◌, is_yes_or_no, is_yes, every, is_empty, is_padded, are_zero}
+use Rattle.std.specs.Prelude.{if◌then◌else◌}
+use Rattle.words.specs.Words.{is_yes_or_no, is_yes, every, is_empty, is_padded, are_zero}
 use Rattle.words.proofs.WordLaws.{left, right, parts3, true_T, T_true}
 use Rattle.baos.specs.declared.datapoint.Datapoint.{Datapoint}
 use Rattle.baos.specs.declared.item.Item.{Item}

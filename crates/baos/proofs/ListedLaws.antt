@@ -10,7 +10,8 @@ use lib.ListN.{length, get_or, take, drop, length-append, length-drop, take-appe
 use lib.Seq.{drop-drop, drop-append_seam, take-append_seam, length-take-le}
 use lib.Dec.{T, ltb, eqb, ltb→lt}
 use borrow.Author.Tests.{lt-ltb, le-ltb, le-leb, eq-eqb, eqb-true}
-use Rattle.words.specs.Words.{if◌then◌else◌, of_two_bytes, keep, every, are_bytes}
+use Rattle.std.specs.Prelude.{if◌then◌else◌}
+use Rattle.words.specs.Words.{of_two_bytes, keep, every, are_bytes}
 use Rattle.words.proofs.WordLaws.{left, right, both, T_true, true_T, bytes_drop}
 use Rattle.baos.specs.TextList.{ListEntry, list_entry_bytes, list_bytes, MadeOf, EntryAt, span_of, is_entry, first_entry, entries_from, entries_at, entries_in, bytes_taken, rise_from, text_list_ok}
 use Rattle.baos.specs.Text.{entries_for}

@@ -9,7 +9,8 @@ use lib.Dec.{leb, ltb, eqb}
 use lib.ListN.{length, get_or, take, drop, length-drop}
 use lib.Seq.{take_all, length-take-le}
 use borrow.Author.Tests.{lt-ltb, le-ltb, le-leb, lt-leb, eq-eqb, ne_eqb, ltb-true, ltb-false, eqb-false}
-use Rattle.words.specs.Words.{if◌then◌else◌, two_bytes, keep, is_empty}
+use Rattle.std.specs.Prelude.{if◌then◌else◌}
+use Rattle.words.specs.Words.{two_bytes, keep, is_empty}
 use Rattle.baos.specs.Inner.Gather.{filter_asked, size_asked, request_finding, parameters_present}
 use Rattle.baos.specs.Get.{AnswerEntry, in_request, overflow, listing, parameter_entries, get_parameter_byte}
 use Rattle.baos.specs.Message.{sub_service, start_of, number_of, coded, verdict_of, Served}

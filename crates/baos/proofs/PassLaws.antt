@@ -9,7 +9,8 @@ use mathlib.Core.List.{List, [], ◌∷◌, ◌++◌}
 use lib.ListN.{length, get_or, set, take, drop, drop_of_length-le, length-append, take-append-drop}
 use lib.Dec.{T, leb, ltb, leb→le}
 use borrow.Author.Tests.{ltb-false}
-use Rattle.words.specs.Words.{if◌then◌else◌, is_yes_or_no, is_padded, every, put}
+use Rattle.std.specs.Prelude.{if◌then◌else◌}
+use Rattle.words.specs.Words.{is_yes_or_no, is_padded, every, put}
 use Rattle.words.proofs.WordLaws.{left as left-part, right as right-part, parts3, padded_decided, every_suffix}
 use Rattle.words.proofs.ByteLaws.{length-put, put-put}
 use Rattle.ft12.proofs.EventLaws.{put_none}

@@ -8,7 +8,8 @@ use mathlib.Core.List.{List, [], ◌∷◌, map}
 use lib.ListN.{length, get_or, set, drop}
 use lib.Dec.{T, leb, ltb, eqb, ltb→lt, lt→ltb, leb→le, le→leb}
 use borrow.Author.Tests.{lt-ltb, le-ltb, ltb-true, ltb-false, ne_eqb}
-use Rattle.words.specs.Words.{if◌then◌else◌, every}
+use Rattle.std.specs.Prelude.{if◌then◌else◌}
+use Rattle.words.specs.Words.{every}
 use Rattle.words.proofs.WordLaws.{left, right, both, parts3, true_T, same_test}
 use Rattle.baos.specs.Table.{rising, table_ok, found, changed_at, place}
 

@@ -8,7 +8,8 @@ use lib.ListN.{length, get_or, drop}
 use lib.Seq.{sets}
 use lib.Dec.{T, ltb, ltb→lt}
 use denote.Ref.{Bor}
-use Rattle.words.specs.Words.{if◌then◌else◌, keep, put}
+use Rattle.std.specs.Prelude.{if◌then◌else◌}
+use Rattle.words.specs.Words.{keep, put}
 use Rattle.words.proofs.WordLaws.{left, right}
 use Rattle.words.proofs.ByteLaws.{put_sets, put-put}
 use Rattle.baos.specs.declared.datapoint.Datapoint.{Datapoint}

@@ -9,7 +9,8 @@ use native.Mathlib.Nat.{not-suc-le-zero, le_of_suc-le-suc}
 use lib.ListN.{length, get_or, length-map}
 use lib.Dec.{T, leb, ltb, eqb, ltb→lt, lt→ltb}
 use borrow.Author.Tests.{ne_eqb, eqb-true}
-use Rattle.words.specs.Words.{if◌then◌else◌, every}
+use Rattle.std.specs.Prelude.{if◌then◌else◌}
+use Rattle.words.specs.Words.{every}
 use Rattle.words.proofs.WordLaws.{left, right, both, parts3, join3}
 use Rattle.baos.specs.Table.{Tables, rising, Rises, table_ok, found, changed_at}
 use Rattle.baos.specs.Set.{SetEntry, applied}

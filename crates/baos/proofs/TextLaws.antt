@@ -9,7 +9,8 @@ use lib.Seq.{length-take-le}
 use lib.Dec.{T, leb, leb→le, le→leb}
 use borrow.Author.Tests.{ne_eqb}
 use denote.Ref.{Bor}
-use Rattle.words.specs.Words.{if◌then◌else◌, every}
+use Rattle.std.specs.Prelude.{if◌then◌else◌}
+use Rattle.words.specs.Words.{every}
 use Rattle.words.proofs.WordLaws.{left, right, both, T_true, true_T, every-keep}
 use Rattle.baos.specs.declared.text.Stretch.{Stretch}
 use Rattle.baos.specs.declared.inner.Cursors.{Cursors}

@@ -10,7 +10,8 @@ use lib.ListN.{length, get_or, drop, length-drop}
 use lib.Seq.{get_or-drop, drop-drop}
 use lib.Dec.{leb, ltb, eqb, leb→le}
 use borrow.Author.Tests.{lt-ltb, le-ltb, le-leb, lt-leb, eq-eqb, ne_eqb, ltb-true, ltb-false, eqb-true, eqb-false}
-use Rattle.words.specs.Words.{if◌then◌else◌, of_two_bytes, keep}
+use Rattle.std.specs.Prelude.{if◌then◌else◌}
+use Rattle.words.specs.Words.{of_two_bytes, keep}
 use Rattle.words.proofs.WordLaws.{left, right, parts3, T_true, true_T}
 use Rattle.baos.specs.TextList.{EntryAt, span_of, is_entry, first_entry, entries_from, entries_at, entries_in, bytes_taken, rise_from, text_list_ok}
 use Rattle.baos.specs.Text.{entries_for}

@@ -10,7 +10,7 @@ use lib.ListN.{length, get_or}
 use lib.Dec.{T, ltb, eqb, eqb→eq}
 use lib.Pow.{pow-add, pow_mono, pow_pos}
 use borrow.Author.Tests.{lt-ltb, le-ltb, eq-eqb, ne_eqb, ltb-true, ltb-false}
-use Rattle.words.specs.Words.{if◌then◌else◌}
+use Rattle.std.specs.Prelude.{if◌then◌else◌}
 use Rattle.words.proofs.WordLaws.{left, right}
 use Rattle.baos.specs.Datapoint.{size_of, limit_of, unused_bits_ok, is_value}
 

@@ -1,6 +1,6 @@
 -- One datapoint record: its value's size by type code, its state byte, when it is well formed, and how it changes.
-use Rattle.std.specs.Prelude.{ℕ, ◌+◌, ◌-◌, ◌*◌, ◌/◌, ◌%◌, ◌^◌, Bool, ◌&&◌, ◌||◌, List, length, get_or, take, replicate, leb, ltb, eqb}
-use Rattle.words.specs.Words.{if◌then◌else◌, is_yes_or_no, pad, is_padded}
+use Rattle.std.specs.Prelude.{if◌then◌else◌, ℕ, ◌+◌, ◌-◌, ◌*◌, ◌/◌, ◌%◌, ◌^◌, Bool, ◌&&◌, ◌||◌, List, length, get_or, take, replicate, leb, ltb, eqb}
+use Rattle.words.specs.Words.{is_yes_or_no, pad, is_padded}
 use Rattle.baos.specs.declared.datapoint.Datapoint.{Datapoint}
 
 -- "Type codes: 0 to 6 are 1 to 7 bits in the low bits of one byte; 7 is 1 byte; 8, 9, 10, 11, 12, 13, 14 are 2, 3, 4,

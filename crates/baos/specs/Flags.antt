@@ -1,7 +1,6 @@
 -- Config flags in laws: the bits that commands need (document 02, item 2), and tables with other flags, for laws to
 -- compare with. No promise uses these words.
-use Rattle.std.specs.Prelude.{ℕ, Bool, true, ◌&&◌, map, eqb}
-use Rattle.words.specs.Words.{if◌then◌else◌}
+use Rattle.std.specs.Prelude.{if◌then◌else◌, ℕ, Bool, true, ◌&&◌, map, eqb}
 use Rattle.baos.specs.declared.datapoint.Datapoint.{Datapoint}
 use Rattle.baos.specs.Datapoint.{is_send}
 use Rattle.baos.specs.Lookup.{communicates, transmits}

@@ -1,7 +1,7 @@
 -- The gets: GetServerItem, GetDatapointDescription, GetDescriptionString, GetDatapointValue, GetParameterByte.
-use Rattle.std.specs.Prelude.{ℕ, suc, ◌+◌, ◌-◌, Bool, true, false, not, ◌&&◌, ◌||◌, length, get_or, leb, ltb, eqb}
+use Rattle.std.specs.Prelude.{if◌then◌else◌, ℕ, suc, ◌+◌, ◌-◌, Bool, true, false, not, ◌&&◌, ◌||◌, length, get_or, leb, ltb, eqb}
 use mathlib.Core.List.{List, [], ◌∷◌, ◌++◌, map, flatten}
-use Rattle.words.specs.Words.{if◌then◌else◌, two_bytes, keep, is_empty}
+use Rattle.words.specs.Words.{two_bytes, keep, is_empty}
 use Rattle.ft12.specs.Frame.{longest_message}
 use Rattle.baos.specs.Text.{TextLists, text_of}
 use Rattle.baos.specs.declared.datapoint.Datapoint.{Datapoint}

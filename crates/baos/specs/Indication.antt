@@ -1,6 +1,6 @@
 -- DatapointValue.Ind: marked datapoints in rising ID, while they fit.
-use Rattle.std.specs.Prelude.{ℕ, ◌-◌, Bool, ◌&&◌, List, [], ◌∷◌, map, length, leb}
-use Rattle.words.specs.Words.{if◌then◌else◌, is_yes, keep}
+use Rattle.std.specs.Prelude.{if◌then◌else◌, ℕ, ◌-◌, Bool, ◌&&◌, List, [], ◌∷◌, map, length, leb}
+use Rattle.words.specs.Words.{is_yes, keep}
 use Rattle.baos.specs.declared.datapoint.Datapoint.{Datapoint}
 use Rattle.baos.specs.Datapoint.{with_mark, handed_out}
 use Rattle.baos.specs.Table.{Tables, with_datapoints}

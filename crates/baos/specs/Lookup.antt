@@ -1,8 +1,7 @@
 -- Document 02, item 2: "Looking up an ID has three findings from now on: absent, present but closed (bit 2 off), present
 -- and open, and each service says which it treats alike." (What the checks of a request find is another thing, the
 -- `Finding` of Message.)
-use Rattle.std.specs.Prelude.{ℕ, ◌/◌, ◌%◌, Bool, true, false, List, [], ◌∷◌, eqb}
-use Rattle.words.specs.Words.{if◌then◌else◌}
+use Rattle.std.specs.Prelude.{if◌then◌else◌, ℕ, ◌/◌, ◌%◌, Bool, true, false, List, [], ◌∷◌, eqb}
 use Rattle.baos.specs.declared.datapoint.Datapoint.{Datapoint}
 use Rattle.baos.specs.declared.lookup.Lookup.{Lookup}
 use Rattle.baos.specs.declared.lookup.Lookup.TheVariants.{Absent, Closed, Open}

@@ -1,6 +1,5 @@
 -- Carrying out a message.
-use Rattle.std.specs.Prelude.{ℕ, Bool, not, ◌||◌, List, [], length, leb, ltb, eqb}
-use Rattle.words.specs.Words.{if◌then◌else◌}
+use Rattle.std.specs.Prelude.{if◌then◌else◌, ℕ, Bool, not, ◌||◌, List, [], length, leb, ltb, eqb}
 use Rattle.baos.specs.Table.{Tables}
 use Rattle.baos.specs.Message.{main_service, sub_service, start_of, coded, Served}
 use Rattle.baos.specs.Get.{get_server_item, get_datapoint_description, get_description_string, get_datapoint_value}

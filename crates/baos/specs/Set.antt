@@ -1,6 +1,6 @@
 -- The sets: SetServerItem, SetDatapointValue, SetParameterByte.
-use Rattle.std.specs.Prelude.{ℕ, zero, suc, ◌+◌, ◌-◌, Bool, true, false, not, ◌&&◌, ◌||◌, List, [], ◌∷◌, length, get_or, take, drop, leb, ltb, eqb}
-use Rattle.words.specs.Words.{if◌then◌else◌, is_yes, of_two_bytes, keep, is_empty, every, put}
+use Rattle.std.specs.Prelude.{if◌then◌else◌, ℕ, zero, suc, ◌+◌, ◌-◌, Bool, true, false, not, ◌&&◌, ◌||◌, List, [], ◌∷◌, length, get_or, take, drop, leb, ltb, eqb}
+use Rattle.words.specs.Words.{is_yes, of_two_bytes, keep, is_empty, every, put}
 use Rattle.baos.specs.declared.datapoint.Datapoint.{Datapoint}
 use Rattle.baos.specs.declared.item.Item.{Item}
 use Rattle.baos.specs.declared.lookup.Lookup.{Lookup}

@@ -1,6 +1,6 @@
 -- The tables, when they are well formed, and how an entry is found and changed. One rule for items and datapoints.
-use Rattle.std.specs.Prelude.{ℕ, suc, ◌≤◌, ◌<◌, Bool, true, ◌&&◌, List, [], ◌∷◌, map, length, get_or, leb, ltb, eqb}
-use Rattle.words.specs.Words.{if◌then◌else◌, every}
+use Rattle.std.specs.Prelude.{if◌then◌else◌, ℕ, suc, ◌≤◌, ◌<◌, Bool, true, ◌&&◌, List, [], ◌∷◌, map, length, get_or, leb, ltb, eqb}
+use Rattle.words.specs.Words.{every}
 use Rattle.baos.specs.Text.{TextLists, no_text_lists, text_lists_ok}
 use Rattle.baos.specs.declared.datapoint.Datapoint.{Datapoint}
 use Rattle.baos.specs.declared.item.Item.{Item}

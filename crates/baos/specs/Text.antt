@@ -1,9 +1,9 @@
 -- The text of an ID: "the text comes from the site list, failing that the default list, where that has a non-empty
 -- entry for the ID, else it is the empty start of the default list, and it is handed on as that stretch of whichever
 -- list held it" (document 02, item 1).
-use Rattle.std.specs.Prelude.{ℕ, ◌+◌, ◌≡◌, Bool, true, false, ◌&&◌, List, [], ◌∷◌, take, drop, ltb, eqb}
+use Rattle.std.specs.Prelude.{cond, if◌then◌else◌, ℕ, ◌+◌, ◌≡◌, Bool, true, false, ◌&&◌, List, [], ◌∷◌, take, drop, ltb, eqb}
 use Rattle.std.specs.Borrow.{Bor}
-use Rattle.words.specs.Words.{if◌then◌else◌, keep}
+use Rattle.words.specs.Words.{keep}
 use Rattle.baos.specs.declared.text.Stretch.{Stretch}
 use Rattle.baos.specs.TextList.{EntryAt, entries_in, text_list_ok}
 
@@ -37,7 +37,7 @@ stretch_of id ts = chosen (entries_for id ts.site) (entries_for id ts.defaults)
 
 -- "whichever list held it"
 abbrev pub holder {ℓ} : {A : Type ℓ} → Stretch → A → A → A
-holder s site defaults = if s.ofsite then site else defaults
+holder s site defaults = cond s.ofsite site defaults
 
 -- the bytes of that stretch
 unfoldable pub stretch_bytes : Stretch → TextLists → List ℕ

@@ -4,7 +4,8 @@ use mathlib.Core.List.{map-append}
 use native.Mathlib.Decide.{ℕ_discrete}
 use lib.ListN.{length-map}
 use lib.Seq.{append_snoc}
-use Rattle.words.specs.Words.{if◌then◌else◌, yes_or_no, put, keep}
+use Rattle.std.specs.Prelude.{if◌then◌else◌}
+use Rattle.words.specs.Words.{yes_or_no, put, keep}
 use Rattle.words.proofs.WordLaws.{rest_whole, keep_append, kept_and_not}
 use Rattle.words.proofs.ByteLaws.{length-put, put_sets, put-put}
 use Rattle.ft12.specs.Receiver.{is_beginning}

@@ -9,7 +9,7 @@ use lib.ListN.{length}
 use lib.Dec.{T, ltb, eqb}
 use borrow.Author.Tests.{eqb-false}
 use lib.IntN.{ℤ, pos, neg_ℤ}
-use Rattle.words.specs.Words.{if◌then◌else◌}
+use Rattle.std.specs.Prelude.{if◌then◌else◌}
 use Rattle.ft12.specs.declared.record.Link.{Link}
 use Rattle.ft12.specs.declared.rules.Heard.TheVariants.{Reset}
 use Rattle.ft12.specs.Record.{Line, line_of, link_of, line_ok, receiver_ok, outstanding_ok, in_range}

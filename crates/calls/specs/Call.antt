@@ -1,7 +1,7 @@
 -- One call: from event, lent value, tables, link record and output buffer to reply, buffer to its end, tables and
 -- link record.
-use Rattle.std.specs.Prelude.{ℕ, not, List, [], ◌++◌, length, drop, ltb, eqb}
-use Rattle.words.specs.Words.{if◌then◌else◌, is_empty}
+use Rattle.std.specs.Prelude.{if◌then◌else◌, ℕ, not, List, [], ◌++◌, length, drop, ltb, eqb}
+use Rattle.words.specs.Words.{is_empty}
 use Rattle.ft12.specs.declared.record.Link.{Link}
 use Rattle.ft12.specs.Record.{Line, line_of, link_of, holds_frame, in_range}
 use Rattle.ft12.specs.Rules.{Up, nothing, acknowledged, dropped, reset, message, Moved, on_host_byte, on_idle_mark}

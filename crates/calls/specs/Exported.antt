@@ -1,6 +1,5 @@
 -- What the functions that firmware links promise.
-use Rattle.std.specs.Prelude.{ℕ, ◌≡◌, true, false, List, [], ℤ}
-use Rattle.words.specs.Words.{if◌then◌else◌}
+use Rattle.std.specs.Prelude.{if◌then◌else◌, ℕ, ◌≡◌, true, false, List, [], ℤ}
 use Rattle.ft12.specs.declared.record.Link.{Link}
 use Rattle.ft12.specs.Record.{Line}
 use Rattle.baos.specs.Table.{Tables}

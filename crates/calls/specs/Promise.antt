@@ -1,7 +1,6 @@
 -- What the functions of the server promise: the reply by its numbers, the output buffer to its end, the tables and
 -- the link record.
-use Rattle.std.specs.Prelude.{ℕ, ◌≡◌, Bool, not, List, [], ltb}
-use Rattle.words.specs.Words.{if◌then◌else◌}
+use Rattle.std.specs.Prelude.{if◌then◌else◌, ℕ, ◌≡◌, Bool, not, List, [], ltb}
 use Rattle.ft12.specs.declared.record.Link.{Link}
 use Rattle.ft12.specs.declared.rules.Heard.{Heard}
 use Rattle.ft12.specs.declared.rules.Heard.TheVariants.{Gathered, Dropped, Ignored, Acknowledged, Reset, Repeat}

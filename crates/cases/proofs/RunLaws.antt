@@ -1,7 +1,8 @@
 -- Bytes from the host, one after the other: the loop that feeds them; and what is sent at the last.
 use Rattle.std.proofs.Common.{◌≡◌, ℕ, ◌+◌, ◌<◌, ◌≤◌, Bool, true, false, ◌&&◌, List, [], ◌∷◌, length, get_or, take, drop, sym, refl, ap, ◌∙◌, add-one, arith, drop_of_length-le, drop-cons, ne_eqb}
 use mathlib.Core.Bool.{and_assoc, and-true, and-false}
-use Rattle.words.specs.Words.{if◌then◌else◌, is_yes}
+use Rattle.std.specs.Prelude.{if◌then◌else◌}
+use Rattle.words.specs.Words.{is_yes}
 use Rattle.calls.specs.declared.event.Event.TheVariants.{HostByte}
 use Rattle.cases.specs.declared.bench.Bench.{Bench}
 use Rattle.cases.specs.Run.{happened, count_sent, quiet, Sends, heard, only_last, last_sound, stand_after}

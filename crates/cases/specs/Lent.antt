@@ -1,6 +1,5 @@
 -- What the lines of a script say of the tables.
-use Rattle.std.specs.Prelude.{ℕ, zero, suc, ◌+◌, List, ◌==◌, nat_lt, slice_index, slice_set}
-use Rattle.words.specs.Words.{if◌then◌else◌}
+use Rattle.std.specs.Prelude.{if◌then◌else◌, ℕ, zero, suc, ◌+◌, List, ◌==◌, nat_lt, slice_index, slice_set}
 use Rattle.baos.specs.declared.datapoint.Datapoint.{Datapoint}
 use Rattle.baos.specs.declared.item.Item.{Item}
 use Rattle.cases.specs.declared.bench.Bench.{Bench}

@@ -1,6 +1,6 @@
 -- Events on the bench, one after the other.
-use Rattle.std.specs.Prelude.{◌≡◌, ℕ, suc, ◌≤◌, Bool, true, false, ◌&&◌, List, [], ◌∷◌, take, ◌==◌}
-use Rattle.words.specs.Words.{if◌then◌else◌, is_yes}
+use Rattle.std.specs.Prelude.{if◌then◌else◌, ◌≡◌, ℕ, suc, ◌≤◌, Bool, true, false, ◌&&◌, List, [], ◌∷◌, take, ◌==◌}
+use Rattle.words.specs.Words.{is_yes}
 use Rattle.calls.specs.declared.event.Event.{Event}
 use Rattle.calls.specs.declared.event.Event.TheVariants.{HostByte}
 use Rattle.calls.specs.declared.reply.Reply.{Reply}

@@ -1,6 +1,5 @@
 -- What a script asks.
-use Rattle.std.specs.Prelude.{◌≡◌, ℕ, Bool, true, List, [], ◌∷◌, ◌==◌, slice_index}
-use Rattle.words.specs.Words.{if◌then◌else◌}
+use Rattle.std.specs.Prelude.{if◌then◌else◌, ◌≡◌, ℕ, Bool, true, List, [], ◌∷◌, ◌==◌, slice_index}
 use Rattle.calls.specs.declared.event.Event.TheVariants.{IdleMark}
 use Rattle.calls.specs.Numbers.{event_numbered}
 use Rattle.cases.specs.declared.bench.Bench.{Bench}

@@ -8,7 +8,8 @@ use native.Mathlib.Omega.{arith}
 use lib.ListN.{length, get_or, take, drop, length-append, length-drop, take-append-drop, get_or-map}
 use lib.Seq.{append_snoc, drop-append-add, take_at, get_or-drop}
 use lib.Dec.{T, ltb, eqb}
-use Rattle.words.specs.Words.{if◌then◌else◌, is_empty, put, are_bytes}
+use Rattle.std.specs.Prelude.{if◌then◌else◌}
+use Rattle.words.specs.Words.{is_empty, put, are_bytes}
 use Rattle.words.proofs.WordLaws.{every_prefix, every_suffix, some_filled, bytes_at}
 use Rattle.words.proofs.ByteLaws.{length-put, get_d_put_within, get_d_put_behind}
 use Rattle.ft12.specs.Frame.{acknowledgement, fixed_frame, checksum, data_frame, longest_message, Sound, fixed, carries}

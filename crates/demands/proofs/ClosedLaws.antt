@@ -8,7 +8,8 @@ use native.Mathlib.Omega.{arith}
 use lib.ListN.{length, get_or}
 use lib.Dec.{T, leb, eqb, eqb→eq, ltb}
 use borrow.Author.Tests.{eq-eqb}
-use Rattle.words.specs.Words.{if◌then◌else◌, is_empty, keep, every}
+use Rattle.std.specs.Prelude.{if◌then◌else◌}
+use Rattle.words.specs.Words.{is_empty, keep, every}
 use Rattle.words.proofs.WordLaws.{left, right, both, true_T, T_true, every_imp}
 use Rattle.ft12.specs.declared.record.Link.{Link}
 use Rattle.ft12.specs.Record.{Line, line_of}

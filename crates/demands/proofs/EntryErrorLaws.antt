@@ -8,7 +8,8 @@ use native.Mathlib.Omega.{arith}
 use lib.ListN.{drop}
 use lib.Dec.{T, eqb, eqb→eq}
 use borrow.Author.Tests.{ne_eqb}
-use Rattle.words.specs.Words.{if◌then◌else◌, is_empty, keep, every}
+use Rattle.std.specs.Prelude.{if◌then◌else◌}
+use Rattle.words.specs.Words.{is_empty, keep, every}
 use Rattle.words.proofs.WordLaws.{left, right, true_T, T_true}
 use Rattle.ft12.specs.Record.{line_of}
 use Rattle.ft12.specs.Rules.{on_host_byte}

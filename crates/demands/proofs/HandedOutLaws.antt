@@ -10,7 +10,8 @@ use lib.ListN.{length, get_or, drop}
 use lib.Seq.{drop-append-add, drop-append_seam}
 use lib.Dec.{T, ltb, eqb, ltb→lt}
 use borrow.Author.Tests.{ne_eqb, eqb-true}
-use Rattle.words.specs.Words.{if◌then◌else◌, of_two_bytes, keep, every, is_empty}
+use Rattle.std.specs.Prelude.{if◌then◌else◌}
+use Rattle.words.specs.Words.{of_two_bytes, keep, every, is_empty}
 use Rattle.words.proofs.WordLaws.{left, right, both, true_T, T_true, every_map, every-keep, padded_length}
 use Rattle.ft12.specs.declared.record.Link.{Link}
 use Rattle.ft12.specs.declared.rules.Heard.{Heard}

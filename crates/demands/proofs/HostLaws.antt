@@ -8,7 +8,7 @@ use lib.ListN.{length, get_or, take, drop, length-drop, length-append}
 use lib.Seq.{take-append_seam, drop-append_seam}
 use lib.Dec.{eqb}
 use borrow.Author.Tests.{le-leb, eq-eqb}
-use Rattle.words.specs.Words.{if◌then◌else◌}
+use Rattle.std.specs.Prelude.{if◌then◌else◌}
 use Rattle.ft12.specs.Frame.{acknowledgement, fixed_frame, checksum, data_frame}
 use Rattle.ft12.specs.Record.{server_control}
 use Rattle.demands.specs.Host.{HostHeard, heard_acknowledgement, heard_fixed, heard_message, is_fixed, control_and_data, behind_them, is_data, from_server, hears, next, hears_up_to, host_reads}

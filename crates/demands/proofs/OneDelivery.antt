@@ -7,7 +7,8 @@ use mathlib.Core.List.{List, [], ◌∷◌, ◌++◌}
 use lib.ListN.{length, get_or}
 use lib.Dec.{T, ltb}
 use borrow.Author.Tests.{le-ltb}
-use Rattle.words.specs.Words.{if◌then◌else◌, is_empty, are_bytes}
+use Rattle.std.specs.Prelude.{if◌then◌else◌}
+use Rattle.words.specs.Words.{is_empty, are_bytes}
 use Rattle.ft12.proofs.RecordLaws.{line_of-link_of}
 use Rattle.ft12.specs.Frame.{acknowledgement, longest_message, data_frame}
 use Rattle.ft12.specs.Record.{Line, link_of, host_control, server_control, line_ok}

@@ -13,7 +13,8 @@ use lib.IntN.{ℤ, pos, ◌+ℤ◌, ◌-ℤ◌}
 use lib.Ieee.{Float, nan, inf, fin, binary32, round, div, of_int, of_bits, to_bits}
 use lib.Ieee.Fits.{round-fits, of_int-fits}
 use lib.Ieee.Bits.{to_bits-of_bits}
-use Rattle.words.specs.Words.{if◌then◌else◌, of_two_bytes, is_yes, yes_or_no, are_bytes}
+use Rattle.std.specs.Prelude.{if◌then◌else◌}
+use Rattle.words.specs.Words.{of_two_bytes, is_yes, yes_or_no, are_bytes}
 use Rattle.words.proofs.WordLaws.{left, right, true_T, T_true, T_false, bytes_at}
 use Rattle.baos.specs.declared.datapoint.Datapoint.{Datapoint}
 use Rattle.baos.specs.Datapoint.{datapoint_id, datapoint_ok, is_valid, without_updated, with_state, with_mark, handed_out, zero_datapoint}

@@ -8,7 +8,8 @@ use native.Mathlib.Omega.{arith}
 use lib.ListN.{length, get_or}
 use lib.Dec.{T, eqb, eqb→eq}
 use borrow.Author.Tests.{eq-eqb, ne_eqb, eqb-true}
-use Rattle.words.specs.Words.{if◌then◌else◌, is_empty, keep, every}
+use Rattle.std.specs.Prelude.{if◌then◌else◌}
+use Rattle.words.specs.Words.{is_empty, keep, every}
 use Rattle.words.proofs.WordLaws.{left, right, true_T, T_true}
 use Rattle.ft12.specs.declared.record.Link.{Link}
 use Rattle.ft12.specs.Record.{Line, line_of}

@@ -9,7 +9,8 @@ use native.Mathlib.Nat.{pos_of_ne-zero}
 use lib.ListN.{length, get_or, take, drop, length-append}
 use lib.Dec.{T, ltb, eqb, ltb→lt, lt→ltb, eqb→eq}
 use borrow.Author.Tests.{lt-ltb, le-ltb, eq-eqb, ne_eqb, eqb-true, eqb-false, ltb-true, ltb-false}
-use Rattle.words.specs.Words.{if◌then◌else◌, two_bytes, keep, is_empty}
+use Rattle.std.specs.Prelude.{if◌then◌else◌}
+use Rattle.words.specs.Words.{two_bytes, keep, is_empty}
 use Rattle.words.proofs.WordLaws.{left, right, both}
 use Rattle.ft12.specs.Record.{Line, line_of}
 use Rattle.ft12.specs.Rules.{on_host_byte, on_idle_mark}

@@ -4,8 +4,8 @@
 -- or in an unfinished frame. Places not needed stay unaltered. Prove that it finds the same frames, acknowledgements and
 -- damage as the byte-wise receiver given those bytes and then an idle mark, from a receiver at a frame start. Refusals:
 -- call number 8 for a longer burst or a shorter run; it leaves the run unaltered."
-use Rattle.std.specs.Prelude.{ℕ, suc, ◌+◌, ◌-◌, ◌≤◌, ◌<◌, ◌≡◌, ◌⊎◌, ◌↔◌, Bool, not, ◌&&◌, List, [], ◌∷◌, ◌++◌, length, get_or, take, drop, T, eqb}
-use Rattle.words.specs.Words.{if◌then◌else◌, is_empty, put, are_bytes}
+use Rattle.std.specs.Prelude.{if◌then◌else◌, ℕ, suc, ◌+◌, ◌-◌, ◌≤◌, ◌<◌, ◌≡◌, ◌⊎◌, ◌↔◌, Bool, not, ◌&&◌, List, [], ◌∷◌, ◌++◌, length, get_or, take, drop, T, eqb}
+use Rattle.words.specs.Words.{is_empty, put, are_bytes}
 use Rattle.ft12.specs.Frame.{acknowledgement, Sound, Begins}
 use Rattle.ft12.specs.Record.{Line}
 use Rattle.ft12.specs.Rules.{on_host_byte, on_message, at_start}

@@ -3,8 +3,8 @@
 -- 6, command 4 needs bit 2; others as before. Looking up an ID has three findings from now on [..], and each service says
 -- which it treats alike. Gets and bus events treat the last two alike. [..] Refusals: a command whose needed bits are off
 -- gives code 8, placed with the command check, before code 9."
-use Rattle.std.specs.Prelude.{ℕ, ◌≡◌, ◌⊎◌, Bool, true, false, not, ◌&&◌, ◌||◌, List, [], ◌∷◌, map, T, leb, ltb, eqb}
-use Rattle.words.specs.Words.{if◌then◌else◌, keep, every}
+use Rattle.std.specs.Prelude.{if◌then◌else◌, ℕ, ◌≡◌, ◌⊎◌, Bool, true, false, not, ◌&&◌, ◌||◌, List, [], ◌∷◌, map, T, leb, ltb, eqb}
+use Rattle.words.specs.Words.{keep, every}
 use Rattle.ft12.specs.declared.record.Link.{Link}
 use Rattle.ft12.specs.Record.{Line, line_of}
 use Rattle.ft12.specs.Rules.{on_host_byte}

@@ -4,8 +4,8 @@
 -- and nothing else happens. Then the tables and the expected bit are those after one sound delivery. Each sound
 -- delivery draws one acknowledgement, a damaged one draws none, and the answer is sent at most once, exactly when one
 -- sound delivery would send it. This is here because retries are the normal state of the line."
-use Rattle.std.specs.Prelude.{ℕ, suc, ◌≤◌, ◌≡◌, Bool, true, false, not, ◌&&◌, ◌||◌, List, [], ◌∷◌, ◌++◌, map, length, get_or, T, eqb}
-use Rattle.words.specs.Words.{if◌then◌else◌, is_empty, every, are_bytes}
+use Rattle.std.specs.Prelude.{if◌then◌else◌, ℕ, suc, ◌≤◌, ◌≡◌, Bool, true, false, not, ◌&&◌, ◌||◌, List, [], ◌∷◌, ◌++◌, map, length, get_or, T, eqb}
+use Rattle.words.specs.Words.{is_empty, every, are_bytes}
 use Rattle.ft12.specs.declared.record.Link.{Link}
 use Rattle.ft12.specs.Frame.{acknowledgement, data_frame, longest_message}
 use Rattle.ft12.specs.Record.{Line, line_of, link_of, host_control, server_control, in_range}

@@ -1,8 +1,8 @@
 -- "The filter asks for updated readings only, and a reading is handed out once." Between two bus values for a
 -- datapoint, whatever events come, at most one message that the server builds carries the datapoint with bit 3 set. A
 -- frame that is sent again is no message built anew.
-use Rattle.std.specs.Prelude.{ℕ, zero, suc, ◌+◌, ◌≤◌, Bool, false, not, ◌&&◌, ◌||◌, List, [], ◌∷◌, ◌++◌, get_or, drop, T, eqb}
-use Rattle.words.specs.Words.{if◌then◌else◌, of_two_bytes, is_empty, every}
+use Rattle.std.specs.Prelude.{if◌then◌else◌, ℕ, zero, suc, ◌+◌, ◌≤◌, Bool, false, not, ◌&&◌, ◌||◌, List, [], ◌∷◌, ◌++◌, get_or, drop, T, eqb}
+use Rattle.words.specs.Words.{of_two_bytes, is_empty, every}
 use Rattle.ft12.specs.declared.record.Link.{Link}
 use Rattle.ft12.specs.declared.rules.Heard.{Heard}
 use Rattle.ft12.specs.declared.rules.Heard.TheVariants.{Gathered, Dropped, Ignored, Acknowledged, Reset, Repeat}

@@ -1,7 +1,6 @@
 -- The host's rules: what the host hears in the bytes that reach it, from a frame start on. Written from the paper for
 -- the host's end; nothing of the server's receiver is used.
-use Rattle.std.specs.Prelude.{ℕ, zero, suc, Bool, true, false, ◌&&◌, List, [], ◌∷◌, length, get_or, take, drop, leb, eqb}
-use Rattle.words.specs.Words.{if◌then◌else◌}
+use Rattle.std.specs.Prelude.{if◌then◌else◌, ℕ, zero, suc, Bool, true, false, ◌&&◌, List, [], ◌∷◌, length, get_or, take, drop, leb, eqb}
 use Rattle.ft12.specs.Frame.{checksum}
 
 -- an acknowledgement; a fixed frame and its C; a data frame of the server, its count bit (true where it is odd) and

@@ -1,8 +1,8 @@
 -- What the host is to hear of a call, and of calls one after the other. "Each data frame we send reads back, by the
 -- host's rules, to its one message": the frame of an answer to what `carried_out` says, that of a poll to what
 -- `indication` says, and one that is sent again to what the outstanding frame carries.
-use Rattle.std.specs.Prelude.{ℕ, ◌≡◌, Bool, true, false, ◌&&◌, List, [], ◌∷◌, ◌++◌, length, T, ltb, eqb}
-use Rattle.words.specs.Words.{if◌then◌else◌, is_empty}
+use Rattle.std.specs.Prelude.{if◌then◌else◌, ℕ, ◌≡◌, Bool, true, false, ◌&&◌, List, [], ◌∷◌, ◌++◌, length, T, ltb, eqb}
+use Rattle.words.specs.Words.{is_empty}
 use Rattle.ft12.specs.declared.record.Link.{Link}
 use Rattle.ft12.specs.declared.rules.Heard.{Heard}
 use Rattle.ft12.specs.declared.rules.Heard.TheVariants.{Gathered, Dropped, Ignored, Acknowledged, Reset, Repeat}

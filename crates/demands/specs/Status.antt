@@ -1,7 +1,7 @@
 -- Document 02, item 9. "From now on a failed status 01 stands until the next send command or outcome. A stored request
 -- that still holds command 5 is refused whole. Refusals: command 5 gives code 8, at the command check."
-use Rattle.std.specs.Prelude.{ℕ, ◌%◌, ◌≡◌, ◌⊎◌, Bool, true, false, not, ◌&&◌, ◌||◌, List, [], ◌∷◌, map, length, get_or, T, eqb}
-use Rattle.words.specs.Words.{if◌then◌else◌, is_empty}
+use Rattle.std.specs.Prelude.{if◌then◌else◌, ℕ, ◌%◌, ◌≡◌, ◌⊎◌, Bool, true, false, not, ◌&&◌, ◌||◌, List, [], ◌∷◌, map, length, get_or, T, eqb}
+use Rattle.words.specs.Words.{is_empty}
 use Rattle.ft12.specs.declared.record.Link.{Link}
 use Rattle.ft12.specs.Record.{Line, line_of}
 use Rattle.ft12.specs.Rules.{on_host_byte}

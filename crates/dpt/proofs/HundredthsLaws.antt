@@ -8,7 +8,8 @@ use native.Mathlib.Omega.{arith}
 use lib.Dec.{leb, ltb, leb→le, nleb→lt, lt→ltb}
 use lib.IntN.{ℤ, pos, negsuc, neg_ℤ, nat_abs, ◌*ℤ◌, ◌-ℤ◌}
 use lib.Pow.{pow_pos, pow_mono}
-use Rattle.words.specs.Words.{if◌then◌else◌, of_two_bytes}
+use Rattle.std.specs.Prelude.{if◌then◌else◌}
+use Rattle.words.specs.Words.{of_two_bytes}
 use Rattle.words.proofs.WordLaws.{T_true}
 use Rattle.dpt.specs.TwoOctet.{sign_is_set, exponent, eleven_bits, mantissa, hundredths, is_below_zero, HundredthsInRange}
 

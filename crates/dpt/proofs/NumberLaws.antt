@@ -7,7 +7,8 @@ use mathlib.Core.List.{List, [], ◌∷◌}
 use lib.Dec.{T, eqb, ltb}
 use lib.IntN.{ℤ, pos, negsuc}
 use lib.Ieee.{Float, nan, inf, fin, Format, prec, emax, low, binary32, odd, units, round, is_nan}
-use Rattle.words.specs.Words.{if◌then◌else◌, is_yes, of_two_bytes}
+use Rattle.std.specs.Prelude.{if◌then◌else◌}
+use Rattle.words.specs.Words.{is_yes, of_two_bytes}
 use Rattle.words.proofs.WordLaws.{read_written}
 use Rattle.dpt.specs.declared.reading.Reading.{Reading}
 use Rattle.dpt.specs.declared.reading.Reading.TheVariants.{Switch, Count, TwoOctet, Single, Unreadable}

@@ -1,6 +1,6 @@
 -- Which reading a datapoint has, and what is given for an ID (document 02, item 3).
-use Rattle.std.specs.Prelude.{ℕ, Bool, not, ◌&&◌, List, [], ◌∷◌, get_or, eqb, Float}
-use Rattle.words.specs.Words.{if◌then◌else◌, is_yes, of_two_bytes}
+use Rattle.std.specs.Prelude.{if◌then◌else◌, ℕ, Bool, not, ◌&&◌, List, [], ◌∷◌, get_or, eqb, Float}
+use Rattle.words.specs.Words.{is_yes, of_two_bytes}
 use Rattle.baos.specs.declared.datapoint.Datapoint.{Datapoint}
 use Rattle.baos.specs.Datapoint.{datapoint_id, datapoint_ok, is_valid}
 use Rattle.baos.specs.Table.{table_ok, found}

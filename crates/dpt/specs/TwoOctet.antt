@@ -1,9 +1,9 @@
 -- DPT 9, a value of two octets (document 02, item 3).
-use Rattle.std.specs.Prelude.{ℕ, suc, ◌*◌, ◌/◌, ◌%◌, ◌^◌, ◌≤◌, Bool, true, false, ℤ, pos, negsuc, neg_ℤ, nat_abs, ◌*ℤ◌, ◌-ℤ◌, leb, Float}
+use Rattle.std.specs.Prelude.{if◌then◌else◌, ℕ, suc, ◌*◌, ◌/◌, ◌%◌, ◌^◌, ◌≤◌, Bool, true, false, ℤ, pos, negsuc, neg_ℤ, nat_abs, ◌*ℤ◌, ◌-ℤ◌, leb, Float}
 use Rattle.std.specs.Float.{nan, inf, fin, binary32}
 use Rattle.std.specs.Float.Ieee.{up, down, round}
 use Rattle.std.specs.Float.Ieee.Exact.{HasValue}
-use Rattle.words.specs.Words.{if◌then◌else◌, of_two_bytes}
+use Rattle.words.specs.Words.{of_two_bytes}
 
 -- ---- "DPT 9 is sign, four bits of exponent E and 11 bits that with the sign make the 12-bit two's complement mantissa
 -- M": bit 7 of the high octet; its bits 6 to 3; its bits 2 to 0 and the low octet

@@ -7,7 +7,8 @@ use native.Mathlib.Omega.{arith}
 use lib.ListN.{length, drop, length-take}
 use lib.Dec.{T, leb, ltb, eqb, leb→le, ltb→lt}
 use borrow.Author.Tests.{le-ltb, lt-leb, eq-eqb, ne_eqb}
-use Rattle.words.specs.Words.{is_yes_or_no, if◌then◌else◌, is_empty, is_padded, keep, every}
+use Rattle.std.specs.Prelude.{if◌then◌else◌}
+use Rattle.words.specs.Words.{is_yes_or_no, is_empty, is_padded, keep, every}
 use Rattle.words.proofs.WordLaws.{parts3, left, right, T_true, padded_decided}
 use Rattle.baos.specs.declared.datapoint.Datapoint.{Datapoint}
 use Rattle.baos.specs.declared.item.Item.{Item}

@@ -1,7 +1,7 @@
 -- The examples of document 01 that are marked P, and three for item 1 of document 02: one list, and what it means that
 -- one of them holds.
-use Rattle.std.specs.Prelude.{ℕ, zero, suc, ◌+◌, ◌≤◌, ◌≡◌, Bool, true, false, List, [], ◌∷◌, ◌++◌, map, length, drop, replicate, T, ltb}
-use Rattle.words.specs.Words.{if◌then◌else◌, is_empty, pad, keep, every}
+use Rattle.std.specs.Prelude.{if◌then◌else◌, ℕ, zero, suc, ◌+◌, ◌≤◌, ◌≡◌, Bool, true, false, List, [], ◌∷◌, ◌++◌, map, length, drop, replicate, T, ltb}
+use Rattle.words.specs.Words.{is_empty, pad, keep, every}
 use Rattle.ft12.specs.Frame.{data_frame}
 use Rattle.ft12.specs.Record.{Line, link_of}
 use Rattle.baos.specs.declared.datapoint.Datapoint.{Datapoint}

@@ -9,7 +9,7 @@ use lib.ListN.{length, get_or, take, drop, drop_of_length-le}
 use lib.Seq.{drop-cons, split_at, length-take-le}
 use lib.Dec.{T, eqb}
 use borrow.Author.Tests.{ne_eqb}
-use Rattle.words.specs.Words.{if◌then◌else◌}
+use Rattle.std.specs.Prelude.{if◌then◌else◌}
 use Rattle.ft12.specs.Frame.{checksum}
 use Rattle.ft12.specs.Receiver.{only, judged_first, judged_fixed, judged_data, judged, is_more, gathers, is_beginning}
 use Rattle.ft12.specs.declared.receiver.Judgement.{Judgement}

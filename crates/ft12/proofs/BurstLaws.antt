@@ -9,7 +9,8 @@ use lib.Seq.{append_snoc, drop_at}
 use lib.Dec.{T, eqb}
 use borrow.Author.Tests.{le-ltb, lt-ltb}
 use lib.IntN.{ℤ, pos, negsuc}
-use Rattle.words.specs.Words.{if◌then◌else◌, is_empty, put}
+use Rattle.std.specs.Prelude.{if◌then◌else◌}
+use Rattle.words.specs.Words.{is_empty, put}
 use Rattle.words.proofs.WordLaws.{left, right, T_true, kept_and_not, some_filled}
 use Rattle.ft12.specs.Frame.{fixed_frame, data_frame}
 use Rattle.ft12.specs.Receiver.{judged, is_more, gathers, is_beginning}

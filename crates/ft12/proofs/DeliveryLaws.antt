@@ -13,7 +13,8 @@ use lib.Seq.{get_or-append-add, set-append_left, take-append-le, drop-append-le,
 use lib.Dec.{T}
 use borrow.Author.Tests.{ne_eqb}
 use Rattle.ft12.specs.declared.receiver.Judgement.TheVariants.{Damage}
-use Rattle.words.specs.Words.{if◌then◌else◌, is_empty, are_bytes}
+use Rattle.std.specs.Prelude.{if◌then◌else◌}
+use Rattle.words.specs.Words.{is_empty, are_bytes}
 use Rattle.ft12.specs.Frame.{acknowledgement, total, checksum, data_frame, message_of}
 use Rattle.ft12.specs.Receiver.{only, judged_first, judged_data, judged, gathers, is_beginning}
 use Rattle.ft12.specs.Record.{Line, host_control}

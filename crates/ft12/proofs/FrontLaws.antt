@@ -10,7 +10,7 @@ use lib.ListN.{length, length-append}
 use lib.Seq.{append_snoc}
 use lib.Dec.{T, leb, eqb}
 use borrow.Author.Tests.{eqb-true}
-use Rattle.words.specs.Words.{if◌then◌else◌}
+use Rattle.std.specs.Prelude.{if◌then◌else◌}
 use Rattle.ft12.specs.Frame.{acknowledgement, fixed_frame, checksum, data_frame}
 use Rattle.ft12.specs.Receiver.{judged_first, judged, is_more, gathers, is_beginning}
 use Rattle.ft12.specs.declared.receiver.Judgement.{Judgement}

@@ -12,7 +12,8 @@ use borrow.Author.Tests.{eq-eqb, ne_eqb}
 use Rattle.ft12.specs.declared.receiver.Judgement.TheVariants.{More, Damage, Data}
 use Rattle.ft12.specs.declared.rules.Heard.{Heard}
 use Rattle.ft12.specs.declared.rules.Heard.TheVariants.{Ignored, Repeat, Request}
-use Rattle.words.specs.Words.{if◌then◌else◌, is_empty}
+use Rattle.std.specs.Prelude.{if◌then◌else◌}
+use Rattle.words.specs.Words.{is_empty}
 use Rattle.ft12.specs.Frame.{acknowledgement, checksum, data_frame, message_of}
 use Rattle.ft12.specs.Receiver.{judged_first, judged, is_more, gathers, is_beginning}
 use Rattle.ft12.specs.Record.{Line, host_control}

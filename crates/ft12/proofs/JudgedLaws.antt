@@ -7,7 +7,7 @@ use lib.ListN.{length, take, drop, get_or, length-append}
 use lib.Dec.{T, ltb, eqb}
 use lib.Seq.{length-take-le}
 use borrow.Author.Tests.{eq-eqb, ne_eqb, lt-ltb, le-ltb, le-leb}
-use Rattle.words.specs.Words.{if◌then◌else◌}
+use Rattle.std.specs.Prelude.{if◌then◌else◌}
 use Rattle.ft12.specs.Frame.{checksum}
 use Rattle.ft12.specs.Receiver.{only, judged_first, judged_fixed, judged_data, judged, is_more, is_beginning}
 use Rattle.ft12.specs.declared.receiver.Judgement.TheVariants.{More, Damage, Acknowledgement, Fixed, Data}

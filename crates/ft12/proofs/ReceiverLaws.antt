@@ -9,7 +9,7 @@ use lib.ListN.{length, get_or, length-append}
 use lib.Seq.{append_snoc}
 use lib.Dec.{T, leb, eqb}
 use borrow.Author.Tests.{lt-ltb, le-ltb, eq-eqb, ne_eqb, eqb-true, leb-true}
-use Rattle.words.specs.Words.{if◌then◌else◌}
+use Rattle.std.specs.Prelude.{if◌then◌else◌}
 use Rattle.ft12.specs.Frame.{checksum}
 use Rattle.ft12.specs.Receiver.{only, judged_first, judged_fixed, judged_data, judged, is_more, gathers, is_beginning}
 use Rattle.ft12.specs.declared.receiver.Judgement.{Judgement}

@@ -13,7 +13,7 @@ use Rattle.ft12.specs.declared.receiver.Judgement.{Judgement}
 use Rattle.ft12.specs.declared.receiver.Judgement.TheVariants.{More, Damage, Acknowledgement, Fixed, Data}
 use Rattle.ft12.specs.declared.rules.Heard.{Heard}
 use Rattle.ft12.specs.declared.rules.Heard.TheVariants.{Gathered, Dropped, Ignored, Acknowledged, Reset, Repeat, Request}
-use Rattle.words.specs.Words.{if◌then◌else◌}
+use Rattle.std.specs.Prelude.{if◌then◌else◌}
 use Rattle.ft12.specs.Frame.{checksum, message_of}
 use Rattle.ft12.specs.Receiver.{only, judged_first, judged, is_beginning}
 use Rattle.ft12.specs.Record.{Line, line_of, link_of, host_control, line_ok, receiver_ok, memory_ok, in_range}

@@ -11,7 +11,8 @@ use Rattle.ft12.specs.declared.receiver.Judgement.{Judgement}
 use Rattle.ft12.specs.declared.receiver.Judgement.TheVariants.{More, Damage, Acknowledgement, Fixed, Data}
 use Rattle.ft12.specs.declared.rules.Heard.{Heard}
 use Rattle.ft12.specs.declared.rules.Heard.TheVariants.{Gathered, Dropped, Ignored, Acknowledged, Reset, Repeat, Request}
-use Rattle.words.specs.Words.{if◌then◌else◌, is_empty}
+use Rattle.std.specs.Prelude.{if◌then◌else◌}
+use Rattle.words.specs.Words.{is_empty}
 use Rattle.ft12.specs.Frame.{acknowledgement, data_frame, is_whole}
 use Rattle.ft12.specs.Receiver.{judged, is_more, gathers, is_beginning}
 use Rattle.ft12.specs.Record.{Line, host_control, server_control, receiver_ok, outstanding_ok, line_ok}

@@ -1,7 +1,7 @@
 -- Document 02, item 8. "The rack's serial driver hands us everything between two idle marks at once, up to 2048 bytes."
 -- What such a burst holds, by the byte-wise receiver from a frame start on, and what a reader of bursts returns.
-use Rattle.std.specs.Prelude.{ℕ, suc, ◌-◌, ◌≡◌, Bool, not, ◌||◌, List, [], ◌∷◌, ◌++◌, map, length, ltb, ℤ, pos, neg_ℤ}
-use Rattle.words.specs.Words.{if◌then◌else◌, is_empty, put, keep, same}
+use Rattle.std.specs.Prelude.{if◌then◌else◌, ℕ, suc, ◌-◌, ◌≡◌, Bool, not, ◌||◌, List, [], ◌∷◌, ◌++◌, map, length, ltb, ℤ, pos, neg_ℤ}
+use Rattle.words.specs.Words.{is_empty, put, keep, same}
 use Rattle.ft12.specs.Frame.{acknowledgement}
 use Rattle.ft12.specs.Receiver.{judged}
 use Rattle.ft12.specs.declared.receiver.Judgement.{Judgement}

@@ -1,7 +1,7 @@
 -- The link record, as the rules see it and as the serial loop lends it, and when it is in range.
-use Rattle.std.specs.Prelude.{ℕ, ◌≤◌, ◌≡◌, Bool, true, false, not, ◌&&◌, List, [], length, take, leb, eqb}
+use Rattle.std.specs.Prelude.{if◌then◌else◌, ℕ, ◌≤◌, ◌≡◌, Bool, true, false, not, ◌&&◌, List, [], length, take, leb, eqb}
 use Rattle.ft12.specs.declared.record.Link.{Link}
-use Rattle.words.specs.Words.{if◌then◌else◌, is_yes_or_no, is_yes, yes_or_no, is_empty, pad, is_padded, Padded}
+use Rattle.words.specs.Words.{is_yes_or_no, is_yes, yes_or_no, is_empty, pad, is_padded, Padded}
 use Rattle.ft12.specs.Frame.{Begins, Whole, is_whole}
 use Rattle.ft12.specs.Receiver.{is_beginning}
 

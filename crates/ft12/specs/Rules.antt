@@ -1,13 +1,13 @@
 -- The link rules of the server end. "The link rules know nothing of datapoints: the link hands up a message and takes
 -- one back." It also tells when the outstanding frame was acknowledged, when it was dropped and when the host asked
 -- for a reset; none of the three touches a table.
-use Rattle.std.specs.Prelude.{ℕ, ◌+◌, ◌≡◌, Bool, true, false, not, ◌||◌, List, [], ◌∷◌, ◌++◌, length, ltb, eqb}
+use Rattle.std.specs.Prelude.{if◌then◌else◌, ℕ, ◌+◌, ◌≡◌, Bool, true, false, not, ◌||◌, List, [], ◌∷◌, ◌++◌, length, ltb, eqb}
 use Rattle.ft12.specs.declared.receiver.Judgement.{Judgement}
 use Rattle.ft12.specs.declared.receiver.Judgement.TheVariants.{More, Damage, Acknowledgement, Fixed, Data}
 use Rattle.ft12.specs.declared.rules.Heard.{Heard}
 use Rattle.ft12.specs.declared.rules.Heard.TheVariants.{Gathered, Dropped, Ignored, Acknowledged, Reset}
 use Rattle.ft12.specs.declared.rules.Heard.TheVariants.{Repeat, Request}
-use Rattle.words.specs.Words.{if◌then◌else◌, yes_or_no, is_empty}
+use Rattle.words.specs.Words.{yes_or_no, is_empty}
 use Rattle.ft12.specs.Frame.{acknowledgement, fixed_frame, data_frame, longest_message, message_of}
 use Rattle.ft12.specs.Receiver.{judged}
 use Rattle.ft12.specs.Record.{Line, line_of, link_of, host_control, server_control}

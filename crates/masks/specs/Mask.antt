@@ -1,8 +1,7 @@
 -- The unused bits of a record as masks over words of eight bytes. Inner contracts alone cite these; what a record has
 -- to be is said by its own test.
-use Rattle.std.specs.Prelude.{ℕ, ◌+◌, ◌-◌, ◌*◌, ◌^◌, Bool, ◌&&◌, List, [], ◌∷◌, ltb, eqb}
+use Rattle.std.specs.Prelude.{if◌then◌else◌, ℕ, ◌+◌, ◌-◌, ◌*◌, ◌^◌, Bool, ◌&&◌, List, [], ◌∷◌, ltb, eqb}
 use Rattle.std.specs.Int.Bits.{bit_and}
-use Rattle.words.specs.Words.{if◌then◌else◌}
 use Rattle.masks.specs.declared.mask.Masks.{Masks}
 use Rattle.baos.specs.Datapoint.{size_of}
 

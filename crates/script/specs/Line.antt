@@ -1,6 +1,5 @@
 -- A script's text: its lines, and what stands in one.
-use Rattle.std.specs.Prelude.{ℕ, zero, suc, ◌+◌, ◌-◌, ◌*◌, ◌/◌, ◌%◌, List, [], ◌∷◌, length, take, replicate, ◌==◌, nat_lt, slice_index, slice_set}
-use Rattle.words.specs.Words.{if◌then◌else◌}
+use Rattle.std.specs.Prelude.{if◌then◌else◌, ℕ, zero, suc, ◌+◌, ◌-◌, ◌*◌, ◌/◌, ◌%◌, List, [], ◌∷◌, length, take, replicate, ◌==◌, nat_lt, slice_index, slice_set}
 use Rattle.script.specs.declared.line.Line.{Line}
 
 -- ---- lines

@@ -1,6 +1,6 @@
 -- Records from the bytes of a line. The numbers are the places of the bytes behind the letter.
-use Rattle.std.specs.Prelude.{ℕ, ◌+◌, ◌%◌, Bool, List, take, drop, replicate, ◌==◌, slice_index, slice_set}
-use Rattle.words.specs.Words.{if◌then◌else◌, of_two_bytes, put}
+use Rattle.std.specs.Prelude.{if◌then◌else◌, ℕ, ◌+◌, ◌%◌, Bool, List, take, drop, replicate, ◌==◌, slice_index, slice_set}
+use Rattle.words.specs.Words.{of_two_bytes, put}
 use Rattle.baos.specs.declared.datapoint.Datapoint.{Datapoint}
 use Rattle.baos.specs.declared.item.Item.{Item}
 

@@ -1,7 +1,7 @@
 // The sets of items and datapoints: the entries of a request. An entry is given by the request's bytes and the place
 // where it begins.
-ghost use Rattle.std.specs.Prelude.{◌≡◌, true, [], ◌∷◌, map, ◌≤◌, ◌<◌, ◌+◌, length, get_or, take, drop, eqb};
-ghost use Rattle.words.specs.Words.{if◌then◌else◌, of_two_bytes};
+ghost use Rattle.std.specs.Prelude.{if◌then◌else◌, ◌≡◌, true, [], ◌∷◌, map, ◌≤◌, ◌<◌, ◌+◌, length, get_or, take, drop, eqb};
+ghost use Rattle.words.specs.Words.{of_two_bytes};
 ghost use Rattle.baos.specs.Datapoint.{datapoint_id, datapoint_ok};
 ghost use Rattle.baos.specs.Item.{item_id, item_ok};
 ghost use Rattle.baos.specs.Table.{datapoints_only, items_only, found, changed_at, place, rising, table_ok};

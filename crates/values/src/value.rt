@@ -1,6 +1,6 @@
 // A value: its size by type code, its unused bits, its place in a record.
-ghost use Rattle.std.specs.Prelude.{◌≡◌, ◌-◌, ◌*◌, ◌≤◌, length, ltb};
-ghost use Rattle.words.specs.Words.{if◌then◌else◌, pad};
+ghost use Rattle.std.specs.Prelude.{if◌then◌else◌, ◌≡◌, ◌-◌, ◌*◌, ◌≤◌, length, ltb};
+ghost use Rattle.words.specs.Words.{pad};
 ghost use Rattle.baos.specs.Datapoint.{size_of, unused_bits_ok, is_value};
 
 use words::bytes::put_bytes;

@@ -1,11 +1,6 @@
--- Words that all definitions share: a choice, two-byte numbers, padding, tests on lists. The library's own tests on
+-- Words that all definitions share: two-byte numbers, padding, tests on lists. The library's own tests on
 -- lists do not compute (`all`) or ask for proofs (`filter`), so these have names of their own.
-use Rattle.std.specs.Prelude.{ℕ, ◌+◌, ◌-◌, ◌*◌, ◌/◌, ◌%◌, ◌≤◌, ◌≡◌, Bool, true, false, ◌&&◌, List, [], ◌∷◌, ◌++◌, length, get_or, take, drop, replicate, leb, ltb, eqb}
-
-infixr 10 if◌then◌else◌
-abbrev pub if◌then◌else◌ {ℓ} : {A : Type ℓ} → Bool → A → A → A
-if◌then◌else◌ true a b = a
-if◌then◌else◌ false a b = b
+use Rattle.std.specs.Prelude.{if◌then◌else◌, cond, ℕ, ◌+◌, ◌-◌, ◌*◌, ◌/◌, ◌%◌, ◌≤◌, ◌≡◌, Bool, true, false, ◌&&◌, List, [], ◌∷◌, ◌++◌, length, get_or, take, drop, replicate, leb, ltb, eqb}
 
 -- "Numbers of two bytes are big-endian."
 abbrev pub two_bytes : ℕ → List ℕ
@@ -45,7 +40,7 @@ every p (x ∷ xs) = p x && every p xs
 -- the elements that pass the test, in their order
 abbrev pub keep {ℓ} : {A : Type ℓ} → (A → Bool) → List A → List A
 keep p [] = []
-keep p (x ∷ xs) = let rest = keep p xs in if p x then x ∷ rest else rest
+keep p (x ∷ xs) = let rest = keep p xs in cond (p x) (x ∷ rest) rest
 
 -- the two lists are the same, by a test of their elements
 abbrev pub same_by {ℓ} : {A : Type ℓ} → (A → A → Bool) → List A → List A → Bool

@@ -1,7 +1,6 @@
 -- Where a search that goes forward stands in the lists. Inner contracts alone cite these; what text an ID has is said
 -- by Text.
-use Rattle.std.specs.Prelude.{ℕ, ◌+◌, ◌≤◌, ◌≡◌, List, [], ◌∷◌, ltb, eqb}
-use Rattle.words.specs.Words.{if◌then◌else◌}
+use Rattle.std.specs.Prelude.{if◌then◌else◌, ℕ, ◌+◌, ◌≤◌, ◌≡◌, List, [], ◌∷◌, ltb, eqb}
 use Rattle.baos.specs.declared.inner.Cursors.{Cursors}
 use Rattle.baos.specs.TextList.{EntryAt, entries_in}
 use Rattle.baos.specs.Text.{TextLists}

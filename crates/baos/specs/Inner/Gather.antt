@@ -1,8 +1,8 @@
 -- How entries are gathered: measured in one pass over the table, built in a second, each ending at the first record
 -- behind the range. Inner contracts alone cite these; what an answer has to be is said by Get and Indication.
-use Rattle.std.specs.Prelude.{ℕ, ◌+◌, ◌-◌, Bool, true, false, not, ◌&&◌, ◌||◌, length, leb, ltb, eqb}
+use Rattle.std.specs.Prelude.{if◌then◌else◌, ℕ, ◌+◌, ◌-◌, Bool, true, false, not, ◌&&◌, ◌||◌, length, leb, ltb, eqb}
 use mathlib.Core.List.{List, [], ◌∷◌, ◌++◌, map, flatten}
-use Rattle.words.specs.Words.{if◌then◌else◌, is_yes, two_bytes}
+use Rattle.words.specs.Words.{is_yes, two_bytes}
 use Rattle.baos.specs.declared.datapoint.Datapoint.{Datapoint}
 use Rattle.baos.specs.declared.item.Item.{Item}
 use Rattle.baos.specs.declared.inner.Wanted.{Wanted}

@@ -1,7 +1,7 @@
 -- How strings are gathered: the two passes of Gather, with cursors that go forward in the text lists beside them. Inner
 -- contracts alone cite these; what an answer has to be is said by Get.
-use Rattle.std.specs.Prelude.{ℕ, ◌+◌, ◌≡◌, false, List, length}
-use Rattle.words.specs.Words.{if◌then◌else◌, put}
+use Rattle.std.specs.Prelude.{if◌then◌else◌, ℕ, ◌+◌, ◌≡◌, false, List, length}
+use Rattle.words.specs.Words.{put}
 use Rattle.baos.specs.declared.inner.Cursors.{Cursors}
 use Rattle.baos.specs.Text.{TextLists}
 use Rattle.baos.specs.Inner.Cursors.{cursors_of}

@@ -36,7 +36,7 @@ use denote.Struct.Laws as LL
 use denote.Triple.Spec.{triple_of}
 use denote.Triple.Statement.{Contract, Triple}
 use denote.Triple.Table.{entered, cited}
-use Rattle.words.specs.Words.{if◌then◌else◌}
+use Rattle.std.specs.Prelude.{if◌then◌else◌}
 use Rattle.ft12.specs.Record.{line_of, link_of, holds_frame, in_range}
 use Rattle.ft12.specs.Rules.{on_host_byte, on_idle_mark, on_ack_wait_over}
 use Rattle.ft12.specs.Promise.{AckWaited}

@@ -43,7 +43,7 @@ use Rattle.baos.specs.Datapoint.{datapoint_id, zero_datapoint}
 use Rattle.baos.specs.Table.{changed_at, place, rising}
 use Rattle.baos.specs.Set.{SetEntry, span, first_datapoint_entry, set_datapoint}
 use Rattle.baos.proofs.Types.{datapoint_d, entry_place_d, byte_d, place_d}
-use Rattle.words.specs.Words.{if◌then◌else◌}
+use Rattle.std.specs.Prelude.{if◌then◌else◌}
 use Rattle.baos.proofs.SetLaws.{span_head}
 use Rattle.baos.proofs.EntryPlaceLaws.{found_at_fits, found-place_fits}
 use Rattle.baos.proofs.ApplyLaws.{changed_there, unchanged_there}

@@ -37,7 +37,7 @@ use Rattle.baos.specs.Item.{item_id, zero_item}
 use Rattle.baos.specs.Table.{changed_at, place, rising}
 use Rattle.baos.specs.Set.{SetEntry, span, first_item_entry, set_item}
 use Rattle.baos.proofs.Types.{item_d, byte_d, id_d, place_d}
-use Rattle.words.specs.Words.{if◌then◌else◌}
+use Rattle.std.specs.Prelude.{if◌then◌else◌}
 use Rattle.baos.proofs.SetLaws.{span_head}
 use Rattle.baos.proofs.EntriesLaws.{changed_here, changed_nowhere, item_entry_id}
 use Rattle.sets.specs.contracts.set.entry_id as entry_id
