@@ -1,1 +1,2 @@
+mod Blanks
 mod SearchLaws
