@@ -1,3 +1,4 @@
+-- The size by rule is that of the value's type, and an entry is four bytes longer.
 use mathlib.Core.Path.{◌≡◌, sym}
 use Prim.Native.Nat.{◌-◌}
 use native.Mathlib.Omega.{arith}
