@@ -1,2 +1,2 @@
-mod Blanks
+pub mod Blanks
 mod SearchLaws
