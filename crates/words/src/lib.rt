@@ -1,3 +1,4 @@
 // Bytes, and the words that all definitions share.
 #![tactic(auto)]
+
 pub mod bytes;
