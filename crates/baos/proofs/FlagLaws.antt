@@ -24,7 +24,7 @@ use Rattle.baos.specs.Message.{sub_service, start_of, number_of, filter_of, code
 use Rattle.baos.specs.Get.{AnswerEntry, in_request, overflow, room_for_entries, listing, get_finding, getting, item_entry, get_server_item, description_entry, get_datapoint_description, string_entry, get_description_string, value_entry, passes, asked, handing_out, get_datapoint_value, parameter_entries, get_parameter_byte}
 use Rattle.baos.specs.Set.{SetEntry, first_item_entry, first_datapoint_entry, fills, set_entries, takes_command, datapoint_code, judged_item, judged_datapoint, first_bad, set_finding, applied, setting, set_item, set_server_item, set_datapoint, set_datapoint_value, set_parameter_finding, set_parameter_byte}
 use Rattle.baos.specs.Service.{service, unanswered, carried_out}
-use Rattle.baos.specs.Bus.{takes, taken, found_takes}
+use Rattle.baos.specs.Bus.{takes, found_takes}
 use Rattle.baos.specs.Indication.{needs, goes, room_after, Choice, choices, reported, after_report, indication_of, indication}
 use Rattle.baos.proofs.LookupLaws.{present_one, present_some}
 

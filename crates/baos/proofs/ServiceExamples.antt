@@ -1,7 +1,6 @@
 -- A reading is handed out once: the state byte is shown as it was, then bit 3 is cleared, and a second request for updated readings finds none.
 use Prim.Native.Nat.{ℕ}
 use mathlib.Core.Path.{◌≡◌, refl}
-use mathlib.Core.Bool.{true}
 use mathlib.Core.List.{List, [], ◌∷◌, flatten}
 use Rattle.words.specs.Words.{pad}
 use Rattle.baos.specs.Datapoint.{size_of, value_of, with_state, handed_out}

@@ -1,7 +1,7 @@
 -- The text of an ID: "the text comes from the site list, failing that the default list, where that has a non-empty
 -- entry for the ID, else it is the empty start of the default list, and it is handed on as that stretch of whichever
 -- list held it" (document 02, item 1).
-use Rattle.std.specs.Prelude.{cond, if◌then◌else◌, ℕ, ◌+◌, ◌≡◌, Bool, true, false, ◌&&◌, List, [], ◌∷◌, take, drop, ltb, eqb}
+use Rattle.std.specs.Prelude.{cond, ℕ, ◌+◌, ◌≡◌, Bool, true, false, ◌&&◌, List, [], ◌∷◌, take, drop, ltb, eqb}
 use Rattle.std.specs.Borrow.{Bor}
 use Rattle.words.specs.Words.{keep}
 use Rattle.baos.specs.declared.text.Stretch.{Stretch}

@@ -1,5 +1,5 @@
 -- A host byte, exit by exit: what its callees say of record, tables, buffer and counts is what the call has to answer and leave.
-use Prim.Native.Nat.{ℕ, ◌+◌, ◌-◌, ◌≤◌, ◌<◌}
+use Prim.Native.Nat.{ℕ, ◌+◌, ◌-◌, ◌≤◌}
 use mathlib.Core.Path.{◌≡◌, refl, sym, ◌∙◌, ap}
 use mathlib.Core.Bool.{Bool, true, false}
 use mathlib.Core.List.{List, [], ◌∷◌, ◌++◌}
@@ -30,7 +30,6 @@ use Rattle.baos.specs.Text.{TextLists, text_lists_ok}
 use Rattle.baos.specs.Table.{Tables, tables_of, table_ok, well_formed}
 use Rattle.baos.specs.Message.{Served}
 use Rattle.baos.specs.Service.{carried_out}
-use Rattle.baos.proofs.ServiceLaws
 use Rattle.baos.proofs.AnswerLaws
 use Rattle.baos.proofs.TableLaws.{same_tables}
 use Rattle.baos.proofs.KeepLaws

@@ -7,9 +7,9 @@ use mathlib.Core.List.{List, [], ◌∷◌, map}
 use native.Mathlib.Nat.{lt_irrefl}
 use native.Mathlib.Omega.{arith}
 use lib.ListN.{length, get_or}
-use lib.Dec.{T, leb, ltb, eqb, ltb→lt, lt→ltb, eqb→eq, leb→le, nleb→lt}
+use lib.Dec.{T, ltb, eqb, ltb→lt, lt→ltb, eqb→eq, leb→le, nleb→lt}
 use borrow.Author.Tests.{eq-eqb, ne_eqb}
-use lib.IntN.{ℤ, pos, ◌+ℤ◌, ◌-ℤ◌}
+use lib.IntN.{pos, ◌+ℤ◌, ◌-ℤ◌}
 use lib.Ieee.{Float, nan, inf, fin, binary32, round, div, of_int, of_bits, to_bits}
 use lib.Ieee.Fits.{round-fits, of_int-fits}
 use lib.Ieee.Bits.{to_bits-of_bits}

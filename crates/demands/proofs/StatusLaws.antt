@@ -9,7 +9,7 @@ use lib.ListN.{length, get_or}
 use lib.Dec.{T, eqb, eqb→eq}
 use borrow.Author.Tests.{eq-eqb, ne_eqb, eqb-true}
 use Rattle.std.specs.Prelude.{if◌then◌else◌}
-use Rattle.words.specs.Words.{is_empty, keep, every}
+use Rattle.words.specs.Words.{is_empty, keep}
 use Rattle.words.proofs.WordLaws.{left, right, true_T, T_true}
 use Rattle.ft12.specs.declared.record.Link.{Link}
 use Rattle.ft12.specs.Record.{Line, line_of}
@@ -24,7 +24,7 @@ use Rattle.baos.specs.Table.{Tables, with_items, with_parameters, found, changed
 use Rattle.baos.specs.Message.{sub_service, start_of, coded, Finding, fine, bad, Served, after_of, served}
 use Rattle.baos.specs.Get.{room_for_entries, getting, get_server_item, get_datapoint_description, get_description_string, asked, handing_out, get_datapoint_value, get_parameter_byte}
 use Rattle.baos.specs.Set.{SetEntry, first_datapoint_entry, judged_datapoint, applied, setting, set_server_item, set_datapoint, set_datapoint_value, set_parameter_byte}
-use Rattle.baos.specs.Service.{service, carried_out}
+use Rattle.baos.specs.Service.{carried_out}
 use Rattle.baos.specs.Indication.{choices, goes, room_after, after_report, indication}
 use Rattle.baos.proofs.DatapointLaws.{command_same, command_status, bits_without_updated, bits_with_status, bits_from_bus}
 use Rattle.baos.proofs.BusLaws.{status_fits}
@@ -34,7 +34,7 @@ use Rattle.baos.proofs.DispatchLaws.{by_service, by_message}
 use Rattle.calls.specs.declared.event.Event.{Event}
 use Rattle.calls.specs.declared.event.Event.TheVariants.{HostByte, IdleMark, AckWaitOver, Poll, BusValue, TransmissionOutcome}
 use Rattle.calls.specs.Event.{at_datapoint}
-use Rattle.calls.specs.Call.{Done, handed_up, on_moved, on_poll, happens, refusal, refused, call}
+use Rattle.calls.specs.Call.{Done, handed_up, on_moved, on_poll, happens, refusal, call}
 use Rattle.calls.proofs.CallJoins.{waited}
 use Rattle.walks.proofs.Branches.{no_T}
 use Rattle.demands.proofs.HandedOutLaws.{out_id, report_id, value_id, call_tables, by_call, byte_tables, by_poll}

@@ -7,7 +7,7 @@
 -- by at most their size divided by 2 to the 24. 7FFF is unreadable, also a DPT 14 that is infinite or not a number, any
 -- other DPT and type, and a datapoint whose valid bit is off. Readings change no table. Refusals: call 1 as before, then
 -- 4 for an ID that is absent."
-use Rattle.std.specs.Prelude.{ℕ, ◌+◌, ◌*◌, ◌/◌, ◌%◌, ◌^◌, ◌<◌, ◌≡◌, ◌≢◌, ◌⊎◌, ◌↔◌, true, false, List, length, get_or, T, ℤ, pos, neg_ℤ, ◌+ℤ◌, ◌*ℤ◌, Float}
+use Rattle.std.specs.Prelude.{ℕ, ◌+◌, ◌*◌, ◌/◌, ◌%◌, ◌^◌, ◌<◌, ◌≡◌, ◌≢◌, ◌⊎◌, ◌↔◌, true, false, List, length, get_or, T, pos, neg_ℤ, ◌+ℤ◌, ◌*ℤ◌, Float}
 use Rattle.std.specs.Float.{nan, inf, binary32}
 use Rattle.std.specs.Float.Ieee.{fits, div, of_int, of_bits, to_bits}
 use Rattle.words.specs.Words.{of_two_bytes, is_yes, yes_or_no, are_bytes}

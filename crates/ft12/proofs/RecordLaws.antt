@@ -1,12 +1,12 @@
 -- The link record: what it holds, and its range test decides the paper's words.
-use Prim.Native.Nat.{ℕ, ◌-◌, ◌≤◌}
+use Prim.Native.Nat.{ℕ, ◌≤◌}
 use mathlib.Core.Path.{◌≡◌, refl, ◌∙◌}
 use mathlib.Core.Logic.{◌↔◌}
 use mathlib.Core.Bool.{Bool, true, false, ◌&&◌, and-false, and-true}
 use mathlib.Core.List.{List, [], ◌∷◌}
 use native.Mathlib.Omega.{arith}
 use lib.ListN.{length, take}
-use lib.Dec.{T, leb, ltb, eqb, leb→le, le→leb, ltb→lt, lt→ltb, eqb→eq}
+use lib.Dec.{T, leb, leb→le, le→leb, ltb→lt, lt→ltb, eqb→eq}
 use Rattle.ft12.specs.declared.record.Link.{Link}
 use Rattle.words.specs.Words.{is_yes_or_no, is_yes, yes_or_no, is_empty, pad, is_padded, are_bytes}
 use Rattle.ft12.specs.Frame.{Whole, is_whole, data_frame}

@@ -9,7 +9,6 @@ use lib.ListN.{length, get_or, take, drop, replicate, length-append, length-drop
 use lib.Seq.{take_all, take-append_seam, drop-append_seam, get_or-drop, length-take-le}
 use lib.Dec.{T, eqb, leb, ltb, eqb→eq, eqb_refl, leb→le, le→leb, ltb→lt, lt→ltb}
 use borrow.Author.Tests.{eq-eqb}
-use Rattle.std.specs.Prelude.{if◌then◌else◌}
 use Rattle.words.specs.Words.{is_yes_or_no, is_yes, yes_or_no, is_empty, every, keep, pad, same, same_by, are_zero, is_padded, Padded, are_bytes}
 
 -- ---- tests
