@@ -1,4 +1,4 @@
-use Rattle.std.proofs.Common.{◌-◌, sym, ap, ◌∙◌, arith, take_all}
+use Rattle.std.proofs.Common.{sym, ap, ◌∙◌, arith, take_all}
 use Rattle.ft12.specs.Frame.{checksum}
 use Rattle.ft12.proofs.ChecksumLaws.{checksum_none, checksum-next}
 use Rattle.frames.proofs.frame.checksum.Goals as goal

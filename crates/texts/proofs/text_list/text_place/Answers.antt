@@ -1,4 +1,4 @@
-use Prim.Native.Nat.{◌+◌, ◌-◌}
+use Prim.Native.Nat.{◌+◌}
 use native.Mathlib.Omega.{arith}
 use Rattle.baos.proofs.TextListLaws.{search_begins, search_ends, search_entry, search_stops, search_next}
 use Rattle.texts.proofs.text_list.text_place.Goals as goal
