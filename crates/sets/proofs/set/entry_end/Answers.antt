@@ -1,4 +1,3 @@
-use Prim.Native.Nat.{◌+◌, ◌-◌}
 use native.Mathlib.Omega.{arith}
 use lib.ListN.{drop}
 use Rattle.baos.proofs.SetLaws.{span_head, span_at_lem}
@@ -6,9 +5,6 @@ use Rattle.sets.proofs.set.entry_end.Goals as goal
 
 pub bounds-s-at : goal.bounds-s-at
 bounds-s-at c = omega (arith, span_head c.args.head (drop c.args.at c.args.s.now))
-
-pub overflow_cast-result : goal.overflow_cast-result
-overflow_cast-result c = omega (arith, c.shared_slice_known-1.given (c.args.at + c.args.head - 1))
 
 pub overflow_add-result-3 : goal.overflow_add-result-3
 overflow_add-result-3 c = omega (arith, span_at_lem c.args.head 0 c.args.at c.args.s.now (omega arith))

@@ -1,4 +1,4 @@
-use Prim.Native.Nat.{ℕ, ◌+◌, ◌-◌}
+use Prim.Native.Nat.{ℕ}
 use mathlib.Core.Path.{refl, sym, ◌∙◌, ap}
 use native.Mathlib.Omega.{arith}
 use lib.ListN.{drop}
@@ -9,38 +9,17 @@ use Rattle.sets.proofs.set.is_filled.Goals as goal
 pub loop-left-init : goal.loop-left-init
 loop-left-init c = (omega arith, omega arith, refl)
 
-pub overflow_sub-s : goal.overflow_sub-s
-overflow_sub-s c = c.loop-left.invariant.0
-
 pub returns-then-s-at : goal.returns-then-s-at
 returns-then-s-at c =
     let a = c.args in
     let l = c.loop-left in
     sym (l.invariant.2 ∙ short_head a.head l.left l.at a.s.now (omega arith) (omega arith))
 
-pub bounds-s-at : goal.bounds-s-at
-bounds-s-at c = omega arith
-
-pub overflow_cast-span : goal.overflow_cast-span
-overflow_cast-span c = omega (arith, c.shared_slice_known-1.given (c.loop-left.at + c.args.head - 1))
-
-pub overflow_add-span-in-loop-left : goal.overflow_add-span-in-loop-left
-overflow_add-span-in-loop-left c = omega (arith, c.shared_slice_known-1.given (c.loop-left.at + c.args.head - 1))
-
-pub overflow_sub-s-in-loop-left : goal.overflow_sub-s-in-loop-left
-overflow_sub-s-in-loop-left c = c.loop-left.invariant.0
-
 pub returns-then-s-at-2 : goal.returns-then-s-at-2
 returns-then-s-at-2 c =
     let a = c.args in
     let l = c.loop-left in
     sym (l.invariant.2 ∙ short_value a.head l.left l.at a.s.now (omega arith) (omega arith) (omega arith) (omega arith))
-
-pub overflow_sub-left : goal.overflow_sub-left
-overflow_sub-left c = omega arith
-
-pub loop-left-smaller : goal.loop-left-smaller
-loop-left-smaller c = omega arith
 
 pub loop-left-preserved : goal.loop-left-preserved
 loop-left-preserved c =

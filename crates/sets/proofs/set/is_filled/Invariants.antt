@@ -1,5 +1,5 @@
 -- The loop: the entries from byte `at` on fill what is left.
-use Prim.Native.Nat.{◌-◌, ◌≤◌}
+use Prim.Native.Nat.{◌≤◌}
 use mathlib.Core.Path.{◌≡◌}
 use lib.ListN.{length, drop}
 use Rattle.baos.specs.Set.{fills}
