@@ -1,4 +1,4 @@
-use Rattle.std.proofs.Common.{◌-◌, sym, ap, ◌∙◌, arith}
+use Rattle.std.proofs.Common.{sym, ap, ◌∙◌, arith}
 use Rattle.words.proofs.WordLaws.{rest_whole}
 use Rattle.ft12.specs.Burst.{first_size}
 use Rattle.bursts.proofs.LoopLaws.{begins, acknowledgement_on, frame_on, room_left, place-left, first_lent, lent_filled, ends_clean, ends_broken, refused_long, refused_short}

@@ -1,7 +1,5 @@
 -- A law of RefusalLaws for each number.
-use Rattle.std.proofs.Common.{Bool, not, eqb, List, sym, ◌∙◌, arith}
-use Rattle.baos.specs.Text.{text_lists}
-use Rattle.baos.specs.Table.{Tables, tables_of}
+use Rattle.std.proofs.Common.{sym, ◌∙◌, arith}
 use Rattle.calls.proofs.RefusalLaws.{lent_1, lent_2, lent_3, lent_0}
 use Rattle.refusals.proofs.refusal.refusal_of.Goals as goal
 

@@ -1,4 +1,3 @@
-use Rattle.std.proofs.Common.{◌-◌}
 use Rattle.script.proofs.LineLaws.{seeking_begins, seeking_goes, seeking_found, seeking_ends}
 use Rattle.script.proofs.line.line_end.Goals as goal
 

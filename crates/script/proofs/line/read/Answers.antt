@@ -1,4 +1,4 @@
-use Rattle.std.proofs.Common.{◌-◌, ◌<◌, length, refl, arith}
+use Rattle.std.proofs.Common.{length, refl, arith}
 use Rattle.script.proofs.LineLaws.{reading_begins, reading_goes, reading_ends, goes_on}
 use Rattle.script.proofs.line.read.Goals as goal
 
