@@ -2,7 +2,7 @@ use Prim.Native.Nat.{ℕ}
 use mathlib.Core.Path.{◌≡◌, sym, ◌∙◌, ap}
 use native.Mathlib.Omega.{arith}
 use lib.ListN.{length}
-use Rattle.baos.specs.Inner.Gather.{ended, with_entry}
+use Rattle.baos.specs.Inner.Gather.{with_entry}
 use Rattle.baos.specs.Get.{item_entry}
 use Rattle.baos.proofs.MeasureLaws.{not_behind, in_range_lem, item_length, measured_behind, measured_wanted}
 use borrow.Author.Rules.{rules}

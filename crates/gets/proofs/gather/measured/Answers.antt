@@ -2,7 +2,7 @@ use Prim.Native.Nat.{ℕ}
 use mathlib.Core.Path.{◌≡◌, sym, ◌∙◌, ap}
 use native.Mathlib.Omega.{arith}
 use lib.ListN.{length}
-use Rattle.baos.specs.Inner.Gather.{entry_of, ended, with_entry}
+use Rattle.baos.specs.Inner.Gather.{entry_of, with_entry}
 use Rattle.baos.proofs.MeasureLaws.{not_behind, entry_id, entry_short, measured_behind, measured_wanted, measured_other}
 use borrow.Author.Rules.{rules}
 use Rattle.gets.proofs.gather.measured.Goals as goal

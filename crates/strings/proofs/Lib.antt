@@ -1,0 +1,2 @@
+mod AskSteps
+mod PassSteps
