@@ -1,5 +1,5 @@
 -- One law of CarryJoins for each exit: what the called service wrote and left is what carrying the message out leaves.
-use Rattle.std.proofs.Common.{◌≡◌, ℕ, Bool, true, false, not, T, eqb, List, length, sym, ap, ◌∙◌, arith}
+use Rattle.std.proofs.Common.{◌≡◌, ℕ, Bool, false, not, T, eqb, List, sym, ap, ◌∙◌, arith}
 use borrow.Author.Tests.{eq-eqb, ne_eqb}
 use Rattle.words.proofs.WordLaws.{true_T}
 use Rattle.baos.specs.Text.{text_lists}
