@@ -42,9 +42,9 @@ line = record { row = Struct (SD.shape T.the_type); ty = T'.mir }
 abbrev pub members : List Member
 members =
     record { row = Struct (SD.shape L.the_type); ty = L'.mir }
-    ∷ record { row = Array (Struct (SD.shape P.the_type)) 50; ty = ty_array P'.mir 50 }
+    ∷ record { row = Array (SD.row P.the_type) 50; ty = ty_array P'.mir 50 }
     ∷ count
-    ∷ record { row = Array (Struct (SD.shape I.the_type)) 4; ty = ty_array I'.mir 4 }
+    ∷ record { row = Array (SD.row I.the_type) 4; ty = ty_array I'.mir 4 }
     ∷ count
     ∷ bytes 264
     ∷ count
