@@ -9,7 +9,7 @@ use calls::reply::Reply;
 use ft12::record::Link;
 use script::line::Line;
 
-#[derive(Drop)]
+#[derive(Clone, Copy)]
 pub struct Bench {
     pub link: Link,
     pub datapoints: [Datapoint; 50],

@@ -11,7 +11,7 @@ use calls::reply::Reply;
 
 // A bench after what happened; whether all was quiet that was to be; and at which of the bytes that the host sent last
 // the receiver found damage.
-#[derive(Drop)]
+#[derive(Clone, Copy)]
 pub struct Stand {
     pub bench: Bench,
     pub quiet: bool,
