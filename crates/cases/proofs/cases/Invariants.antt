@@ -1,3 +1,4 @@
+-- The loop: the script that is read begins no later than the place in the input.
 use Rattle.std.proofs.Common.{◌-◌, ◌≤◌, length}
 use Rattle.cases.proofs.cases.Given as goal
 

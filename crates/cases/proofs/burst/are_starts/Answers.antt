@@ -1,21 +1,10 @@
-use Rattle.std.proofs.Common.{◌-◌, length, sym, refl, ◌∙◌, arith, length-take-le, get_or-take}
+-- One place more, and then all: the laws of lists that are compared place by place.
+use Rattle.std.proofs.Common.{length, sym, refl, ◌∙◌, arith, length-take-le, get_or-take}
 use Rattle.cases.proofs.SameLaws.{compared, left_to, alike_begins, alike_goes, alike_ends}
 use Rattle.cases.proofs.burst.are_starts.Goals as goal
 
 pub loop-i-init : goal.loop-i-init
 loop-i-init c = alike_begins _ _ _
-
-pub bounds-run-i : goal.bounds-run-i
-bounds-run-i c = omega arith
-
-pub bounds-wanted-i : goal.bounds-wanted-i
-bounds-wanted-i c = omega arith
-
-pub overflow_cast-same : goal.overflow_cast-same
-overflow_cast-same c = omega (arith, c.shared_slice_known-in-loop-i-1.given c.loop-i.i)
-
-pub loop-i-smaller : goal.loop-i-smaller
-loop-i-smaller c = omega arith
 
 pub loop-i-preserved : goal.loop-i-preserved
 loop-i-preserved c =

@@ -1,19 +1,8 @@
-use Rattle.std.proofs.Common.{sym, ◌∙◌}
+-- Each letter has its line of the definition.
+use Rattle.std.proofs.Common.{sym, ◌∙◌, rules}
 use Rattle.cases.specs.Bench.{with_parameters, with_site, with_defaults}
 use Rattle.cases.proofs.LentLaws.{told_empty, told_item, told_datapoints, told_parameters, told_site, told_defaults, told_nothing}
 use Rattle.cases.proofs.lent.told.Goals as goal
-
-pub empty-requires : goal.empty-requires
-empty-requires c = tt
-
-pub item_of-requires : goal.item_of-requires
-item_of-requires c = tt
-
-pub with_item-requires : goal.with_item-requires
-with_item-requires c = tt
-
-pub with_datapoints-requires : goal.with_datapoints-requires
-with_datapoints-requires c = tt
 
 pub returns-in-101 : goal.returns-in-101
 returns-in-101 c = c.empty.ensures ∙ sym (told_empty _ _ c.in-101.is)
@@ -37,4 +26,4 @@ unfolding with_defaults
 returns-in-119 c = sym (told_defaults _ _ c.in-119.is)
 
 pub returns-in_default : goal.returns-in_default
-returns-in_default c = sym (told_nothing _ _ c.in_default.in_default-own.rest.0.0.0.0.0.1 c.in_default.in_default-own.rest.0.0.0.0.1 c.in_default.in_default-own.rest.0.0.0.1 c.in_default.in_default-own.rest.0.0.1 c.in_default.in_default-own.rest.0.1 c.in_default.in_default-own.rest.1)
+returns-in_default c = sym (told_nothing _ _ (search rules) (search rules) (search rules) (search rules) (search rules) (search rules))

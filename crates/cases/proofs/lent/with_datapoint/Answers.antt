@@ -1,3 +1,4 @@
+-- A full table stays; otherwise the record stands behind the others.
 use Rattle.std.proofs.Common.{sym}
 use Rattle.cases.specs.Bench.{with_datapoints}
 use Rattle.cases.proofs.LentLaws.{datapoint_full, datapoint_added}

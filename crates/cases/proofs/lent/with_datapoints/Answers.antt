@@ -1,19 +1,11 @@
-use Rattle.std.proofs.Common.{ℕ, ◌-◌, sym, ap, ◌∙◌, arith}
+-- One datapoint more is the next step of the definition.
+use Rattle.std.proofs.Common.{ℕ, sym, ap, ◌∙◌, arith}
 use Rattle.cases.specs.Lent.{filled}
 use Rattle.cases.proofs.LentLaws.{filled_none, filled_next}
 use Rattle.cases.proofs.lent.with_datapoints.Goals as goal
 
 pub loop-k-init : goal.loop-k-init
 loop-k-init c = (omega arith, sym (filled_none _ _))
-
-pub datapoint_of-requires : goal.datapoint_of-requires
-datapoint_of-requires c = tt
-
-pub with_datapoint-b-requires : goal.with_datapoint-b-requires
-with_datapoint-b-requires c = tt
-
-pub overflow_add-k : goal.overflow_add-k
-overflow_add-k c = omega (arith, c.loop-k.invariant.0)
 
 pub loop-k-preserved : goal.loop-k-preserved
 loop-k-preserved c = let l = c.loop-k in (omega (arith, l.invariant.0), rw (c.datapoint_of.ensures, l.invariant.1) at c.with_datapoint-b.ensures ∙ sym (filled_next _ _ l.k))

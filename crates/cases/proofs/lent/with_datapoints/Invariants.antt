@@ -1,3 +1,4 @@
+-- The loop: the bench with so many datapoints more.
 use Rattle.std.proofs.Common.{◌≡◌, ◌-◌, ◌≤◌}
 use Rattle.cases.specs.Lent.{filled}
 use Rattle.cases.proofs.lent.with_datapoints.Given as goal

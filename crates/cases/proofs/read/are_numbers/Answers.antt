@@ -1,4 +1,5 @@
-use Rattle.std.proofs.Common.{arith}
+-- Each number is compared; a case less a refusal fits in 32 bits.
+use Rattle.std.proofs.Common.{arith, rules}
 use Rattle.cases.proofs.ReadLaws.{difference_fits, reading_decided}
 use Rattle.cases.proofs.read.are_numbers.Goals as goal
 
@@ -7,5 +8,4 @@ overflow_sub-result c = difference_fits c.args.case c.args.refusal (omega (arith
 
 pub returns : goal.returns
 returns c =
-    let b = c in
-    reading_decided b.args.case b.args.refusal (omega (arith, b.ranges.case)) (omega (arith, b.ranges.refusal)) _ _ _ (record { sfits = c.struct_told-1.given.0.1 })
+    reading_decided c.args.case c.args.refusal (omega (arith, c.ranges.case)) (omega (arith, c.ranges.refusal)) _ _ _ (search rules)

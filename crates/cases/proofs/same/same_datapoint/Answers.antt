@@ -1,10 +1,8 @@
+-- A record is the same where every field is.
 use Rattle.std.proofs.Common.{ap}
 use Rattle.baos.specs.declared.datapoint.Datapoint.{Datapoint}
 use Rattle.cases.proofs.SameLaws.{both, left_to, compared, datapoint_same}
 use Rattle.cases.proofs.same.same_datapoint.Goals as goal
-
-pub same-requires : goal.same-requires
-same-requires c = tt
 
 pub returns : goal.returns
 returns c =

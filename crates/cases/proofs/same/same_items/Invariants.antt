@@ -1,3 +1,4 @@
+-- The loop: whether the records so far are the same.
 use Rattle.std.proofs.Common.{◌-◌}
 use Rattle.cases.proofs.SameLaws.{Alike}
 use Rattle.cases.proofs.same.same_items.Given as goal
