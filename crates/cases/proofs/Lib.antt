@@ -6,3 +6,4 @@ pub mod Types
 pub mod BurstLaws
 pub mod LentLaws
 pub mod ScriptLaws
+pub mod StepLaws
