@@ -25,7 +25,7 @@ use Rattle.calls.specs.Call.{happens, refusal, Called, accepted, call}
 use Rattle.calls.proofs.CallLaws.{refusal_0, refusal_1, refusal_2, refusal_3, refusal_4, not_refused, refused_leaves, call_lasts}
 use Rattle.demands.specs.SentFrames.{ReadsBack, Sends, nothing, acknowledges, resets, frames, answers}
 use Rattle.demands.proofs.ReadBack.{happens_sends}
-use Rattle.demands.specs.Refusals.{Wrong, bad_tables, bad_link_lem, short_output, bad_bus_event, Lowest, Refusals, Demand1}
+use Rattle.demands.specs.Refusals.{Wrong, bad_tables, bad_link_record, short_output, bad_bus_event, Lowest, Refusals, Demand1}
 
 -- a reply that is a refusal is no other one, and no acceptance
 refusals_told : (m n : ℕ) → Refused m ≡ Refused n → m ≡ n
@@ -118,7 +118,7 @@ module _ (e : Event) (v : List ℕ) (t : Tables) (k : Link) (out : List ℕ) whe
     where
       go : Found → Wrong e v t k out number
       go (first w n) = bad_tables n w
-      go (second w r n) = bad_link_lem n r
+      go (second w r n) = bad_link_record n r
       go (third w r h n) = short_output n h
       go (fourth w r h b n) = bad_bus_event n b
       go (none w r h b n) = absurd (z n)
@@ -129,23 +129,23 @@ module _ (e : Event) (v : List ℕ) (t : Tables) (k : Link) (out : List ℕ) whe
     where
       go : Found → Wrong e v t k out i → (1 ≤ number) × (number ≤ i)
       go (first a n) (bad_tables h x) = (omega (arith, n), omega (arith, n, h))
-      go (first a n) (bad_link_lem h x) = (omega (arith, n), omega (arith, n, h))
+      go (first a n) (bad_link_record h x) = (omega (arith, n), omega (arith, n, h))
       go (first a n) (short_output h x) = (omega (arith, n), omega (arith, n, h))
       go (first a n) (bad_bus_event h x) = (omega (arith, n), omega (arith, n, h))
       go (second a b n) (bad_tables h x) = absurd (not_true a x)
-      go (second a b n) (bad_link_lem h x) = (omega (arith, n), omega (arith, n, h))
+      go (second a b n) (bad_link_record h x) = (omega (arith, n), omega (arith, n, h))
       go (second a b n) (short_output h x) = (omega (arith, n), omega (arith, n, h))
       go (second a b n) (bad_bus_event h x) = (omega (arith, n), omega (arith, n, h))
       go (third a b c n) (bad_tables h x) = absurd (not_true a x)
-      go (third a b c n) (bad_link_lem h x) = absurd (not_true b x)
+      go (third a b c n) (bad_link_record h x) = absurd (not_true b x)
       go (third a b c n) (short_output h x) = (omega (arith, n), omega (arith, n, h))
       go (third a b c n) (bad_bus_event h x) = (omega (arith, n), omega (arith, n, h))
       go (fourth a b c d n) (bad_tables h x) = absurd (not_true a x)
-      go (fourth a b c d n) (bad_link_lem h x) = absurd (not_true b x)
+      go (fourth a b c d n) (bad_link_record h x) = absurd (not_true b x)
       go (fourth a b c d n) (short_output h x) = absurd (omega (arith, c, x))
       go (fourth a b c d n) (bad_bus_event h x) = (omega (arith, n), omega (arith, n, h))
       go (none a b c d n) (bad_tables h x) = absurd (not_true a x)
-      go (none a b c d n) (bad_link_lem h x) = absurd (not_true b x)
+      go (none a b c d n) (bad_link_record h x) = absurd (not_true b x)
       go (none a b c d n) (short_output h x) = absurd (omega (arith, c, x))
       go (none a b c d n) (bad_bus_event h x) = absurd (not_true d x)
 

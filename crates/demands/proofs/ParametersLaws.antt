@@ -122,7 +122,7 @@ module _ (t : Tables) (m : List ℕ) (a : T (asks_to_set_parameters m)) where
     seven_first i f = go (range count start number)
       where
         lies : (start ≤ i) × (i < start + number)
-        lies = range_bounds m i f.in_range_lem
+        lies = range_bounds m i f.within_range
 
         -- where the start is not in the table, the index is the start
         is_start : (1 ≤ start → start ≤ count → ⊥) → start ≡ i
@@ -170,7 +170,7 @@ module _ (t : Tables) (m : List ℕ) (a : T (asks_to_set_parameters m)) where
         code_6 = λ l z. bad_says (no_bytes count m (omega (arith, l, z)) z);
         code_7 = λ s i f. seven_first s i f;
         code_0 = λ s all. zero_all s all;
-        at_start_lem = λ s n. seven_at_start s (no_index t start n);
+        at_the_start = λ s n. seven_at_start s (no_index t start n);
         behind_last = λ s x o. seven_behind s (index_bounds t start x).0 (index_bounds t start x).1 o;
         within = λ s x h. zero_within s (index_bounds t start x).0 h;
         no_other = one_of_four;
@@ -213,7 +213,7 @@ module _ (t : Tables) (m : List ℕ) (a : T (asks_to_set_parameters m)) where
         let set : (carried_out t m).after.parameters ≡ put ps at (drop 6 m) = ap (λ (x : Tables). x.parameters) set_so in
         record {
           as_many = ap length set ∙ length-put ps at (drop 6 m) p.fits;
-          in_range_lem = λ i r. let q = range_bounds m i r in
+          within_range = λ i r. let q = range_bounds m i r in
               ap (λ (l : List ℕ). get_or l (i - 1) 0) set
               ∙ get_d_put_within ps at (drop 6 m) p.fits (i - 1) (omega (arith, q.0)) (omega (arith, q.1, p.from_one, bytes_long))
               ∙ get_or-drop 6 m (i - 1 - at) 0 ∙ ap (λ (k : ℕ). get_or m (6 + k) 0) {x = i - 1 - at} {y = i - start_of m} (omega (arith, q.0, p.from_one));

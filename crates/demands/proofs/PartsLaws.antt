@@ -146,7 +146,7 @@ at_each_boundary s m n start₁ start₂ a filled some more =
     record {
       parts = parts_behind s m n start₁ start₂ a (T_true (fills (head_of s) (number_of m) (drop 6 m)) filled) some more;
       starts = (request_start s start₁ n (take here (drop 6 m)), request_start s start₂ (number_of m - n) (drop here (drop 6 m)));
-      are_bytes_lem = λ b low₁ low₂. (
+      of_bytes = λ b low₁ low₂. (
         request_bytes s start₁ n (take here (drop 6 m)) low₁ (omega (arith, more, number_bound m b)) (bytes_take here (drop 6 m) (bytes_drop 6 m b)),
         request_bytes s start₂ (number_of m - n) (drop here (drop 6 m)) low₂ (omega (arith, number_bound m b)) (bytes_drop here (drop 6 m) (bytes_drop 6 m b)),
       );
@@ -273,9 +273,9 @@ to_fit_so (suc n) s t m e w b a x =
     let m₁ : List ℕ = first_part s 1 (start_of m) m in
     let m₂ : List ℕ = second_part s 1 (start_of m) m in
     let two = cut_law s t m m₁ m₂ cut.parts x in
-    let are_bytes_lem = cut.are_bytes_lem b (start_bound m b) (start_bound m b) in
-    let rest = to_fit_so n s (carried_out t m₁).after m₂ (second_number s m 1 (start_of m) (start_of m) ∙ omega (arith, e)) (carried_out_keeps t m₁ w) are_bytes_lem.1 cut.parts.second two.second in
-    (m₁ ∷ rest.0, again cut.parts rest.1, (one_request s t m₁ w are_bytes_lem.0 cut.parts.first two.first (first_number s m 1 (start_of m) (start_of m)), rest.2))
+    let of_bytes = cut.of_bytes b (start_bound m b) (start_bound m b) in
+    let rest = to_fit_so n s (carried_out t m₁).after m₂ (second_number s m 1 (start_of m) (start_of m) ∙ omega (arith, e)) (carried_out_keeps t m₁ w) of_bytes.1 cut.parts.second two.second in
+    (m₁ ∷ rest.0, again cut.parts rest.1, (one_request s t m₁ w of_bytes.0 cut.parts.first two.first (first_number s m 1 (start_of m) (start_of m)), rest.2))
 
 pub to_fit : CutToFit
 to_fit s t m w b a x = to_fit_so (number_of m - 1) s t m (omega (arith, (passed s t m a x).some)) w b a x

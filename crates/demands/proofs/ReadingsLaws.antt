@@ -71,7 +71,7 @@ unfolding hundredths
 two_octet_bits high low h l = record {
   bits = bits_are high low h l;
   four_bits = four_bits high low h l;
-  eleven_bits_lem = eleven_below high low h l;
+  eleven_bits_below = eleven_below high low h l;
   not_below = not_below high low h l;
   below = below high low h l;
   value = refl;
@@ -88,7 +88,7 @@ two_octet_value high low _ l =
     let h = hundredths high low in
     let exact = hundredths_exact high low l in
     record {
-      in_range_lem = in_range_lem high low l;
+      hundredths_in_range = in_range_lem high low l;
       exact = exact;
       exact_format = of_int-fits binary32 h;
       divided = sym (ap (div binary32 (of_int binary32 h)) hundred_whole ∙ divided (of_int binary32 h) h exact);
@@ -141,7 +141,7 @@ module _ (d : Datapoint) where
   unfolding reading_of two_octet_reading single_reading single
   reads_so r (Reads.switch k e) = rw (k.valid, k.of_dpt, k.of_type) (sym e)
   reads_so r (Reads.count k e) = rw (k.valid, k.of_dpt, k.of_type) (sym e)
-  reads_so r (Reads.two_octet_lem k n e) = rw (k.valid, k.of_dpt, k.of_type, ne_eqb (two_octets d) 0x7FFF n) (sym e)
+  reads_so r (Reads.two_octet_value k n e) = rw (k.valid, k.of_dpt, k.of_type, ne_eqb (two_octets d) 0x7FFF n) (sym e)
   reads_so r (Reads.single k n e) = rw (k.valid, k.of_dpt, k.of_type, not_special (as_single d) n) (sym e)
   reads_so r (Reads.is_7FFF k n e) = rw (k.valid, k.of_dpt, k.of_type, eq-eqb (two_octets d) 0x7FFF n) (sym e)
   reads_so r (Reads.special k n e) = rw (k.valid, k.of_dpt, k.of_type, special_no (as_single d) n) (sym e)
@@ -173,7 +173,7 @@ module _ (d : Datapoint) where
 
       by_octets : (v : is_valid d.state ≡ true) (e : is_of 9 8 d ≡ true) (b : Bool) → eqb (two_octets d) 0x7FFF ≡ b → Reads d (if b then Unreadable else TwoOctet (two_octet (octet 0 d) (octet 1 d)))
       by_octets v e true q = Reads.is_7FFF (of_pair 9 8 v e) (eqb→eq (two_octets d) 0x7FFF (true_T q)) refl
-      by_octets v e false q = Reads.two_octet_lem (of_pair 9 8 v e) (λ (s : two_octets d ≡ 0x7FFF). true_T (sym q ∙ eq-eqb (two_octets d) 0x7FFF s)) refl
+      by_octets v e false q = Reads.two_octet_value (of_pair 9 8 v e) (λ (s : two_octets d ≡ 0x7FFF). true_T (sym q ∙ eq-eqb (two_octets d) 0x7FFF s)) refl
 
       by_pairs : (v : is_valid d.state ≡ true) (a b c e : Bool) → is_of 1 0 d ≡ a → is_of 5 7 d ≡ b → is_of 9 8 d ≡ c → is_of 14 10 d ≡ e
           → Reads d (if a then Switch (is_yes (octet 0 d)) else if b then Count (octet 0 d) else if c then two_octet_reading (octet 0 d) (octet 1 d) else if e then single_reading (as_single d) else Unreadable)
@@ -211,7 +211,7 @@ module _ (d : Datapoint) (bytes : T (are_bytes d.value)) where
   carries : (r : Reading) → Reads d r → Carries r
   carries r (Reads.switch k e) = subst Carries (sym e) tt
   carries r (Reads.count k e) = subst Carries (sym e) tt
-  carries r (Reads.two_octet_lem k n e) = subst Carries (sym e) (two_octet_near (octet 0 d) (octet 1 d) (bytes_at d.value 1 bytes))
+  carries r (Reads.two_octet_value k n e) = subst Carries (sym e) (two_octet_near (octet 0 d) (octet 1 d) (bytes_at d.value 1 bytes))
   carries r (Reads.single k n e) = subst Carries (sym e) (to_bits-of_bits binary32 word word_below (finite_number (as_single d) (not_special (as_single d) n)))
   carries r (Reads.is_7FFF k n e) = subst Carries (sym e) tt
   carries r (Reads.special k n e) = subst Carries (sym e) tt

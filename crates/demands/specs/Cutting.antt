@@ -92,7 +92,7 @@ pub record CutBehind (s : SetService) (m : List ℕ) (n start₁ start₂ : ℕ)
   pub parts : PartsOf s m (first_part s n start₁ m) (second_part s n start₂ m)
   pub starts : (start_of (first_part s n start₁ m) ≡ start₁) × (start_of (second_part s n start₂ m) ≡ start₂)
   -- they are bytes if the request is, and each start has two bytes
-  pub are_bytes_lem : T (are_bytes m) → start₁ < 65536 → start₂ < 65536
+  pub of_bytes : T (are_bytes m) → start₁ < 65536 → start₂ < 65536
       → T (are_bytes (first_part s n start₁ m)) × T (are_bytes (second_part s n start₂ m))
 
 -- whatever tables the request is meant for: the entries fill it, and no more is needed to cut it

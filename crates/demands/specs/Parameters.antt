@@ -50,7 +50,7 @@ set_parameter_answer i code = 0xF0 ∷ 0x88 ∷ two_bytes i ++ 0 ∷ 0 ∷ code 
 
 -- "the first index not in the table": an index of the range, not in the table, and each one in front of it is
 pub record FirstAbsent (t : Tables) (m : List ℕ) (i : ℕ) : Type 0 where
-  pub in_range_lem : T (in_request m i)
+  pub within_range : T (in_request m i)
   pub absent : T (not (is_parameter_index t i))
   pub first : (j : ℕ) → start_of m ≤ j → j < i → T (is_parameter_index t j)
 
@@ -64,7 +64,7 @@ pub record SetParameterAnswered (t : Tables) (m : List ℕ) : Type 0 where
       → (carried_out t m).says ≡ set_parameter_answer (start_of m) 0
   -- the same, reckoned: the first index not in the table is the start where that is 0 or behind the last, else the one
   -- behind the last
-  pub at_start_lem : T (bytes_as_stated m) → T (not (is_parameter_index t (start_of m)))
+  pub at_the_start : T (bytes_as_stated m) → T (not (is_parameter_index t (start_of m)))
       → (carried_out t m).says ≡ set_parameter_answer (start_of m) 7
   pub behind_last : T (bytes_as_stated m) → T (is_parameter_index t (start_of m))
       → length t.parameters + 1 < start_of m + number_of m
@@ -79,7 +79,7 @@ pub record SetParameterAnswered (t : Tables) (m : List ℕ) : Type 0 where
 -- index by index: the request's byte where the index is in its range, and as it was where it is not
 pub record BytesSet (t : Tables) (m : List ℕ) (t' : Tables) : Type 0 where
   pub as_many : length t'.parameters ≡ length t.parameters
-  pub in_range_lem : (i : ℕ) → T (in_request m i) → parameter_at t' i ≡ get_or m (6 + (i - start_of m)) 0
+  pub within_range : (i : ℕ) → T (in_request m i) → parameter_at t' i ≡ get_or m (6 + (i - start_of m)) 0
   pub others : (i : ℕ) → 1 ≤ i → T (not (in_request m i)) → parameter_at t' i ≡ parameter_at t i
   pub datapoints : t'.datapoints ≡ t.datapoints
   pub items : t'.items ≡ t.items

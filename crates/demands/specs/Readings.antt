@@ -29,7 +29,7 @@ pub record TwoOctetBits (high low : ℕ) : Type 0 where
   -- from the highest bit to the lowest: sign, exponent, 11 bits
   pub bits : of_two_bytes high low ≡ yes_or_no (sign_is_set high) * 32768 + exponent high * 2048 + eleven_bits high low
   pub four_bits : exponent high < 16
-  pub eleven_bits_lem : eleven_bits high low < 2048
+  pub eleven_bits_below : eleven_bits high low < 2048
   -- "11 bits that with the sign make the 12-bit two's complement mantissa": with the sign set, 4096 more is what the
   -- twelve bits are without one
   pub not_below : sign_is_set high ≡ false → mantissa high low ≡ pos (eleven_bits high low)
@@ -42,7 +42,7 @@ EachTwoOctetBits = (high low : ℕ) → high < 256 → low < 256 → TwoOctetBit
 -- ---- the value of a two-octet reading, whatever the octets are. All but the range holds of 7FFF too, which is unreadable
 pub record TwoOctetValue (high low : ℕ) : Type 0 where
   -- "7FFF aside, hundredths run from -67,108,864 to 67,043,328"
-  pub in_range_lem : of_two_bytes high low ≢ 0x7FFF → HundredthsInRange (hundredths high low)
+  pub hundredths_in_range : of_two_bytes high low ≢ 0x7FFF → HundredthsInRange (hundredths high low)
   -- "are exact in 32-bit floating point": the number of that format that the whole number is taken to is that number
   pub exact : IsWhole (of_int binary32 (hundredths high low)) (hundredths high low)
   pub exact_format : T (fits binary32 (of_int binary32 (hundredths high low)))
@@ -94,7 +94,7 @@ SpecialByBits = (bits : ℕ) → Special (of_bits binary32 bits) ↔ (bits % 214
 pub data Reads (d : Datapoint) (r : Reading) : Type 0 where
   switch : ValidOf 1 0 d → r ≡ Switch (is_yes (octet 0 d)) → Reads d r
   count : ValidOf 5 7 d → r ≡ Count (octet 0 d) → Reads d r
-  two_octet_lem : ValidOf 9 8 d → two_octets d ≢ 0x7FFF → r ≡ TwoOctet (two_octet (octet 0 d) (octet 1 d)) → Reads d r
+  two_octet_value : ValidOf 9 8 d → two_octets d ≢ 0x7FFF → r ≡ TwoOctet (two_octet (octet 0 d) (octet 1 d)) → Reads d r
   single : ValidOf 14 10 d → (Special (as_single d) → ⊥) → r ≡ Single (as_single d) → Reads d r
   is_7FFF : ValidOf 9 8 d → two_octets d ≡ 0x7FFF → r ≡ Unreadable → Reads d r
   special : ValidOf 14 10 d → Special (as_single d) → r ≡ Unreadable → Reads d r

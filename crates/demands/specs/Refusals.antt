@@ -14,7 +14,7 @@ use Rattle.calls.specs.Call.{happens, call}
 -- the table of refusals: what is wrong where number n stands
 pub data Wrong (e : Event) (v : List ℕ) (t : Tables) (k : Link) (out : List ℕ) (n : ℕ) : Type 0 where
   bad_tables : n ≡ 1 → well_formed t ≡ false → Wrong e v t k out n
-  bad_link_lem : n ≡ 2 → in_range k ≡ false → Wrong e v t k out n
+  bad_link_record : n ≡ 2 → in_range k ≡ false → Wrong e v t k out n
   short_output : n ≡ 3 → length out < 262 → Wrong e v t k out n
   bad_bus_event : n ≡ 4 → bus_ok e v t ≡ false → Wrong e v t k out n
 

@@ -246,15 +246,15 @@ pub needed : Needed
 needed =
     record {
       as_stated = λ d. d;
-      well_formed_lem = well_formed_lem;
-      in_range_lem = in_range_lem;
+      tables_well_formed = well_formed_lem;
+      link_in_range = in_range_lem;
       roomy_enough = roomy_enough;
       frame_start = frame_start;
       nothing_outstanding = nothing_outstanding;
       first_byte = first_byte;
       one_byte = one_byte;
-      some_sound_lem = some_sound_lem;
-      with_mark_lem = with_mark_lem;
+      one_sound_needed = some_sound_lem;
+      with_idle_mark = with_mark_lem;
       without_mark = without_mark;
       two_sent = two_sent;
       two_tables = two_tables;

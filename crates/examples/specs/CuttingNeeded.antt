@@ -107,7 +107,7 @@ pub record CuttingNeeded : Type 0 where
   pub some_first : CutLawFor (PartsFor InTurn AtBoundary AddUp AnyNumber Some) Accepted → ⊥
   pub some_second : CutLawFor (PartsFor InTurn AtBoundary AddUp Some AnyNumber) Accepted → ⊥
   pub accepted : CutLawFor (PartsFor InTurn AtBoundary AddUp Some Some) AnyAnswer → ⊥
-  pub no_id_in_common_lem : OrderLawFor AnyPair Accepted Accepted → ⊥
+  pub no_common_id : OrderLawFor AnyPair Accepted Accepted → ⊥
   pub accepted_first : OrderLawFor Apart AnyAnswer Accepted → ⊥
   pub accepted_second : OrderLawFor Apart Accepted AnyAnswer → ⊥
   -- a part that is cut inside an entry, one that states another number, and one of no entry

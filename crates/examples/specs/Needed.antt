@@ -116,16 +116,16 @@ pub record Needed : Type 0 where
   -- with its premises in their places it is demand 3
   pub as_stated : Demand3 → Demand3For Start Request EachPossible AtLeastOneSound
   -- and false without one of them
-  pub well_formed_lem : Demand3For StartAnyTables Request EachPossible AtLeastOneSound → ⊥
-  pub in_range_lem : Demand3For StartAnyLink Request EachPossible AtLeastOneSound → ⊥
+  pub tables_well_formed : Demand3For StartAnyTables Request EachPossible AtLeastOneSound → ⊥
+  pub link_in_range : Demand3For StartAnyLink Request EachPossible AtLeastOneSound → ⊥
   pub roomy_enough : Demand3For StartAnyRoom Request EachPossible AtLeastOneSound → ⊥
   pub frame_start : Demand3For StartAnywhere Request EachPossible AtLeastOneSound → ⊥
   pub nothing_outstanding : Demand3For StartHolding Request EachPossible AtLeastOneSound → ⊥
   pub first_byte : Demand3For Start AnyRequest EachPossible AtLeastOneSound → ⊥
   pub one_byte : Demand3For Start Request AnyDeliveries AtLeastOneSound → ⊥
-  pub some_sound_lem : Demand3For Start Request EachPossible AnyNumberSound → ⊥
+  pub one_sound_needed : Demand3For Start Request EachPossible AnyNumberSound → ⊥
   -- the idle mark: with it the answer is sent, without it nothing is
-  pub with_mark_lem : (calls roomy marked item1 resting_link).sent ≡ 0xE5 ∷ answer1
+  pub with_idle_mark : (calls roomy marked item1 resting_link).sent ≡ 0xE5 ∷ answer1
   pub without_mark : (calls roomy unmarked item1 resting_link).sent ≡ []
   -- two bytes changed
   pub two_sent : (calls roomy two_changed (datapoint5 0x00 0) resting_link).sent ≡ (0xE5 ∷ answer3) ++ 0xE5 ∷ []
