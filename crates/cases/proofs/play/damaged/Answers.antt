@@ -2,9 +2,6 @@ use Rattle.cases.proofs.SameLaws.{both, left_to, compared}
 use Rattle.cases.proofs.ScriptLaws.{quiet_decided}
 use Rattle.cases.proofs.play.damaged.Goals as goal
 
-pub sent_count-requires : goal.sent_count-requires
-sent_count-requires c = tt
-
 pub returns : goal.returns
 returns c =
     left_to (both (both (compared _ _) (compared _ _)) (quiet_decided _ _ c.sent_count.ensures))
