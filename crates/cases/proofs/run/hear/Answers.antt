@@ -10,12 +10,12 @@ pub loop-i-preserved : goal.loop-i-preserved
 loop-i-preserved c =
     feeding_goes _ _ _ _ c.loop-i-test.true c.happens-b.ensures _ _ _ _ _ _
     (elim c.if-sent_count-ne0.branch [
-      then-sent_count-ne0 w ↦ quiet_lost c.happens-b.result _ c.loop-i.quiet _ c.sent_count.ensures w.if-sent_count-ne0.true w.quiet-is
-    | else-sent_count-ne0 w ↦ quiet_still c.happens-b.result _ c.loop-i.quiet _ c.sent_count.ensures w.if-sent_count-ne0.false w.quiet-is
+      | then-sent_count-ne0 w ↦ quiet_lost c.happens-b.result _ c.loop-i.quiet _ c.sent_count.ensures w.if-sent_count-ne0.true w.quiet-is
+      | else-sent_count-ne0 w ↦ quiet_still c.happens-b.result _ c.loop-i.quiet _ c.sent_count.ensures w.if-sent_count-ne0.false w.quiet-is
     ])
     (elim c.if-b-ne1.branch [
-      then-b-ne1 w ↦ sound_here c.loop-i.b.link.dropping c.loop-i.i c.loop-i.place _ w.if-b-ne1.true w.place-is
-    | else-b-ne1 w ↦ dropped_here c.loop-i.b.link.dropping c.loop-i.i c.loop-i.place _ w.if-b-ne1.false w.place-is
+      | then-b-ne1 w ↦ sound_here c.loop-i.b.link.dropping c.loop-i.i c.loop-i.place _ w.if-b-ne1.true w.place-is
+      | else-b-ne1 w ↦ dropped_here c.loop-i.b.link.dropping c.loop-i.i c.loop-i.place _ w.if-b-ne1.false w.place-is
     ])
     c.loop-i.invariant
 
