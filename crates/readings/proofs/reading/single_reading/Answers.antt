@@ -8,8 +8,8 @@ pub returns-then-bits-ge2139095040 : goal.returns-then-bits-ge2139095040
 returns-then-bits-ge2139095040 c = let t = c.if-bits-ge2139095040.true in sym (not_finite _ (omega (arith, t)))
 
 pub float_from_bits-result : goal.float_from_bits-result
-float_from_bits-result c = is_number _ c.if-bits-ge2139095040.false
+float_from_bits-result c = is_number c.args.bits (omega arith)
 
 pub returns : goal.returns
 unfolding single
-returns c = sym (finite _ c.if-bits-ge2139095040.false)
+returns c = sym (finite c.args.bits (omega arith))
