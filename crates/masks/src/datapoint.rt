@@ -79,6 +79,7 @@ fn unused_bits(typecode: u8) -> Masks
 
 // Whether the record may stand behind one with the ID `last`: a higher ID, and well formed. Two words of eight bytes
 // against masks by type code.
+#[tactic(auto, using(crate::proofs::MaskLaws::not_coded))]
 pub fn fits_after(d: Datapoint, last: u16) -> bool
     ensures { result ≡ (ltb last d.id && datapoint_ok d) }
 {

@@ -1,6 +1,6 @@
 -- A request's message where it stands: behind a `&mut Link` the receiver's bytes are lent as a `&[u8; 260]` to the function that hands back the message, a `&[u8]` that lives as long as the loan.
---     hands-message    that call: the loan's token, the message, and what is kept meanwhile
---     message-back     the `&mut Link` and its token again, from the loan's token and what was kept
+--     hands_message    that call: the loan's token, the message, and what is kept meanwhile
+--     message_back     the `&mut Link` and its token again, from the loan's token and what was kept
 -- Assumes `Logic`.
 use mathlib.Core.Path.{◌≡◌, sym, ap, subst}
 use Prim.Native.Nat.{ℕ, ◌+◌}

@@ -1,11 +1,11 @@
 -- Branches: `if`, `while`, `match`.
---     leaves-early         `if c { .. return .. }`, and the rest
+--     leaves_early         `if c { .. return .. }`, and the rest
 --     tests                the test of a `while`
 --     both                 `if c { a } else { b }`, with the code after it taken into both arms
---     goes_to, armOf       a `match` on an enum in a local whose value is known: the arm that runs, and then the code after it
+--     goes_to, arm_of       a `match` on an enum in a local whose value is known: the arm that runs, and then the code after it
 --     goes_flat            the same, where the arm ends in a call: the code after the match stands behind the arm
 --     cases                by cases on a Bool, which leaves the context as it is
---     no-T, yes-T, is_T    what a test showed
+--     no_T, yes_T, is_T    what a test showed
 -- Assumes `Logic`.
 use mathlib.Core.Path.{◌≡◌, refl, sym, subst}
 use Prim.Native.Nat.{ℕ, zero, suc}

@@ -1,12 +1,12 @@
 -- Calls. All that is known of a callee is that it meets its contract, which fixes the result, as the value r₀ of the plain type Q, and the last value of what it is lent.
 -- A rule takes the callee's `clauses`, the plain arguments with what is known of each, the last value y and the result r₀ (terms of specs/), `id⊢` for `requires` and `ensures`, the operands; and hands on `Good Q r₀`.
 -- The operands are read where the entries in the rule's context stand: one further for `calls_plain` and `calls_mut_r`, as before for the others.
---     calls-plain          plain data alone
---     calls-mut            a `&mut D` that is lent again, and plain data
---     calls-mutS, calls-as-shrS, calls-shrS        a `&mut [D]` that is lent again; that is lent as a `&[D]`; a `&[D]` that is passed on; and plain data
---     calls-mutR           a row that was opened is lent as a `&mut [D]`; and plain data
---     calls-any            any number of references: the tokens and what each parameter owns stand first, one entry each; afterwards the tokens and what is left of each
---     calls-of, calls-lent, calls-lent2, exactly   what these are made of
+--     calls_plain          plain data alone
+--     calls_mut            a `&mut D` that is lent again, and plain data
+--     calls_mut_s, calls_as_shr_s, calls_shr_s        a `&mut [D]` that is lent again; that is lent as a `&[D]`; a `&[D]` that is passed on; and plain data
+--     calls_mut_r           a row that was opened is lent as a `&mut [D]`; and plain data
+--     calls_any            any number of references: the tokens and what each parameter owns stand first, one entry each; afterwards the tokens and what is left of each
+--     calls_of, calls_lent, calls_lent2, exactly   what these are made of
 -- Assumes `Logic`.
 use mathlib.Core.Path.{◌≡◌, refl, sym, ap, subst, ◌∙◌}
 use Prim.Native.Nat.{ℕ, zero, suc}

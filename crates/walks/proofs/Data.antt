@@ -1,7 +1,7 @@
 -- Plain data, and references to it.
 --     Data                             a type of plain data: its row, the machine value of each value, its laws, and those of a `&` to a value of it
---     uintD, boolD, unitD              numbers, bools, and nothing
---     structD, enum_d                   a declared struct, a declared enum
+--     uint_d, bool_d, unit_d              numbers, bools, and nothing
+--     struct_d, enum_d                   a declared struct, a declared enum
 --     Good, good, typed                what is known of a value of the type; the same from any machine value; its machine value has MIR's type
 --     copies                           plain data can be had twice
 --     pinned                           a result, once it is known which value it is

@@ -1,17 +1,17 @@
 -- A value of plain data in memory, behind a `&` or a `&mut`; and a struct taken apart into its fields, each of which lies in memory by itself and can be lent to a call.
 -- `part_at R q x b o` is "a share q of the value x of the row R lies at (b, o)".
---     opened-part, closed-part     a `&mut D` is opened to the value in memory, and closed at another value
+--     opened_part, closed_part     a `&mut D` is opened to the value in memory, and closed at another value
 --     opened, closed               a `&mut D` is opened to its cell, which a statement reads and stores, and closed at another value
---     looked-part, shut-part       a `&D` is looked into, which gives a share of the value in memory, and shut
---     part-of, cell-of             a value in memory from its cell, and its cell
+--     looked_part, shut_part       a `&D` is looked into, which gives a share of the value in memory, and shut
+--     part_of, cell_of             a value in memory from its cell, and its cell
 --     lends, backs                 a `&mut D` is lent again for a call, and comes back at its last value
 --     LeftR                        what a call leaves of a `&mut`: its last value for good, and the borrow, closed. `backs` and `part_back` ask for it
---     lends-as-ref, ref-back-as    a `&mut D` is lent as a `&D`, and comes back as it was
---     lends_part, part-back        what lies in memory is lent as a `&mut`, for a lifetime of its own, and comes back at its last value
---     shares-part, part-unshared   a share of it is lent as a `&`, and comes back
+--     lends_as_ref, ref_back_as    a `&mut D` is lent as a `&D`, and comes back as it was
+--     lends_part, part_back        what lies in memory is lent as a `&mut`, for a lifetime of its own, and comes back at its last value
+--     shares_part, part_unshared   a share of it is lent as a `&`, and comes back
 --     parts_out, parts_in, Again   a declared struct in memory is its fields side by side, and back, at any values of the fields
---     as-record, as-tuple          a field that is a struct, from its tuple to its record, and back
---     as-records, as-tuples        a field that is an array of structs
+--     as_record, as_tuple          a field that is a struct, from its tuple to its record, and back
+--     as_records, as_tuples        a field that is an array of structs
 -- Assumes `Logic`.
 use mathlib.Core.Path.{◌≡◌, refl, sym}
 use Prim.Native.Nat.{ℕ, zero}

@@ -1,5 +1,5 @@
 -- A local of plain data, lent to a call: it is a value in memory, whose fields and parts are lent by `Fields`, `Slices`, `Parts`.
---     local-part, part-local       a local's cell is the value in memory (`part_at`), and back
+--     local_part, part_local       a local's cell is the value in memory (`part_at`), and back
 -- Assumes `Logic`.
 use mathlib.Core.Path.{refl, ap}
 use Prim.Native.Nat.{ℕ}

@@ -1,8 +1,8 @@
 -- Loops, and short forms for statements.
---     by-measure           an order by a number, for `loops`
+--     by_measure           an order by a number, for `loops`
 --     stack                the locals of a function where they lie in a context, for a loop's invariant
---     drop-step            the list from i on is its element i and the list from i + 1 on
---     done-to, done-length, done-get, done-set, done_all       a list whose first i elements are changed: an in-place map, turn by turn
+--     drop_step            the list from i on is its element i and the list from i + 1 on
+--     done_to, done_length, done_get, done_set, done_all       a list whose first i elements are changed: an in-place map, turn by turn
 --     val, lets, sets      a local read whole; written whole, where it holds nothing, and where it holds something
 -- Assumes nothing.
 use mathlib.Core.Path.{◌≡◌, refl, ap}

@@ -1,6 +1,6 @@
 -- Parts of slices and of arrays, lent to a call.
---     lends-prefix, prefix_back    `&mut x.field[..m]` of an array in memory, lent as a `&mut [D]`, and back
---     shares-prefix, prefix-unshared   `&x.field[..m]` of an array in memory, lent as a `&[D]`, and back
+--     lends_prefix, prefix_back    `&mut x.field[..m]` of an array in memory, lent as a `&mut [D]`, and back
+--     shares_prefix, prefix_unshared   `&x.field[..m]` of an array in memory, lent as a `&[D]`, and back
 -- Assumes `Logic`.
 use mathlib.Core.Path.{◌≡◌, refl, sym, ap, subst, ◌∙◌}
 use Prim.Native.Nat.{ℕ, ◌≤◌}

@@ -1,7 +1,7 @@
 -- A local array that is made of one value, n times, lent as `Slices` has it, and done with.
---     repeated-typed       the machine value of `[x; n]` has MIR's type: what `init` asks after `rep`
+--     repeated_typed       the machine value of `[x; n]` has MIR's type: what `init` asks after `rep`
 --     repeated             the local's cell, once it holds `[x; n]`, is the array in memory
---     array-room           the array in memory is the local's room
+--     array_room           the array in memory is the local's room
 -- Assumes `Logic`.
 use mathlib.Core.Path.{refl}
 use Prim.Native.Nat.{ℕ, zero, suc}

@@ -1,15 +1,15 @@
 -- Rows of elements, arrays in memory, and slices.
---     takes_at, back_at, puts-at   element i of a row, as a cell that a statement reads or stores; put back as it was, or with another value
---     cuts-row, joins-row          a row of us ++ vs is a row of us and a row of vs behind it, and back
---     shares-row, row-unshared     a share of a row is lent as a `&[D]`, and comes back
+--     takes_at, back_at, puts_at   element i of a row, as a cell that a statement reads or stores; put back as it was, or with another value
+--     cuts_row, joins_row          a row of us ++ vs is a row of us and a row of vs behind it, and back
+--     shares_row, row_unshared     a share of a row is lent as a `&[D]`, and comes back
 --     lends_row, row_back          a row that is owned is lent as a `&mut [D]`, and comes back at its last list
---     elems-of, array_of           an array in memory is its elements in a row, and back
---     lends-array, array_back      an array is lent as a `&mut [D]` of its count, and comes back
---     shares_array, array-unshared a share of an array is lent as a `&[D]`, and comes back
---     opened-slice, closed-slice   a `&mut [D]` is opened to its row, and closed at another list of the same length
---     looked-slice, shut-slice     a `&[D]` is looked into, which gives a share of its row, and shut
---     lendsS, backsS               a `&mut [D]` is lent again as a `&mut [D]`, and comes back at its last list
---     lends-as-shr, shr-back       a `&mut [D]` is lent as a `&[D]`, and comes back
+--     elems_of, array_of           an array in memory is its elements in a row, and back
+--     lends_array, array_back      an array is lent as a `&mut [D]` of its count, and comes back
+--     shares_array, array_unshared a share of an array is lent as a `&[D]`, and comes back
+--     opened_slice, closed_slice   a `&mut [D]` is opened to its row, and closed at another list of the same length
+--     looked_slice, shut_slice     a `&[D]` is looked into, which gives a share of its row, and shut
+--     lends_s, backs_s               a `&mut [D]` is lent again as a `&mut [D]`, and comes back at its last list
+--     lends_as_shr, shr_back       a `&mut [D]` is lent as a `&[D]`, and comes back
 -- What comes back is always asked in the order [token; what the call left of the reference, `LeftS` of a `&mut [D]`; what was kept].
 -- Assumes `Logic`.
 use mathlib.Core.Path.{◌≡◌, refl, sym, ap, subst, ◌∙◌}

@@ -1,10 +1,10 @@
 -- How a walk begins and ends.
---     Param, dataP, mutP, shrP, mutSliceP, shrSliceP      a parameter: plain data, `&mut D`, `&D`, `&mut [D]`, `&[D]`. Of plain data and of `&` nothing is had at exit
+--     Param, data_p, mut_p, shr_p, mut_slice_p, shr_slice_p      a parameter: plain data, `&mut D`, `&D`, `&mut [D]`, `&[D]`. Of plain data and of `&` nothing is had at exit
 --     Walk, starts         what a walk shows, and its first step: the tokens, then what each parameter owns
---     allocs-all, frees_all        the locals, all at once; freed by whether each holds something (`cell`) or not (`room`), the last one first
+--     allocs_all, frees_all        the locals, all at once; freed by whether each holds something (`cell`) or not (`room`), the last one first
 --     behind               the first n entries go behind the others, so that the locals stand first
---     Ends, ends-in        what a walk ends in, and how: with a result, last values, and what the `ensures` says of them
---     meets-by             the walk taken to the function's contract
+--     Ends, ends_in        what a walk ends in, and how: with a result, last values, and what the `ensures` says of them
+--     meets_by             the walk taken to the function's contract
 --     tokens, owneds       the tokens of the lifetimes, and what a list of types owns, one entry each
 -- Assumes `Logic`.
 use mathlib.Core.Path.{refl}

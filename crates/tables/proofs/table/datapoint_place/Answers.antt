@@ -1,9 +1,11 @@
 -- A law of the search for each answer, and one for each way through a turn.
-use Rattle.std.proofs.Common.{◌≡◌, Bool, not, false, arith}
+use Rattle.std.proofs.Common.{◌≡◌, ℕ, Bool, not, false, List, length, arith}
 use native.Mathlib.Nat.{lt_irrefl}
 use lib.Dec.{T}
 use Rattle.words.proofs.WordLaws.{true_T}
+use Rattle.baos.specs.declared.datapoint.Datapoint.{Datapoint}
 use Rattle.baos.specs.Datapoint.{datapoint_id}
+use Rattle.baos.specs.Table.{place}
 use Rattle.baos.proofs.PlaceLaws.{rises, place_is}
 use Rattle.tables.proofs.Blanks.{blank_datapoint}
 use Rattle.tables.proofs.SearchLaws.{stand_begins, stand_ends, stand_behind, stand_before, stand_first_behind, stand_first_before, stand_narrower}
@@ -13,9 +15,13 @@ use Rattle.tables.proofs.table.datapoint_place.Goals as goal
 off : (b : Bool) → b ≡ false → T (not b)
 off b e = true_T (simp e)
 
+-- in an empty table no datapoint has a lower ID
+none_lower : (id : ℕ) (ds : List Datapoint) → length ds ≡ 0 → 0 ≡ place datapoint_id id ds
+none_lower id ds e =
+    place_is datapoint_id blank_datapoint id ds 0 (omega arith) (λ i u. absurd (lt_irrefl 0 (omega (arith, u)))) (λ i u v. absurd (lt_irrefl 0 (omega (arith, v, e))))
+
 pub returns-then-n-eq0 : goal.returns-then-n-eq0
-returns-then-n-eq0 c =
-    place_is datapoint_id blank_datapoint c.args.id c.args.table.now 0 (omega arith) (λ i u. absurd (lt_irrefl 0 (omega (arith, u)))) (λ i u v. absurd (lt_irrefl 0 (omega (arith, v))))
+returns-then-n-eq0 c = none_lower c.args.id c.args.table.now c.if-n-eq0.true
 
 pub loop-width-init : goal.loop-width-init
 loop-width-init c =
