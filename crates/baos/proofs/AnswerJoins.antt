@@ -12,8 +12,8 @@ use Rattle.words.proofs.ByteLaws.{put-put}
 use Rattle.baos.specs.declared.datapoint.Datapoint.{Datapoint}
 use Rattle.baos.specs.declared.item.Item.{Item}
 use Rattle.baos.specs.declared.inner.Wanted.{Wanted}
-use Rattle.baos.specs.declared.inner.Gathered.{Gathered}
-use Rattle.baos.specs.declared.inner.Verdict.{Verdict}
+use Rattle.baos.specs.Inner.Gather.{Gathered}
+use Rattle.baos.specs.Message.{Verdict}
 use Rattle.baos.specs.Text.{TextLists}
 use Rattle.baos.specs.Table.{Tables, datapoints_only, items_only, datapoints_with_texts, rising, place, table_ok}
 use Rattle.baos.specs.Datapoint.{datapoint_id, datapoint_ok}

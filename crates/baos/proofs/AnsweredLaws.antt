@@ -12,8 +12,8 @@ use Rattle.words.specs.Words.{two_bytes, keep, every}
 use Rattle.words.proofs.WordLaws
 use Rattle.baos.specs.declared.datapoint.Datapoint.{Datapoint}
 use Rattle.baos.specs.declared.item.Item.{Item}
-use Rattle.baos.specs.declared.inner.Gathered.{Gathered}
-use Rattle.baos.specs.declared.inner.Verdict.{Verdict}
+use Rattle.baos.specs.Inner.Gather.{Gathered}
+use Rattle.baos.specs.Message.{Verdict}
 use Rattle.baos.specs.Table.{Tables, datapoints_only, items_only, rising, place}
 use Rattle.baos.specs.Datapoint.{datapoint_id}
 use Rattle.baos.specs.Item.{item_id}

@@ -5,13 +5,12 @@ use mathlib.Core.Bool.{Bool, true, false, not, ◌||◌}
 use mathlib.Core.List.{List, [], ◌∷◌, ◌++◌}
 use native.Mathlib.Omega.{arith}
 use lib.ListN.{length, get_or, take, drop, replicate}
-use lib.Seq.{sets, length-take-le, take-suc}
+use lib.Seq.{sets, take-suc}
 use lib.Dec.{leb, eqb}
 use borrow.Author.Tests.{eqb-true, eq-eqb, ne_eqb, le-leb, lt-leb}
 use Rattle.std.specs.Prelude.{if◌then◌else◌}
 use Rattle.words.specs.Words.{pad, put, is_empty}
 use Rattle.words.proofs.WordLaws.{true_T}
-use Rattle.words.proofs.ByteLaws.{length-put, put_sets, put-put, put_in_front}
 use Rattle.baos.specs.declared.datapoint.Datapoint.{Datapoint}
 use Rattle.baos.specs.declared.item.Item.{Item}
 use Rattle.baos.specs.declared.lookup.Lookup.{Lookup}
@@ -24,6 +23,7 @@ use Rattle.baos.specs.Set.{item_code, takes_command, datapoint_code}
 use Rattle.baos.proofs.LookupLaws.{same_lookup, present_one, present_at}
 use Rattle.baos.proofs.RisenLaws.{turned}
 use Rattle.baos.proofs.ValueLaws.{size_of_bits}
+use Rattle.words.proofs.ByteLaws.{length-put, put_sets, put_in_front}
 
 -- ---- a value in memory that was 0
 drop_zeros : (k n : ℕ) → drop {A = ℕ} k (replicate n 0) ≡ replicate (n - k) 0
@@ -158,11 +158,6 @@ module _ (i : Item) (v : List ℕ) where
   code_of_length e k = simp (eq-eqb i.writable 1 e, ne_eqb (length v) i.size k)
 
 -- ---- entries
--- bytes stored one by one, and the used bytes of an array behind them, are one write
-pub put_entry : (l : List ℕ) (at k n : ℕ) (vs a : List ℕ) → k ≡ at + length vs → n ≤ length a → at + length vs + n ≤ length l → put (sets l at vs) k (take n a) ≡ put l at (vs ++ take n a)
-put_entry l at k n vs a e h m =
-    ap (λ (r : List ℕ). put r k (take n a)) (put_sets vs l at (omega (arith, m))) ∙ put-put l at k vs (take n a) e (omega (arith, m, length-take-le n a h))
-
 -- an array, and then bytes stored one by one in front of it, are one write
 pub put_before : (l : List ℕ) (at k : ℕ) (vs a : List ℕ) → k ≡ at + length vs → at + length vs + length a ≤ length l → sets (put l k a) at vs ≡ put l at (vs ++ a)
 put_before l at k vs a e m =

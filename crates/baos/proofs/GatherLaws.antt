@@ -13,7 +13,7 @@ use Rattle.words.proofs.WordLaws
 use Rattle.baos.specs.declared.datapoint.Datapoint.{Datapoint}
 use Rattle.baos.specs.declared.item.Item.{Item}
 use Rattle.baos.specs.declared.inner.Wanted.{Wanted}
-use Rattle.baos.specs.declared.inner.Gathered.{Gathered}
+use Rattle.baos.specs.Inner.Gather.{Gathered}
 use Rattle.baos.specs.Datapoint.{datapoint_id, handed_out}
 use Rattle.baos.specs.Item.{item_id}
 use Rattle.baos.specs.Table.{rising}

@@ -9,10 +9,8 @@ pub mod DatapointLaws
 pub mod DispatchLaws
 pub mod EntriesLaws
 pub mod EntryLaws
-pub mod FieldsFit
 pub mod FlagLaws
 pub mod FormedLaws
-pub mod EntryPlaceLaws
 pub mod GatherLaws
 pub mod GetLaws
 pub mod IndicationLaws
@@ -30,7 +28,6 @@ pub mod PlaceLaws
 pub mod RisenLaws
 pub mod ServiceExamples
 pub mod ServiceLaws
-pub mod SetJoins
 pub mod SetLaws
 pub mod SetParameterLaws
 pub mod SettingLaws
@@ -38,7 +35,7 @@ pub mod StringLaws
 pub mod TableLaws
 pub mod TextLaws
 pub mod TextListLaws
-pub mod Types
+pub mod TwoByteLaws
 pub mod Pairs
 pub mod ValueLaws
 pub mod WideLaws

@@ -1,5 +1,5 @@
 -- Looking up an ID: a finding is known by its number, and absent is all that is not present.
-use Prim.Native.Nat.{ℕ, ◌/◌, ◌%◌}
+use Prim.Native.Nat.{ℕ}
 use mathlib.Core.Path.{◌≡◌, refl, sym, ◌∙◌, ap}
 use mathlib.Core.Bool.{Bool, true, false, not, ◌&&◌, and-false}
 use mathlib.Core.List.{List, [], ◌∷◌}
@@ -14,7 +14,6 @@ use Rattle.baos.specs.declared.lookup.Lookup.TheVariants.{Absent, Closed, Open}
 use Rattle.baos.specs.Datapoint.{datapoint_id}
 use Rattle.baos.specs.Table.{found}
 use Rattle.baos.specs.Lookup.{communicates, lookup_of, lookup_number, is_present}
-use Rattle.baos.proofs.RisenLaws.{turned}
 
 -- no two findings have the same number
 pub same_lookup : (a b : Lookup) → lookup_number a ≡ lookup_number b → a ≡ b
@@ -29,10 +28,6 @@ same_lookup Open Absent e = absurd (omega (arith, e))
 same_lookup Open Closed e = absurd (omega (arith, e))
 same_lookup Open Open e = refl
 
--- what was looked up is present where the answer y says so, which a test then turns round
-pub present_by : (r l : Lookup) {y b : Bool} → lookup_number r ≡ lookup_number l → y ≡ is_present r → not y ≡ b → is_present l ≡ not b
-present_by r l e p n = ap is_present (sym (same_lookup r l e)) ∙ turned p n
-
 pub present_one : (d : Datapoint) (ds : List Datapoint) → is_present (lookup_of (d ∷ ds)) ≡ true
 unfolding lookup_of is_present
 present_one d ds = go (communicates d.flags)
@@ -44,14 +39,6 @@ present_one d ds = go (communicates d.flags)
 pub present_some : (ds : List Datapoint) → is_present (lookup_of ds) ≡ not (is_empty ds)
 present_some [] = unfold lookup_of is_present in refl
 present_some (d ∷ ds) = present_one d ds
-
-pub open_flag : (d : Datapoint) → d.flags / 4 % 2 ≡ 1 → lookup_of (d ∷ []) ≡ Open
-unfolding lookup_of
-open_flag d b = simp (eq-eqb (d.flags / 4 % 2) 1 b)
-
-pub closed_flag : (d : Datapoint) → (d.flags / 4 % 2 ≡ 1 → ⊥) → lookup_of (d ∷ []) ≡ Closed
-unfolding lookup_of
-closed_flag d n = simp (ne_eqb (d.flags / 4 % 2) 1 n)
 
 -- ---- at one record, which may be another ID's
 module _ (id : ℕ) (d : Datapoint) where

@@ -14,7 +14,7 @@ use Rattle.baos.specs.Get.{AnswerEntry, item_entry, description_entry, value_ent
 use Rattle.baos.specs.Item.{bytes_of}
 use Rattle.baos.specs.Message.{start_of, number_of, bad, fine}
 use Rattle.baos.specs.declared.datapoint.Datapoint.{Datapoint}
-use Rattle.baos.specs.declared.inner.Gathered.{Gathered}
+use Rattle.baos.specs.Inner.Gather.{Gathered}
 use Rattle.baos.specs.declared.inner.Wanted.{Wanted}
 use Rattle.baos.specs.declared.item.Item.{Item}
 use Rattle.baos.proofs.DatapointLaws.{size_fits}

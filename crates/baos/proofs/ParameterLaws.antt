@@ -15,7 +15,7 @@ use Rattle.baos.specs.Inner.Gather.{filter_asked, size_asked, request_finding, p
 use Rattle.baos.specs.Get.{AnswerEntry, in_request, overflow, listing, parameter_entries, get_parameter_byte}
 use Rattle.baos.specs.Message.{sub_service, start_of, number_of, coded, verdict_of, Served}
 use Rattle.baos.specs.Table.{parameters_only}
-use Rattle.baos.specs.declared.inner.Verdict.{Verdict}
+use Rattle.baos.specs.Message.{Verdict}
 use Rattle.baos.proofs.GetLaws.{refused_first, empty_refused, over_refused, fits_answered}
 
 -- those from s on, n of them

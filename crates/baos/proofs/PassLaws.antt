@@ -21,7 +21,7 @@ use Rattle.baos.specs.Get.{AnswerEntry, room_for_entries, item_entry, descriptio
 use Rattle.baos.specs.Item.{item_ok}
 use Rattle.baos.specs.Table.{rising, table_ok}
 use Rattle.baos.specs.declared.datapoint.Datapoint.{Datapoint}
-use Rattle.baos.specs.declared.inner.Gathered.{Gathered}
+use Rattle.baos.specs.Inner.Gather.{Gathered}
 use Rattle.baos.specs.declared.inner.Wanted.{Wanted}
 use Rattle.baos.specs.declared.item.Item.{Item}
 use Rattle.baos.proofs.WideLaws.{put_over, wide_size}

@@ -11,7 +11,7 @@ use lib.ListN.{length, drop, length-drop}
 use borrow.Author.Tests.{le-ltb, eq-eqb, ne_eqb, ltb-true, ltb-false, eqb-true, eqb-false}
 use Rattle.words.specs.Words.{put}
 use Rattle.words.proofs.ByteLaws.{length-put}
-use Rattle.baos.specs.declared.inner.Verdict.{Verdict}
+use Rattle.baos.specs.Message.{Verdict}
 use Rattle.baos.specs.Table.{Tables, parameters_only}
 use Rattle.baos.specs.Message.{sub_service, start_of, number_of, coded, Finding, fine, bad, verdict_of, Served}
 use Rattle.baos.specs.Set.{indices, absent_indices, absent_finding, set_parameter_finding, set_parameter_byte}

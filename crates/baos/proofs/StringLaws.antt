@@ -1,21 +1,18 @@
 -- Strings: both passes over the datapoints find and build the entries to return, and the search in the text lists goes forward with them.
 use Prim.Native.Nat.{ℕ, suc, ◌+◌, ◌-◌, ◌/◌, ◌%◌, ◌≤◌, ◌<◌}
 use mathlib.Core.Path.{◌≡◌, refl, sym, ◌∙◌, ap, subst}
-use mathlib.Core.Bool.{Bool, true, false, not}
+use mathlib.Core.Bool.{false}
 use mathlib.Core.List.{List, [], ◌∷◌, map}
 use native.Mathlib.Omega.{arith}
 use lib.ListN.{length, get_or, drop}
 use lib.Seq.{sets}
 use lib.Dec.{T, ltb, ltb→lt}
 use denote.Ref.{Bor}
-use Rattle.std.specs.Prelude.{if◌then◌else◌}
 use Rattle.words.specs.Words.{keep, put}
 use Rattle.words.proofs.WordLaws.{left, right}
 use Rattle.words.proofs.ByteLaws.{put_sets, put-put}
 use Rattle.baos.specs.declared.datapoint.Datapoint.{Datapoint}
 use Rattle.baos.specs.declared.inner.Wanted.{Wanted}
-use Rattle.baos.specs.declared.inner.Gathered.{Gathered}
-use Rattle.baos.specs.declared.inner.Strings.{Strings}
 use Rattle.baos.specs.declared.inner.Cursors.{Cursors}
 use Rattle.baos.specs.Datapoint.{datapoint_id}
 use Rattle.baos.specs.Text.{TextLists, text_lists, stretch_of, text_of, HandedOn}
@@ -23,13 +20,12 @@ use Rattle.baos.specs.Table.{rising, place, datapoints_with_texts}
 use Rattle.baos.specs.Message.{start_of}
 use Rattle.baos.specs.Get.{AnswerEntry, in_request, room_for_entries, string_of, string_entry, get_description_string}
 use Rattle.baos.specs.Inner.Cursors.{cursors_of, BothReached}
-use Rattle.baos.specs.Inner.Gather.{filter_asked, size_asked, wanted_of, is_behind, is_within, ended, with_entry, measured, walked, nothing_gathered}
-use Rattle.baos.specs.Inner.Strings.{gathered_of, cursors_in, strings_of, string_step, strings_built, string_measured}
+use Rattle.baos.specs.Inner.Gather.{filter_asked, size_asked, wanted_of, is_behind, is_within, walked, nothing_gathered}
+use Rattle.baos.specs.Inner.Strings.{string_step, strings_built}
 use Rattle.baos.proofs.GetLaws.{gets}
 use Rattle.baos.proofs.GatherLaws.{Passed, gathered_passes, within_from, within_below, walked_keeps}
 use Rattle.baos.proofs.AnsweredLaws.{place_front, place_rises, datapoints_from}
 use Rattle.baos.proofs.PassLaws.{drop-next}
-use Rattle.baos.proofs.MeasureLaws.{not_behind, in_range_lem, measured_wanted}
 use Rattle.baos.proofs.TextLaws.{text_size, text_short}
 
 -- ---- the entries to return
@@ -55,19 +51,6 @@ module _ (ts : TextLists) (m : List ℕ) (ds : List Datapoint) (rises : T (risin
 pub strings_small : (ts : TextLists) (w : Wanted) (ds : List Datapoint) → (walked (string_step ts w) nothing_gathered ds).size ≤ room_for_entries
 strings_small ts w ds =
     (walked_keeps (λ (d : Datapoint). is_behind w d.id) (λ (d : Datapoint). is_within w d.id) (string_entry ts) (string_some ts) ds nothing_gathered (omega arith) (omega arith)).1
-
--- ---- one step of the first pass: what is found, and where the cursors are
-pub step_found : (ts : TextLists) (w : Wanted) (d : Datapoint) (s : Strings) → gathered_of (string_measured ts w d s) ≡ string_step ts w d (gathered_of s)
-unfolding string_measured strings_of gathered_of
-step_found ts w d s = refl
-
-pub step_cursors : (ts : TextLists) (w : Wanted) (d : Datapoint) (s : Strings) → T (not (string_measured ts w d s).ended) → cursors_in (string_measured ts w d s) ≡ cursors_of d.id ts
-unfolding string_measured strings_of measured ended cursors_in
-step_cursors ts w d s t = go (is_behind w d.id) refl
-  where
-    go : (b : Bool) → is_behind w d.id ≡ b → cursors_in (string_measured ts w d s) ≡ cursors_of d.id ts
-    go true e = absurd (simp e at t)
-    go false e = simp e refl
 
 -- ---- the search goes forward: in both lists it has ended at the ID `low`; the datapoints to come are above `last`, and `low` is at most one more
 pub record Following (ts : TextLists) (c : Cursors) (ds : List Datapoint) : Type 0 where
@@ -138,21 +121,6 @@ string_bytes id ts =
     let p : length t / 256 ≡ 0 = omega (arith, h) in
     let q : length t % 256 ≡ length t = omega (arith, h) in
     λ i. p i ∷ q i ∷ t
-
--- measured, behind the range and in it
-module _ (ts : TextLists) (w : Wanted) (d : Datapoint) (s : Strings) where
-  pub string_behind : is_behind w d.id ≡ true → strings_of (ended (gathered_of s)) (cursors_in s) ≡ string_measured ts w d s
-  unfolding string_measured measured
-  string_behind b = sym (ap (λ (x : Bool). strings_of (measured x (is_within w d.id) (string_entry ts d) (gathered_of s)) (if x then cursors_in s else cursors_of d.id ts)) b)
-
-  pub string_ahead : (g : Gathered) (c : Cursors) → w.start ≤ d.id → is_behind w d.id ≡ false
-      → g ≡ with_entry d.id (2 + (stretch_of d.id ts).size) (gathered_of s) → c ≡ cursors_of d.id ts → strings_of g c ≡ string_measured ts w d s
-  unfolding string_measured string_entry
-  string_ahead g c l b p q =
-      let m : g ≡ string_step ts w d (gathered_of s) =
-      p ∙ ap (λ (n : ℕ). with_entry d.id n (gathered_of s)) (sym (string_length d.id ts))
-      ∙ sym (measured_wanted _ _ (string_entry ts d) (gathered_of s) b (in_range_lem w d.id l (not_behind w d.id b))) in
-      (λ i. strings_of (m i) (q i)) ∙ ap (λ (x : Bool). strings_of (string_step ts w d (gathered_of s)) (if x then cursors_in s else cursors_of d.id ts)) (sym b)
 
 -- written: the length's bytes stored one by one, and the text behind them
 pub string_put : (l : List ℕ) (at k n id : ℕ) (ts : TextLists) (text : List ℕ) → k ≡ at + 2 → n ≡ length text → text ≡ text_of id ts

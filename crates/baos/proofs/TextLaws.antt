@@ -12,7 +12,7 @@ use denote.Ref.{Bor}
 use Rattle.std.specs.Prelude.{if◌then◌else◌}
 use Rattle.words.specs.Words.{every}
 use Rattle.words.proofs.WordLaws.{left, right, both, T_true, true_T, every-keep}
-use Rattle.baos.specs.declared.text.Stretch.{Stretch}
+use Rattle.baos.specs.Text.{Stretch}
 use Rattle.baos.specs.declared.inner.Cursors.{Cursors}
 use Rattle.baos.specs.TextList.{EntryAt, span_of, is_entry, first_entry, entries_from, entries_at, entries_in, text_list_ok}
 use Rattle.baos.specs.Text.{TextLists, text_lists_ok, entries_for, chosen, stretch_of, holder, stretch_bytes, text_of, HandedOn}

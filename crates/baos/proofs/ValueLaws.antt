@@ -9,10 +9,10 @@ use native.Mathlib.Nat.{not-suc-le-zero, eq-or-lt_of_le, lt_irrefl}
 use lib.ListN.{length, get_or}
 use lib.Dec.{T, ltb, eqb, eqb→eq}
 use lib.Pow.{pow-add, pow_mono, pow_pos}
-use borrow.Author.Tests.{lt-ltb, le-ltb, eq-eqb, ne_eqb, ltb-true, ltb-false}
+use borrow.Author.Tests.{lt-ltb, le-ltb, ne_eqb, ltb-true, ltb-false}
 use Rattle.std.specs.Prelude.{if◌then◌else◌}
 use Rattle.words.proofs.WordLaws.{left, right}
-use Rattle.baos.specs.Datapoint.{size_of, limit_of, unused_bits_ok, is_value}
+use Rattle.baos.specs.Datapoint.{size_of, limit_of, unused_bits_ok}
 
 -- ---- what a match tells
 -- what its last arm knows, where the arms before it are the numbers from a on, n of them
@@ -101,11 +101,3 @@ pub none_unused : (k : ℕ) (v : List ℕ) → length v ≡ 0 → unused_bits_ok
 unfolding unused_bits_ok
 none_unused k [] e = lt-ltb 0 (limit_of k) (limit_positive k)
 none_unused k (x ∷ v) e = absurd (omega arith)
-
-pub value_sized : (k : ℕ) (v : List ℕ) → length v ≡ size_of k → is_value k v ≡ unused_bits_ok k v
-unfolding is_value
-value_sized k v e = simp (eq-eqb (length v) (size_of k) e)
-
-pub value_of_other_size : (k : ℕ) (v : List ℕ) → (length v ≡ size_of k → ⊥) → is_value k v ≡ false
-unfolding is_value
-value_of_other_size k v n = simp (ne_eqb (length v) (size_of k) n)

@@ -1,4 +1,3 @@
-pub mod EntryPlaces
 pub mod Gather
 pub mod Cursors
 pub mod Promise

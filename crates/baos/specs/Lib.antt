@@ -10,5 +10,6 @@ pub mod Bus
 pub mod Get
 pub mod Set
 pub mod Service
+pub mod ServiceNumber
 pub mod Indication
 pub mod Inner

@@ -1,7 +1,11 @@
 -- A request and an answer: their fields, and what the checks of a request find.
-use Rattle.std.specs.Prelude.{ℕ, ◌+◌, List, [], ◌∷◌, ◌++◌, get_or}
+use Rattle.std.specs.Prelude.{ℕ, ◌+◌, List, [], ◌∷◌, ◌++◌, get_or, ⊤, Result, Ok, Err}
 use Rattle.words.specs.Words.{two_bytes, of_two_bytes}
-use Rattle.baos.specs.declared.inner.Verdict.{Verdict}
+use Rattle.baos.specs.declared.code.Code.{Code}
+use Rattle.baos.specs.declared.code.Code.TheVariants.{NoElementFound, BufferTooSmall, ItemNotWritable}
+use Rattle.baos.specs.declared.code.Code.TheVariants.{ServiceNotSupported, BadServiceParameter, BadId}
+use Rattle.baos.specs.declared.code.Code.TheVariants.{BadCommandOrValue, BadLength, MessageInconsistent}
+use Rattle.baos.specs.declared.inner.Fault.{Fault}
 use Rattle.baos.specs.Table.{Tables}
 
 -- MainService, SubService, StartItem or StartDatapoint or StartByte, NumberOf.., Filter
@@ -30,9 +34,34 @@ pub data Finding : Type 0 where
   bad : ℕ → ℕ → Finding
 
 -- a finding in two numbers: code 0 where nothing is wrong
+pub record Verdict : Type 0 where
+  pub id : ℕ
+  pub code : ℕ
+
 unfoldable pub verdict_of : Finding → Verdict
 verdict_of fine = record { id = 0; code = 0 }
 verdict_of (bad id code) = record { id = id; code = code }
+
+-- an error code by its number
+unfoldable pub code_number : Code → ℕ
+code_number NoElementFound = 2
+code_number BufferTooSmall = 3
+code_number ItemNotWritable = 4
+code_number ServiceNotSupported = 5
+code_number BadServiceParameter = 6
+code_number BadId = 7
+code_number BadCommandOrValue = 8
+code_number BadLength = 9
+code_number MessageInconsistent = 10
+
+-- what a check of a request says, as a finding; and what a check of one entry says, as a code: 0 where nothing is wrong
+unfoldable pub finding_of : Result ⊤ Fault → Finding
+finding_of (Ok x) = fine
+finding_of (Err f) = bad f.id (code_number f.code)
+
+unfoldable pub code_of : Result ⊤ Code → ℕ
+code_of (Ok x) = 0
+code_of (Err c) = code_number c
 
 -- what is said back to the host, empty where nothing is, and the tables after it
 pub record Served : Type 0 where

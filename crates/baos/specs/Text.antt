@@ -4,7 +4,6 @@
 use Rattle.std.specs.Prelude.{cond, ℕ, ◌+◌, ◌≡◌, Bool, true, false, ◌&&◌, List, [], ◌∷◌, take, drop, ltb, eqb}
 use Rattle.std.specs.Borrow.{Bor}
 use Rattle.words.specs.Words.{keep}
-use Rattle.baos.specs.declared.text.Stretch.{Stretch}
 use Rattle.baos.specs.TextList.{EntryAt, entries_in, text_list_ok}
 
 -- the two lists that are lent
@@ -21,6 +20,12 @@ no_text_lists = text_lists [] []
 
 unfoldable pub text_lists_ok : TextLists → Bool
 text_lists_ok ts = text_list_ok ts.site && text_list_ok ts.defaults
+
+-- a part of one of the two lists: of the site list, as against the default list
+pub record Stretch : Type 0 where
+  pub ofsite : Bool
+  pub from : ℕ
+  pub size : ℕ
 
 -- the entries of a list "for the ID" that are "non-empty": in a list whose IDs rise, none or one
 unfoldable pub entries_for : ℕ → List ℕ → List EntryAt

@@ -1,21 +1,30 @@
 // The error codes of document 000, appendix B, that the server gives.
+ghost use Rattle.std.specs.Prelude.{◌≡◌};
+ghost use Rattle.baos.specs.Message.{code_number};
 
+// What the positive answer of a set has in an error code's place.
 pub const NO_ERROR: u8 = 0;
 
-pub const NO_ELEMENT_FOUND: u8 = 2;
+// What an error answer says is wrong.
+#[derive(Clone, Copy, Debug, PartialEq, Eq)]
+pub enum Code {
+    NoElementFound = 2,
+    BufferTooSmall = 3,
+    ItemNotWritable = 4,
+    ServiceNotSupported = 5,
+    BadServiceParameter = 6,
+    BadId = 7,
+    BadCommandOrValue = 8,
+    BadLength = 9,
+    MessageInconsistent = 10,
+}
 
-pub const BUFFER_TOO_SMALL: u8 = 3;
-
-pub const ITEM_NOT_WRITABLE: u8 = 4;
-
-pub const SERVICE_NOT_SUPPORTED: u8 = 5;
-
-pub const BAD_SERVICE_PARAMETER: u8 = 6;
-
-pub const BAD_ID: u8 = 7;
-
-pub const BAD_COMMAND_OR_VALUE: u8 = 8;
-
-pub const BAD_LENGTH: u8 = 9;
-
-pub const MESSAGE_INCONSISTENT: u8 = 10;
+impl Code {
+    // As an answer has it.
+    #[tactic(auto, unfolding(crate::specs::Message::code_number))]
+    pub fn number(self) -> u8
+        ensures { result ≡ code_number self }
+    {
+        self as u8
+    }
+}

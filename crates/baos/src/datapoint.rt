@@ -2,7 +2,7 @@
 
 // A datapoint: one record of the lent run of records.
 #[repr(C)]
-#[derive(Clone, Copy)]
+#[derive(Clone, Copy, Debug, Default, PartialEq, Eq)]
 pub struct Datapoint {
     pub id: u16,
     pub typecode: u8,

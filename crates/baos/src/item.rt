@@ -2,7 +2,7 @@
 
 // A server item.
 #[repr(C)]
-#[derive(Clone, Copy)]
+#[derive(Clone, Copy, Debug, Default, PartialEq, Eq)]
 pub struct Item {
     pub id: u16,
     // How many bytes of data it has, 1 to 16.

@@ -1,5 +1,5 @@
-// Tables and services as definitions: records, tables, requests, answers, the indication. No function: the code is in
-// `services` and the crates that it stands on.
+// Tables and services as definitions: records, tables, requests, answers, the indication. No function but
+// the numbers of the types: the code is in `services` and the crates that it stands on.
 #![tactic(auto)]
 
 pub mod bus;
@@ -10,4 +10,3 @@ pub mod item;
 pub mod lookup;
 pub mod service;
 pub mod table;
-pub mod text;

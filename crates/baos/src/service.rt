@@ -1,23 +1,44 @@
 // The services of document 000, section 3, by their numbers.
+ghost use Rattle.baos.specs.ServiceNumber.{IsService};
 
 pub const MAIN_SERVICE: u8 = 0xF0;
 
-// Sub-services of requests; an answer's has 80 more.
-pub const GET_SERVER_ITEM: u8 = 0x01;
+// The services, by their sub-service numbers in requests; an answer's has 80 more.
+#[derive(Clone, Copy, Debug, PartialEq, Eq)]
+pub enum Service {
+    GetServerItem = 0x01,
+    SetServerItem = 0x02,
+    GetDatapointDescription = 0x03,
+    GetDescriptionString = 0x04,
+    GetDatapointValue = 0x05,
+    SetDatapointValue = 0x06,
+    GetParameterByte = 0x07,
+    SetParameterByte = 0x08,
+}
 
-pub const SET_SERVER_ITEM: u8 = 0x02;
+// A number that no service has.
+#[derive(Clone, Copy, Debug, PartialEq, Eq)]
+pub struct NoService;
 
-pub const GET_DATAPOINT_DESCRIPTION: u8 = 0x03;
+impl TryFrom<u8> for Service {
+    type Error = NoService;
 
-pub const GET_DESCRIPTION_STRING: u8 = 0x04;
+    ghost try_from_gives = { IsService };
 
-pub const GET_DATAPOINT_VALUE: u8 = 0x05;
-
-pub const SET_DATAPOINT_VALUE: u8 = 0x06;
-
-pub const GET_PARAMETER_BYTE: u8 = 0x07;
-
-pub const SET_PARAMETER_BYTE: u8 = 0x08;
+    fn try_from(number: u8) -> Result<Self, NoService> {
+        match number {
+            0x01 => Ok(Service::GetServerItem),
+            0x02 => Ok(Service::SetServerItem),
+            0x03 => Ok(Service::GetDatapointDescription),
+            0x04 => Ok(Service::GetDescriptionString),
+            0x05 => Ok(Service::GetDatapointValue),
+            0x06 => Ok(Service::SetDatapointValue),
+            0x07 => Ok(Service::GetParameterByte),
+            0x08 => Ok(Service::SetParameterByte),
+            _ => Err(NoService),
+        }
+    }
+}
 
 pub const ANSWER: u8 = 0x80;
 

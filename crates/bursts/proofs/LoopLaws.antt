@@ -9,11 +9,10 @@ use Rattle.words.specs.Words.{yes_or_no, put, keep}
 use Rattle.words.proofs.WordLaws.{rest_whole, keep_append, kept_and_not}
 use Rattle.words.proofs.ByteLaws.{length-put, put_sets, put-put}
 use Rattle.ft12.specs.Receiver.{is_beginning}
-use Rattle.ft12.specs.Burst.{Piece, Contents, before, just_ends, contents_from, contents, first_size, is_acknowledgement, is_frame, figures_of, starts_of, read_burst, burst_numbers, BurstLeaves}
+use Rattle.ft12.specs.Burst.{Piece, Contents, before, just_ends, contents_from, contents, first_size, is_acknowledgement, is_frame, figures_of, starts_of, Refused, Read, read_burst, burst_numbers, BurstLeaves}
+use Rattle.ft12.specs.declared.burst.Figures.{Figures}
 use Rattle.ft12.specs.declared.burst.Ending.{Ending}
 use Rattle.ft12.specs.declared.burst.Ending.TheVariants.{Clean, Damaged, Unfinished}
-use Rattle.ft12.specs.declared.burst.BurstReply.{BurstReply}
-use Rattle.ft12.specs.declared.burst.BurstReply.TheVariants.{Refused, Read}
 use Rattle.ft12.proofs.BurstLaws.{piece, Step, step, no_step, none_left, form_kind, burst_read, burst_long, run_short}
 use Rattle.bursts.proofs.PieceLaws.{first, acknowledgement_first}
 
@@ -154,50 +153,41 @@ module _ (bs lent : List ℕ) where
           subst (λ (u : Bool). SoFar bs lent (at + 1) (set run found at) (found + 1) (acks + yes_or_no u)) (eq-eqb (get_or bs at 0) 0xE5 e)
           (goes_on 1 (acknowledgement_first (drop at bs) (omega (arith, h, length-drop at bs)) (first_there ∙ e)) (λ z. omega (arith, z)))
 
-      pub frame_on : (k : ℕ) → k ≡ first_size (drop at bs) → (k ≡ 0 → ⊥) → (get_or bs at 0 ≡ 0xE5 → ⊥) → SoFar bs lent (at + k) (set run found at) (found + 1) acks
-      frame_on k e z n =
+      pub frame_on : (k : ℕ) → (k ≡ first_size (take (length bs - at) (drop at bs))) × (0 < k) → (get_or bs at 0 ≡ 0xE5 → ⊥)
+          → SoFar bs lent (at + k) (set run found at) (found + 1) acks
+      frame_on k e n =
           let a : acks + yes_or_no (eqb (get_or bs at 0) 0xE5) ≡ acks = rw (ne_eqb (get_or bs at 0) 0xE5 n) (omega arith) in
-          subst (SoFar bs lent (at + k) (set run found at) (found + 1)) a (goes_on k (sym e) z)
+          subst (SoFar bs lent (at + k) (set run found at) (found + 1)) a (goes_on k (ap first_size (sym (rest_whole at bs)) ∙ sym e.0) (λ z. omega (arith, z, e.1)))
 
       -- a frame has no more bytes than there are
-      pub room_left : at + first_size (drop at bs) ≤ length bs
-      room_left = omega (arith, h, size_fits (drop at bs), length-drop at bs)
+      pub room_left : at + first_size (take (length bs - at) (drop at bs)) ≤ length bs
+      room_left = omega (arith, h, ap first_size (rest_whole at bs), size_fits (drop at bs), length-drop at bs)
 
-      pub place-left : found < length run
-      place-left = omega (arith, h, short, room, f.few, same_run at found acks run f)
-
-      -- the byte at `at`, as the functions are lent it
-      pub first_lent : first (take (length bs - at) (drop at bs)) ≡ get_or bs at 0
-      first_lent = ap first (rest_whole at bs) ∙ first_there
-
-      pub lent_filled : 0 < length (take (length bs - at) (drop at bs))
-      lent_filled = omega (arith, h, ap length (rest_whole at bs), length-drop at bs)
-
-    -- the loop ends here, with the reply r
+    -- the loop ends here, with the figures r
     ends :
-        (at found acks : ℕ) (run : List ℕ) (e : Ending) (r : BurstReply) → SoFar bs lent at run found acks → contents_from at [] (drop at bs) ≡ just_ends e
-        → r ≡ Read (record { frames = found - acks; acknowledgements = acks; ending = e }) → BurstLeaves (read_burst bs lent) r run
+        (at found acks : ℕ) (run : List ℕ) (e : Ending) (r : Figures) → SoFar bs lent at run found acks → contents_from at [] (drop at bs) ≡ just_ends e
+        → r ≡ record { frames = found - acks; acknowledgements = acks; ending = e } → BurstLeaves (read_burst bs lent) (Read r) run
     unfolding starts_of
     ends at found acks run e r f q told_is =
         let h : contents bs ≡ record { pieces = f.past; ending = e } = f.holds ∙ ap (behind f.past) q ∙ last f.past e in
         rw (burst_read bs lent short room)
         (record {
-          reply = ap burst_numbers (told_is ∙ ap Read (told found acks e f.past f.count f.acknowledged ∙ ap figures_of (sym h)));
+          reply = ap burst_numbers (ap Read (told_is ∙ told found acks e f.past f.count f.acknowledged ∙ ap figures_of (sym h)));
           run = f.placed ∙ ap (λ (w : Contents). put lent 0 (starts_of w)) (sym h);
         })
 
     -- at its end
-    pub ends_clean : (at found acks : ℕ) (run : List ℕ) (r : BurstReply) → SoFar bs lent at run found acks → length bs ≤ at
-        → r ≡ Read (record { frames = found - acks; acknowledgements = acks; ending = Clean }) → BurstLeaves (read_burst bs lent) r run
+    pub ends_clean : (at found acks : ℕ) (run : List ℕ) (r : Figures) → SoFar bs lent at run found acks → length bs ≤ at
+        → r ≡ record { frames = found - acks; acknowledgements = acks; ending = Clean } → BurstLeaves (read_burst bs lent) (Read r) run
     ends_clean at found acks run r f h e = ends at found acks run Clean r f (all_read at bs h) e
 
     -- or where no piece stands in front
-    pub ends_broken : (at found acks k : ℕ) (run : List ℕ) (e : Ending) (r : BurstReply) → SoFar bs lent at run found acks → at < length bs
-        → k ≡ first_size (take (length bs - at) (drop at bs)) → k ≡ 0 → e ≡ (contents (take (length bs - at) (drop at bs))).ending
-        → r ≡ Read (record { frames = found - acks; acknowledgements = acks; ending = e }) → BurstLeaves (read_burst bs lent) r run
-    ends_broken at found acks k run e r f h p z q told_is =
+    pub ends_broken : (at found acks : ℕ) (run : List ℕ) (e : Ending) (r : Figures) → SoFar bs lent at run found acks → at < length bs
+        → first_size (take (length bs - at) (drop at bs)) ≡ 0 → e ≡ (contents (take (length bs - at) (drop at bs))).ending
+        → r ≡ record { frames = found - acks; acknowledgements = acks; ending = e } → BurstLeaves (read_burst bs lent) (Read r) run
+    ends_broken at found acks run e r f h z q told_is =
         let s : List ℕ = drop at bs in
-        let i : first_size s ≡ 0 = ap first_size (sym (rest_whole at bs)) ∙ sym p ∙ z in
+        let i : first_size s ≡ 0 = ap first_size (sym (rest_whole at bs)) ∙ z in
         let j : (contents s).ending ≡ e = ap (λ (l : List ℕ). (contents l).ending) (sym (rest_whole at bs)) ∙ sym q in
         ends at found acks run e r f (ended_at at s (omega (arith, h, length-drop at bs)) i ∙ ap just_ends j) told_is
 

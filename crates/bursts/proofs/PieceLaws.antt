@@ -157,3 +157,6 @@ module _ (f : List ℕ) (l : length f ≡ get_or f 1 0 + 6) (h : 7 ≤ length f)
   head_same k0 k1 k2 e =
       let q : SameBytes (first f) (get_or f 2 0) (get_or f 3 0) 0x68 (get_or f 1 0) 0x68 = same_bytes (first f) (get_or f 1 0) (get_or f 2 0) (get_or f 3 0) 0x68 (get_or f 1 0) 0x68 k0 k1 k2 (omega arith) k1 e in
       sym (eq-eqb c c refl) ∙ control_test f n c (omega (arith, h)) q.lowest (omega (arith, l)) (omega (arith, l, q.third)) q.highest
+
+-- a law for each answer
+pub ruleset sizes = (fixed_short, fixed_other, fixed_whole, data_short, data_cut, data_broken, data_whole)

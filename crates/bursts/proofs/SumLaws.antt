@@ -34,3 +34,6 @@ module _ (s : List ℕ) where
 
   pub sum_3 : length s ≡ 3 → checksum s ≡ ((get_or s 0 0 + get_or s 1 0) % 256 + get_or s 2 0) % 256
   sum_3 h = all 3 h ∙ first_3 (omega (arith, h))
+
+-- of so many bytes
+pub ruleset sums = (sum_0, sum_1, sum_2, sum_3, first_4)

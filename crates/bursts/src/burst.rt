@@ -1,10 +1,9 @@
 // The reader of bursts.
-ghost use Rattle.std.specs.Prelude.{◌≡◌, ◌-◌, ◌<◌, ◌≤◌, length};
-ghost use Rattle.ft12.specs.declared.burst.BurstReply.TheVariants.{Read};
-ghost use Rattle.ft12.specs.Burst.{contents, first_size, read_burst, BurstLeaves};
+ghost use Rattle.std.specs.Prelude.{◌≡◌, ◌-◌, ◌<◌, ◌≤◌, ◌↔◌, length};
+ghost use Rattle.ft12.specs.Burst.{contents, first_size, read_burst, reply_of, BurstLeaves};
 
 use crate::piece::{data_size, fixed_size};
-use ft12::burst::{BAD_BURST, BurstReply, Ending, Figures, LEAST_PLACES, LONGEST_BURST};
+use ft12::burst::{BurstRefusal, Ending, Figures, LEAST_PLACES, LONGEST_BURST};
 use ft12::frame::{ACKNOWLEDGEMENT, DATA_START};
 use judging::receiver::is_beginning;
 
@@ -14,37 +13,38 @@ fn ending_in(s: &[u8]) -> Ending
     ensures { result ≡ (contents s.now).ending }
 {
     if is_beginning(s) {
-        return Ending::Unfinished;
+        Ending::Unfinished
+    } else {
+        Ending::Damaged
     }
-    Ending::Damaged
 }
 
-fn told(found: usize, acknowledgements: usize, ending: Ending) -> BurstReply
+fn figures(found: usize, acknowledgements: usize, ending: Ending) -> Figures
     requires { (acknowledgements ≤ found) × (found ≤ 2048) }
-    ensures { result ≡ Read (record {
-      frames = found - acknowledgements;
-      acknowledgements = acknowledgements;
-      ending = ending;
-    }) }
+    ensures { result
+        ≡ record { frames = found - acknowledgements; acknowledgements = acknowledgements; ending = ending } }
 {
-    BurstReply::Read(Figures {
+    Figures {
         frames: (found - acknowledgements) as u16,
         acknowledgements: acknowledgements as u16,
-        ending: ending,
-    })
+        ending,
+    }
 }
 
 // A whole burst: where each acknowledgement and each sound frame starts goes into the run, in order. Each kind has a
-// branch to its end: one store and one step for all took longer (docs/SPEED.md).
-pub fn read_burst(burst: &[u8], starts: &mut [u16]) -> BurstReply
-    ensures { BurstLeaves (read_burst burst.now starts.old) result starts.new }
+// branch to its end: one store and one step for all took longer (docs/SPEED.md), and so does a `match`. A `while`, since
+// pieces differ in size.
+pub fn read_burst(burst: &[u8], starts: &mut [u16]) -> Result<Figures, BurstRefusal>
+    ensures leaves { BurstLeaves (read_burst burst.now starts.old) (reply_of result) starts.new }
+    ensures too_long { (result ≡ Err BurstRefusal.TooLong) ↔ (2048 < length burst.now) }
+    ensures too_few { result ≡ Err BurstRefusal.TooFewPlaces → length starts.old < 2048 }
 {
     let n = burst.len();
     if LONGEST_BURST < n {
-        return BurstReply::Refused(BAD_BURST);
+        return Err(BurstRefusal::TooLong);
     }
     if starts.len() < LEAST_PLACES {
-        return BurstReply::Refused(BAD_BURST);
+        return Err(BurstRefusal::TooFewPlaces);
     }
     let mut at: usize = 0;
     let mut found: usize = 0;
@@ -56,22 +56,20 @@ pub fn read_burst(burst: &[u8], starts: &mut [u16]) -> BurstReply
             acknowledgements += 1;
             at += 1;
         } else if burst[at] == DATA_START {
-            let size = data_size(&burst[at..]);
-            if size == 0 {
-                return told(found, acknowledgements, ending_in(&burst[at..]));
-            }
+            let Some(size) = data_size(&burst[at..]) else {
+                return Ok(figures(found, acknowledgements, ending_in(&burst[at..])));
+            };
             starts[found] = at as u16;
             found += 1;
             at += size;
         } else {
-            let size = fixed_size(&burst[at..]);
-            if size == 0 {
-                return told(found, acknowledgements, ending_in(&burst[at..]));
-            }
+            let Some(size) = fixed_size(&burst[at..]) else {
+                return Ok(figures(found, acknowledgements, ending_in(&burst[at..])));
+            };
             starts[found] = at as u16;
             found += 1;
             at += size;
         }
     }
-    told(found, acknowledgements, Ending::Clean)
+    Ok(figures(found, acknowledgements, Ending::Clean))
 }

@@ -1,5 +1,5 @@
-// The frame in front: how many bytes the sound frame has that stands here; 0 where none does.
-ghost use Rattle.std.specs.Prelude.{◌≡◌, ◌+◌, ◌≤◌, length, ◌≢◌, slice_index};
+// The frame in front: how many bytes the sound frame has that stands here, if one does.
+ghost use Rattle.std.specs.Prelude.{◌≡◌, ◌+◌, ◌≤◌, ◌<◌, length, ◌≢◌, slice_index, MatchOption};
 ghost use Rattle.ft12.specs.Frame.{is_whole};
 ghost use Rattle.ft12.specs.Burst.{first_size};
 ghost use Rattle.bursts.specs.Word.{four_bytes};
@@ -13,7 +13,7 @@ fn first_word(s: &[u8]) -> u32
     ensures { result ≡ four_bytes (slice_index s.now 0) (slice_index s.now 1)
         (slice_index s.now 2) (slice_index s.now 3) }
 {
-    s[0] as u32 + s[1] as u32 * 0x100 + s[2] as u32 * 0x10000 + s[3] as u32 * 0x1000000
+    u32::from_le_bytes([s[0], s[1], s[2], s[3]])
 }
 
 // 68 L L 68 likewise.
@@ -37,48 +37,42 @@ fn is_whole(f: &[u8]) -> bool
     ensures { result ≡ is_whole (slice_index f.now 4) f.now }
 {
     let n = f.len();
-    if n < AROUND_MESSAGE {
-        return false;
-    }
-    if first_word(f) != data_word(f[1]) {
-        return false;
-    }
-    if f[n - 2] != sum(&f[4..n - 2]) {
-        return false;
-    }
-    f[n - 1] == FRAME_END
+    AROUND_MESSAGE <= n
+        && first_word(f) == data_word(f[1])
+        && f[n - 2] == sum(&f[4..n - 2])
+        && f[n - 1] == FRAME_END
 }
 
 // A data frame. One look at L tells where it ends.
-pub fn data_size(s: &[u8]) -> usize
+#[tactic(auto, using(crate::proofs::PieceLaws::sizes))]
+pub fn data_size(s: &[u8]) -> Option<usize>
     requires { slice_index s.now 0 ≡ 0x68 }
-    ensures { result ≡ first_size s.now }
+    ensures { MatchOption result (first_size s.now ≡ 0)
+        (λ size. (size ≡ first_size s.now) × (0 < size)) }
 {
     let n = s.len();
     if n < AROUND_MESSAGE {
-        return 0;
+        return None;
     }
     let size = s[1] as usize + 6;
-    if n < size {
-        return 0;
+    if size <= n && is_whole(&s[..size]) {
+        Some(size)
+    } else {
+        None
     }
-    if is_whole(&s[..size]) {
-        return size;
-    }
-    0
 }
 
 // A fixed frame, compared at once; C is read first, so that the word is compared where it stands. What begins with
 // neither 68 nor E5 is one, or none.
-pub fn fixed_size(s: &[u8]) -> usize
+#[tactic(auto, using(crate::proofs::PieceLaws::sizes))]
+pub fn fixed_size(s: &[u8]) -> Option<usize>
     requires { (slice_index s.now 0 ≢ 0x68) × (slice_index s.now 0 ≢ 0xE5) }
-    ensures { result ≡ first_size s.now }
+    ensures { MatchOption result (first_size s.now ≡ 0)
+        (λ size. (size ≡ first_size s.now) × (0 < size)) }
 {
-    if s.len() < 4 {
-        return 0;
+    if 4 <= s.len() && fixed_word(s[1]) == first_word(s) {
+        Some(4)
+    } else {
+        None
     }
-    if fixed_word(s[1]) == first_word(s) {
-        return 4;
-    }
-    0
 }

@@ -4,44 +4,37 @@ ghost use Rattle.std.specs.Prelude.{◌≡◌, ◌<◌, ◌≤◌, length, take}
 ghost use Rattle.ft12.specs.Frame.{checksum};
 
 use frames::frame::checksum;
-use std::num::wrapping_add_u8;
 
+#[tactic(auto, using(crate::proofs::SumLaws::sums))]
 fn below_four(s: &[u8]) -> u8
     requires { length s.now < 4 }
     ensures { result ≡ checksum s.now }
 {
-    let n = s.len();
-    if n == 0 {
-        return 0;
+    match s {
+        [] => 0,
+        [a] => *a,
+        [a, b] => a.wrapping_add(*b),
+        [a, b, c, ..] => a.wrapping_add(*b).wrapping_add(*c),
     }
-    if n == 1 {
-        return s[0];
-    }
-    let two = wrapping_add_u8(s[0], s[1]);
-    if n == 2 {
-        return two;
-    }
-    wrapping_add_u8(two, s[2])
 }
 
+#[tactic(auto, using(crate::proofs::SumLaws::sums))]
 fn first_four(s: &[u8]) -> u8
     requires { 4 ≤ length s.now }
     ensures { result ≡ checksum (take 4 s.now) }
 {
-    let two = wrapping_add_u8(s[0], s[1]);
-    let three = wrapping_add_u8(two, s[2]);
-    wrapping_add_u8(three, s[3])
+    s[0].wrapping_add(s[1])
+        .wrapping_add(s[2])
+        .wrapping_add(s[3])
 }
 
+#[tactic(auto, using(crate::proofs::SumLaws::sums))]
 pub fn sum(s: &[u8]) -> u8
     ensures { result ≡ checksum s.now }
 {
-    let n = s.len();
-    if 8 <= n {
-        return checksum(s);
+    match s.len() {
+        0..=3 => below_four(s),
+        4..=7 => first_four(s).wrapping_add(below_four(&s[4..])),
+        _ => checksum(s),
     }
-    if n < 4 {
-        return below_four(s);
-    }
-    wrapping_add_u8(first_four(s), below_four(&s[4..]))
 }

@@ -17,7 +17,7 @@ use Rattle.baos.proofs.EntriesLaws.{found_here, found_nowhere, changed_here}
 use Rattle.baos.specs.declared.bus.BusEvent.{BusEvent}
 use Rattle.baos.specs.Bus.{takes, taken, found_takes}
 use Rattle.baos.proofs.BusLaws.{takes_event_at, taken_here, one_byte}
-use Rattle.calls.specs.declared.reply.Reply.TheVariants.{Refused, Accepted}
+use Rattle.calls.specs.Reply.{Refused, Accepted}
 use Rattle.calls.specs.Promise.{BusEventTaken}
 
 -- ---- what a search asks of the table

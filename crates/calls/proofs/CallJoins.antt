@@ -25,10 +25,8 @@ use Rattle.baos.proofs.KeepLaws
 use Rattle.calls.specs.declared.event.Event.{Event}
 use Rattle.calls.specs.declared.event.Event.TheVariants.{HostByte, IdleMark, AckWaitOver, Poll, BusValue, TransmissionOutcome}
 use Rattle.baos.specs.declared.bus.Outcome.{Outcome}
-use Rattle.calls.specs.declared.reply.Reply.{Reply}
-use Rattle.calls.specs.declared.reply.Reply.TheVariants.{Refused, Accepted}
+use Rattle.calls.specs.Reply.{Reply, Refused, Accepted, reply_numbers}
 use Rattle.calls.specs.Event.{at_datapoint, bus_ok}
-use Rattle.calls.specs.Reply.{reply_numbers}
 use Rattle.calls.specs.Call.{quiet, saying, handed_up, on_moved, on_poll, happens, refusal, Called, accepted, call}
 use Rattle.calls.specs.Promise.{Leaves, lent_refusal, BusEventTaken}
 use Rattle.baos.specs.declared.bus.BusEvent.{BusEvent}

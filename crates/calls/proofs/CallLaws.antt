@@ -30,11 +30,9 @@ use Rattle.calls.specs.declared.event.Event.TheVariants.{HostByte, IdleMark, Ack
 use Rattle.baos.specs.declared.bus.BusEvent.TheVariants.{Value}
 use Rattle.baos.specs.declared.bus.Outcome.{Outcome}
 use Rattle.baos.specs.declared.bus.Outcome.TheVariants.{Sent, Failed, InProgress}
-use Rattle.calls.specs.declared.reply.Reply.{Reply}
-use Rattle.calls.specs.declared.reply.Reply.TheVariants.{Refused, Accepted}
+use Rattle.calls.specs.Reply.{Reply, Refused, Accepted, reply_numbers}
 use Rattle.baos.specs.Bus.{status_of, takes, found_takes}
 use Rattle.calls.specs.Event.{at_datapoint, bus_ok}
-use Rattle.calls.specs.Reply.{reply_numbers}
 use Rattle.calls.specs.Call.{Done, saying, handed_up, on_moved, on_poll, happens, refusal, Called, refused, accepted, call}
 
 -- ---- the reply's numbers tell its case and its values

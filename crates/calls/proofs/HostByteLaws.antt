@@ -33,8 +33,7 @@ use Rattle.baos.specs.Service.{carried_out}
 use Rattle.baos.proofs.AnswerLaws
 use Rattle.baos.proofs.TableLaws.{same_tables}
 use Rattle.baos.proofs.KeepLaws
-use Rattle.calls.specs.declared.reply.Reply.TheVariants.{Accepted}
-use Rattle.calls.specs.Reply.{reply_numbers}
+use Rattle.calls.specs.Reply.{Accepted, reply_numbers}
 use Rattle.calls.specs.Call.{saying, handed_up, on_moved, accepted}
 use Rattle.calls.specs.Promise.{Leaves, acknowledgement_of, request_l}
 use Rattle.calls.proofs.OutputLaws.{put_front, put_over}

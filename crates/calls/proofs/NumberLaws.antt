@@ -17,11 +17,9 @@ use Rattle.calls.specs.declared.event.Event.{Event}
 use Rattle.calls.specs.declared.event.Event.TheVariants.{HostByte, IdleMark, AckWaitOver, Poll, BusValue, TransmissionOutcome}
 use Rattle.baos.specs.declared.bus.Outcome.{Outcome}
 use Rattle.baos.specs.declared.bus.Outcome.TheVariants.{Sent, Failed, InProgress}
-use Rattle.calls.specs.declared.reply.Reply.{Reply}
-use Rattle.calls.specs.declared.reply.Reply.TheVariants.{Accepted}
+use Rattle.calls.specs.Reply.{Reply, Accepted, sent_count}
 use Rattle.baos.specs.Bus.{status_of}
 use Rattle.calls.specs.Event.{numbers_of}
-use Rattle.calls.specs.Reply.{sent_count}
 use Rattle.calls.specs.Numbers.{is_event, outcome_numbered, event_numbered, given}
 
 -- ---- whether the numbers name an event, as the code tests it

@@ -21,9 +21,7 @@ use Rattle.baos.specs.Table.{Tables, tables_of, datapoints_only}
 use Rattle.baos.specs.Message.{Served}
 use Rattle.baos.specs.Indication.{indication}
 use Rattle.baos.proofs.AnswerLaws.{indication_sized, sized_short}
-use Rattle.calls.specs.declared.reply.Reply.{Reply}
-use Rattle.calls.specs.declared.reply.Reply.TheVariants.{Accepted}
-use Rattle.calls.specs.Reply.{reply_numbers}
+use Rattle.calls.specs.Reply.{Reply, Accepted, reply_numbers}
 use Rattle.calls.specs.Call.{Done, quiet, saying, on_poll, accepted}
 use Rattle.calls.specs.Promise.{Leaves}
 use Rattle.calls.proofs.OutputLaws.{put_front, framed_over, message_stands}

@@ -14,8 +14,7 @@ use Rattle.baos.specs.Indication.{indication}
 use Rattle.calls.specs.declared.event.Event.{Event}
 use Rattle.calls.specs.declared.event.Event.TheVariants.{HostByte, IdleMark, AckWaitOver, Poll, BusValue}
 use Rattle.calls.specs.declared.event.Event.TheVariants.{TransmissionOutcome}
-use Rattle.calls.specs.declared.reply.Reply.{Reply}
-use Rattle.calls.specs.declared.reply.Reply.TheVariants.{Refused, Accepted}
+use Rattle.calls.specs.Reply.{Reply, Refused, Accepted}
 use Rattle.baos.specs.Bus.{status_of}
 use Rattle.calls.specs.Event.{at_datapoint, bus_ok}
 

@@ -5,8 +5,7 @@ use Rattle.calls.specs.declared.event.Event.TheVariants.{HostByte, IdleMark, Ack
 use Rattle.calls.specs.declared.event.Event.TheVariants.{TransmissionOutcome}
 use Rattle.baos.specs.declared.bus.Outcome.{Outcome}
 use Rattle.baos.specs.declared.bus.Outcome.TheVariants.{Sent, Failed, InProgress}
-use Rattle.calls.specs.declared.reply.Reply.{Reply}
-use Rattle.calls.specs.declared.reply.Reply.TheVariants.{Refused, Accepted}
+use Rattle.calls.specs.Reply.{Reply, Refused, Accepted}
 
 -- whether the numbers name an event: 1 to 6, its place in the paper's list, and for the sixth an outcome of 0 to 2
 unfoldable pub is_event : ℕ → ℕ → Bool

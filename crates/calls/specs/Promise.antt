@@ -12,9 +12,7 @@ use Rattle.baos.specs.declared.bus.BusEvent.{BusEvent}
 use Rattle.baos.specs.Datapoint.{datapoint_id}
 use Rattle.baos.specs.Bus.{taken, found_takes}
 use Rattle.baos.specs.Table.{Tables, tables_ok, found, changed_at}
-use Rattle.calls.specs.declared.reply.Reply.{Reply}
-use Rattle.calls.specs.declared.reply.Reply.TheVariants.{Refused, Accepted}
-use Rattle.calls.specs.Reply.{reply_numbers}
+use Rattle.calls.specs.Reply.{Reply, Refused, Accepted, reply_numbers}
 use Rattle.calls.specs.Call.{Called}
 
 -- reply, tables, link record and output buffer are those of c

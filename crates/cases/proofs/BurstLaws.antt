@@ -1,54 +1,37 @@
 -- A burst is read: what the reader answers and leaves decides whether the burst holds what a line says.
-use Rattle.std.proofs.Common.{◌≡◌, ℕ, ◌+◌, ◌-◌, ◌^◌, ◌<◌, ◌≤◌, Bool, true, false, ◌&&◌, eqb, List, length, get_or, take, drop, pos, sym, refl, ap, ◌∙◌, arith, length-drop, length-take-le, take_at, w32, SFits, of_z}
+use Rattle.std.proofs.Common.{◌≡◌, ℕ, ◌+◌, ◌≤◌, Bool, true, false, ◌&&◌, List, length, get_or, take, drop, pos, sym, refl, ap, ◌∙◌, arith, length-drop, length-take-le, take_at}
 use Rattle.words.specs.Words.{put}
-use Rattle.words.proofs.WordLaws.{rest_whole}
-use Rattle.ft12.specs.Burst.{contents, figures_of, starts_of, BurstCalled, read_burst, ending_number, three_numbers, burst_numbers, BurstLeaves}
+use Rattle.ft12.specs.Burst.{contents, figures_of, starts_of, BurstReply, Read, BurstCalled, read_burst, ending_number, three_numbers, burst_numbers, BurstLeaves}
 use Rattle.ft12.specs.declared.burst.BurstNumbers.{BurstNumbers}
-use Rattle.ft12.specs.declared.burst.BurstReply.{BurstReply}
-use Rattle.ft12.specs.declared.burst.BurstReply.TheVariants.{Read}
 use Rattle.ft12.proofs.BurstLaws.{starts_length, figures_sum, burst_read}
 use Rattle.cases.specs.Same.{Decides}
-use Rattle.cases.proofs.SameLaws.{both, compared, bits_tell, failed, left_to}
+use Rattle.cases.proofs.SameLaws.{failed, left_to}
 use Rattle.cases.specs.Burst.{start_count, burst_start, burst_of, FindsAs}
 
--- ---- three numbers, compared
-pub figures_decided : (n : BurstNumbers) (e f a : ℕ) → SFits w32 n.number → e < 2 ^ 31
-    → Decides (eqb (of_z w32 n.number) e && eqb n.frames f && eqb n.acknowledgements a) (n ≡ three_numbers (pos e) f a)
-figures_decided n e f a s l =
-    left_to (both (both (compared _ _) (compared _ _)) (compared _ _))
-    (λ p. let z = bits_tell n.number (pos e) s (record { sfits = l }) p.0.0 in λ i. record { number = z i; frames = p.0.1 i; acknowledgements = p.1 i })
-    (λ q. ((ap (λ (m : BurstNumbers). of_z w32 m.number) q, ap (λ (m : BurstNumbers). m.frames) q), ap (λ (m : BurstNumbers). m.acknowledgements) q))
-
--- ---- the reader's answer n and its run
-pub record WasRead (a : List ℕ) (from : ℕ) (n : BurstNumbers) (run : List ℕ) : Type 0 where
-  pub at : from ≡ burst_start a
-  pub whole : from ≤ length a
-  pub short : length a - from ≤ 2048
+-- ---- the reader's answer n and its run, and the starts that the line says
+pub record WasRead (a wanted : List ℕ) (n : BurstNumbers) (run : List ℕ) : Type 0 where
+  pub whole : burst_start a ≤ length a
+  pub short : length a ≤ 264
+  pub said : wanted ≡ take (start_count a) (drop 3 a)
   pub lent : List ℕ
   pub room : length lent ≡ 2048
   pub reply : BurstReply
-  pub leaves : BurstLeaves (read_burst (take (length a - from) (drop from a)) lent) reply run
+  pub leaves : BurstLeaves (read_burst (burst_of a) lent) reply run
   pub told : n ≡ burst_numbers reply
 
--- the numbers that the line says, and the starts as they are lent
+-- the numbers that the line says
 abbrev pub numbers_said : List ℕ → BurstNumbers
 numbers_said a = three_numbers (pos (get_or a 0 0)) (get_or a 1 0) (get_or a 2 0)
 
-abbrev pub starts_said : List ℕ → ℕ → List ℕ
-starts_said a from = take (from - 3) (drop 3 a)
-
-module _ (a : List ℕ) (from : ℕ) (n : BurstNumbers) (run : List ℕ) (w : WasRead a from n run) where
+module _ (a wanted : List ℕ) (n : BurstNumbers) (run : List ℕ) (w : WasRead a wanted n run) where
   abbrev B : List ℕ
   B = burst_of a
 
   short_burst : length B ≤ 2048
-  short_burst = omega (arith, w.at, w.short, length-drop (burst_start a) a)
+  short_burst = omega (arith, w.short, length-drop (burst_start a) a)
 
-  burst_lent : take (length a - from) (drop from a) ≡ B
-  burst_lent = rest_whole from a ∙ ap (λ (k : ℕ). drop k a) w.at
-
-  read : read_burst (take (length a - from) (drop from a)) w.lent ≡ record { reply = Read (figures_of (contents B)); run = put w.lent 0 (starts_of (contents B)) }
-  read = rw burst_lent (burst_read B w.lent short_burst (omega (arith, w.room)))
+  read : read_burst B w.lent ≡ record { reply = Read (figures_of (contents B)); run = put w.lent 0 (starts_of (contents B)) }
+  read = burst_read B w.lent short_burst (omega (arith, w.room))
 
   numbers_are : n ≡ three_numbers (pos (ending_number (contents B).ending)) (figures_of (contents B)).frames (figures_of (contents B)).acknowledgements
   unfolding burst_numbers figures_of
@@ -57,12 +40,9 @@ module _ (a : List ℕ) (from : ℕ) (n : BurstNumbers) (run : List ℕ) (w : Wa
   other_numbers : {b : Bool} → Decides b (n ≡ numbers_said a) → b ≡ false → Decides false (FindsAs a)
   other_numbers d e = failed d e (λ f. numbers_are ∙ (λ i. three_numbers (pos (f.ending i)) (f.frames i) (f.acknowledgements i)))
 
-  pub starts_long : length (starts_said a from) ≡ start_count a
+  pub starts_long : length wanted ≡ start_count a
   starts_long =
-      omega (arith, w.at, w.whole, length-drop 3 a, length-take-le (from - 3) (drop 3 a) (omega (arith, w.at, w.whole, length-drop 3 a)))
-
-  starts_said_lem : starts_said a from ≡ take (start_count a) (drop 3 a)
-  starts_said_lem = ap (λ (k : ℕ). take k (drop 3 a)) {x = from - 3} {y = start_count a} (omega (arith, w.at))
+      ap length w.said ∙ length-take-le (start_count a) (drop 3 a) (omega (arith, w.whole, length-drop 3 a))
 
   starts_count : length (starts_of (contents B)) ≡ (figures_of (contents B)).frames + (figures_of (contents B)).acknowledgements
   starts_count = starts_length (contents B) ∙ sym (figures_sum (contents B))
@@ -74,11 +54,11 @@ module _ (a : List ℕ) (from : ℕ) (n : BurstNumbers) (run : List ℕ) (w : Wa
       ap (take k) (w.leaves.run ∙ ap (λ (c : BurstCalled). c.run) read)
       ∙ take_at (starts_of (contents B)) (drop (0 + length (starts_of (contents B))) w.lent) k e
 
-  starts_decide : {b : Bool} → n ≡ numbers_said a → Decides b (take (length (starts_said a from)) run ≡ starts_said a from) → Decides b (FindsAs a)
+  starts_decide : {b : Bool} → n ≡ numbers_said a → Decides b (take (length wanted) run ≡ wanted) → Decides b (FindsAs a)
   starts_decide e d =
       left_to d
-      (λ p. record { whole = omega (arith, w.at, w.whole); short = short_burst; ending = ending; frames = frames; acknowledgements = acknowledgements; starts = sym places ∙ p ∙ starts_said_lem })
-      (λ f. places ∙ f.starts ∙ sym starts_said_lem)
+      (λ p. record { whole = w.whole; short = short_burst; ending = ending; frames = frames; acknowledgements = acknowledgements; starts = sym places ∙ p ∙ w.said })
+      (λ f. places ∙ f.starts ∙ sym w.said)
     where
       same : three_numbers (pos (ending_number (contents B).ending)) (figures_of (contents B)).frames (figures_of (contents B)).acknowledgements ≡ numbers_said a
       same = sym numbers_are ∙ e
@@ -92,10 +72,10 @@ module _ (a : List ℕ) (from : ℕ) (n : BurstNumbers) (run : List ℕ) (w : Wa
       acknowledgements : (figures_of (contents B)).acknowledgements ≡ get_or a 2 0
       acknowledgements = ap (λ (m : BurstNumbers). m.acknowledgements) same
 
-      places : take (length (starts_said a from)) run ≡ starts_of (contents B)
-      places = first_places (length (starts_said a from)) (omega (arith, starts_count, frames, acknowledgements, starts_long))
+      places : take (length wanted) run ≡ starts_of (contents B)
+      places = first_places (length wanted) (omega (arith, starts_count, frames, acknowledgements, starts_long))
 
   -- both tests together
-  pub found_decided : {b d : Bool} → Decides b (n ≡ numbers_said a) → Decides d (take (length (starts_said a from)) run ≡ starts_said a from) → Decides (b && d) (FindsAs a)
+  pub found_decided : {b d : Bool} → Decides b (n ≡ numbers_said a) → Decides d (take (length wanted) run ≡ wanted) → Decides (b && d) (FindsAs a)
   found_decided {b = true} x y = starts_decide (x.0 refl) y
   found_decided {b = false} x y = other_numbers x refl

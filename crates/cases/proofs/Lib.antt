@@ -2,8 +2,8 @@ pub mod WithinLaws
 pub mod RunLaws
 pub mod ReadLaws
 pub mod SameLaws
-pub mod Types
 pub mod BurstLaws
 pub mod LentLaws
 pub mod ScriptLaws
 pub mod StepLaws
+pub mod KindLaws

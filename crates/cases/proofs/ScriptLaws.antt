@@ -1,25 +1,24 @@
 -- A script goes on: what each line does and asks is done and asked of the whole.
-use Rattle.std.proofs.Common.{◌≡◌, ℕ, ◌+◌, ◌-◌, ◌<◌, ◌≤◌, Bool, true, false, ◌&&◌, eqb, List, [], ◌∷◌, length, get_or, take, drop, sym, refl, ap, ◌∙◌, arith, length-drop, drop_of_length-le, length-take-le, take_all, drop-drop, ne_eqb}
+use Rattle.std.proofs.Common.{◌≡◌, ℕ, zero, suc, eqb-true, ◌<◌, ◌≤◌, Bool, true, false, ◌&&◌, eqb, List, [], ◌∷◌, length, get_or, take, drop, sym, refl, ap, ◌∙◌, arith, ne_eqb}
 use Rattle.calls.specs.declared.event.Event.TheVariants.{IdleMark}
-use Rattle.cases.specs.declared.bench.Bench.{Bench}
-use Rattle.cases.specs.declared.run.Stand.{Stand}
-use Rattle.cases.specs.Bench.{empty_bench, with_value, Within}
+use Rattle.cases.specs.Bench.{Bench}
+use Rattle.cases.specs.Run.{Stand}
+use Rattle.cases.specs.Bench.{empty_bench, with_value}
 use Rattle.cases.specs.Read.{ReadsAs}
-use Rattle.cases.specs.Run.{happened, count_sent, quiet, Sends, stand_after}
+use Rattle.cases.specs.Run.{happened, quiet, Sends, stand_after}
 use Rattle.cases.specs.Same.{Decides, SameTables, LinkIs}
 use Rattle.cases.proofs.SameLaws.{false_true, shown, left_to}
-use Rattle.script.specs.declared.line.Line.{Line}
+use Rattle.script.specs.Line.{Line}
 use Rattle.script.specs.Line.{listed, lines, line_end, read_line}
 use Rattle.cases.specs.Burst.{FindsAs}
 use Rattle.cases.specs.Lent.{built}
 use Rattle.cases.specs.Script.{standing, started, marked, numbered, acted, Damaged, Right, AllRight, Played}
-use Rattle.cases.proofs.WithinLaws.{empty_within, built_within, acted_within}
-use Rattle.script.proofs.LineLaws.{lines_next, end_within, end_some, count_fits}
+use Rattle.script.proofs.LineLaws.{lines_next, end_within, end_some}
 
 -- ---- what happens by a line: a law for each letter
-pub mark_quiet : (b b' : Bench) (n : ℕ) → b' ≡ happened IdleMark b → n ≡ count_sent b'.reply → standing b' (eqb n 0) 1000 ≡ marked b
-unfolding marked quiet
-mark_quiet b b' n eb en = rw (en, eb) refl
+pub mark_quiet : (b b' : Bench) (q : Bool) → b' ≡ happened IdleMark b → q ≡ quiet b' → standing b' q 1000 ≡ marked b
+unfolding marked
+mark_quiet b b' q eb eq = rw (eq, eb) refl
 
 module _ (l : Line) (w : Bench) (s : Stand) where
   pub starts : l.letter ≡ 0x73 → acted l w s ≡ started w l.bytes
@@ -88,73 +87,54 @@ module _ (l : Line) (w : Bench) (s : Stand) (q : s.quiet ≡ true) where
   nothing_asked nr nx nl nt ng nu =
       shown (record { silent = q; reply = λ e. absurd (nr e); damage = λ e. absurd (nx e); link = λ e. absurd (nl e); tables = λ e. absurd (nt e); reading = λ e. absurd (ng e); burst = λ e. absurd (nu e) })
 
--- a count of no bytes is quiet
-pub quiet_decided : (b : Bench) (n : ℕ) → n ≡ count_sent b.reply → Decides (eqb n 0) (quiet b ≡ true)
-unfolding quiet
-quiet_decided b n e = ((λ x. rw (sym e) x), (λ y. rw (sym e) at y))
-
 -- ---- the loop: what is left of the script asks the rest
-pub record Playing (t : List ℕ) (w : Bench) (s : Stand) (r : Bool) (at : ℕ) : Type 0 where
-  pub told : Within w
-  pub stands : Within s.bench
-  pub ahead : (r ≡ true) × AllRight (lines (drop at t)) w s → Played t
-  pub back : Played t → (r ≡ true) × AllRight (lines (drop at t)) w s
+pub record Playing (t : List ℕ) (w : Bench) (s : Stand) (r : Bool) (rest : List ℕ) : Type 0 where
+  pub ahead : (r ≡ true) × AllRight (lines rest) w s → Played t
+  pub back : Played t → (r ≡ true) × AllRight (lines rest) w s
 
-pub playing_begins : (t : List ℕ) (w : Bench) → w ≡ empty_bench → Playing t w (standing w true 1000) true 0
+pub playing_begins : (t : List ℕ) (w : Bench) (s : Stand) → w ≡ empty_bench → s ≡ standing empty_bench true 1000 → Playing t w s true t
 unfolding Played
-playing_begins t w e = record { told = rw e empty_within; stands = rw e empty_within; ahead = λ x. rw e at x.1; back = λ y. (refl, rw e y) }
+playing_begins t w s e f = rw (e, f) (record { ahead = λ x. x.1; back = λ y. (refl, y) })
 
 both_hold : (p q : Bool) → (p && q) ≡ true → (p ≡ true) × (q ≡ true)
 both_hold true q e = (refl, e)
 both_hold false q e = absurd (false_true e)
 
--- after a line
-pub stands_within : (l : Line) → l.size ≤ 264 → (w w' : Bench) (s s' : Stand) → w' ≡ built l w → s' ≡ acted l w' s → Within w → Within s.bench → Within s'.bench
-stands_within l h w w' s s' ew es a b = rw es (acted_within l h w' s (rw ew (built_within l h w a)) b)
-
 -- the rest of a script, and its first line
-module _ (t : List ℕ) (at e : ℕ) (l : at < length t) (ee : e ≡ line_end (take (length t - at) (drop at t))) where
-  abbrev rest : List ℕ
-  rest = drop at t
-
-  whole : take (length t - at) rest ≡ rest
-  whole = take_all (length t - at) rest (omega (arith, length-drop at t))
-
-  pub end_is : e ≡ line_end rest
-  end_is = ee ∙ ap line_end whole
-
-  pub line_within : at + e ≤ length t
-  line_within = omega (arith, end_is, end_within rest, length-drop at t)
+module _ (rest : List ℕ) (e : ℕ) (l : 0 < length rest) (ee : e ≡ line_end rest) where
+  pub line_within : e ≤ length rest
+  line_within = omega (arith, ee, end_within rest)
 
   pub line_some : 1 ≤ e
-  line_some = let h = end_some rest (omega (arith, length-drop at t)) in omega (arith, end_is, h)
+  line_some = let h = end_some rest l in omega (arith, ee, h)
 
-  pub line_there : 0 < length (take (at + e - at) rest)
-  line_there = omega (arith, line_some, length-take-le (at + e - at) rest (omega (arith, line_within, length-drop at t)))
+  next : lines rest ≡ take e rest ∷ lines (drop e rest)
+  next = rw ee (lines_next rest l)
 
-  next : lines rest ≡ take e rest ∷ lines (drop (at + e) t)
-  next = rw end_is (lines_next rest (omega (arith, length-drop at t)) ∙ ap (λ (z : List ℕ). take (line_end rest) rest ∷ lines z) (drop-drop (line_end rest) at t))
+  pub playing_goes : (t : List ℕ) (w w' : Bench) (s s' : Stand) (line : Line) (r h r' : Bool)
+      → line ≡ read_line (take e rest) → w' ≡ built line w → s' ≡ acted line w' s → Decides h (Right line w' s') → r' ≡ (r && h)
+      → Playing t w s r rest → Playing t w' s' r' (drop e rest)
+  unfolding AllRight
+  playing_goes t w w' s s' line r h r' k ew es d er p =
+      let L = read_line (take e rest) in
+      let W : w' ≡ built L w = ew ∙ ap (λ (x : Line). built x w) k in
+      let S : s' ≡ acted L (built L w) s = es ∙ rw (k, W) refl in
+      let D : Decides h (Right L (built L w) (acted L (built L w) s)) = rw (S, W, k) at d in
+      rw (W, S)
+      (record {
+        ahead = λ x. let y = both_hold r h (sym er ∙ x.0) in p.ahead (y.0, rw next (D.0 y.1, x.1));
+        back = λ y. let x = p.back y in let z = rw next at x.1 in (er ∙ rw x.0 (D.1 z.0), z.1);
+      })
 
-  module _ (w w' : Bench) (s s' : Stand) (line : Line) (r h r' : Bool) where
-    pub playing_goes : line ≡ read_line (take (at + e - at) rest) → w' ≡ built line w → s' ≡ acted line w' s
-        → Decides h (Right line w' s') → r' ≡ (r && h) → Playing t w s r at → Playing t w' s' r' (at + e)
-    unfolding AllRight
-    playing_goes el ew es d er p =
-        let L = read_line (take e rest) in
-        let k : line ≡ L = el ∙ ap (λ (n : ℕ). read_line (take n rest)) {x = at + e - at} {y = e} (omega arith) in
-        let W : w' ≡ built L w = ew ∙ ap (λ (x : Line). built x w) k in
-        let S : s' ≡ acted L (built L w) s = es ∙ rw (k, W) refl in
-        let D : Decides h (Right L (built L w) (acted L (built L w) s)) = rw (S, W, k) at d in
-        rw (W, S)
-        (record {
-          told = built_within L (count_fits _) w p.told;
-          stands = acted_within L (count_fits _) (built L w) s (built_within L (count_fits _) w p.told) p.stands;
-          ahead = λ x. let y = both_hold r h (sym er ∙ x.0) in p.ahead (y.0, rw next (D.0 y.1, x.1));
-          back = λ y. let x = p.back y in let z = rw next at x.1 in (er ∙ rw x.0 (D.1 z.0), z.1);
-        })
+-- what a test for an empty list tells
+pub some_left : (n : ℕ) → false ≡ eqb n 0 → 0 < n
+some_left zero e = absurd (false_true e)
+some_left (suc n) e = omega arith
 
-pub playing_ends : (t : List ℕ) (w : Bench) (s : Stand) (at : ℕ) (r : Bool) → length t ≤ at → Playing t w s r at → Decides r (Played t)
+pub none_left : (n : ℕ) → true ≡ eqb n 0 → n ≡ 0
+none_left n e = eqb-true n 0 (sym e)
+
+pub playing_ends : (t : List ℕ) (w : Bench) (s : Stand) (r : Bool) (rest : List ℕ) → length rest ≡ 0 → Playing t w s r rest → Decides r (Played t)
 unfolding AllRight lines
-playing_ends t w s at r l p =
-    let d : drop at t ≡ [] = drop_of_length-le t l in
-    ((λ x. p.ahead (x, rw d refl)), (λ y. (p.back y).0))
+playing_ends t w s r [] e p = ((λ x. p.ahead (x, refl)), (λ y. (p.back y).0))
+playing_ends t w s r (x ∷ xs) e p = absurd (omega (arith, e))

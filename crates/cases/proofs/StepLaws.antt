@@ -1,41 +1,58 @@
--- A call with so many records and bytes of each table is a step of the bench.
-use Rattle.std.proofs.Common.{◌≡◌, ℕ, List, ◌++◌, take, drop, sym, refl, ap, ◌∙◌}
-use Rattle.std.proofs.lemmas.List.{take-append-drop}
+-- A call on the tables of a bench that the program holds is a step of the bench that the definitions see.
+use Rattle.std.proofs.Common.{◌≡◌, ℕ, ◌-◌, List, ◌++◌, length, drop, [], replicate, sym, ap, ◌∙◌, arith, append-nil, drop_of_length-le, take_all}
+use Rattle.std.specs.List.{refill}
 use Rattle.ft12.specs.declared.record.Link.{Link}
 use Rattle.baos.specs.declared.datapoint.Datapoint.{Datapoint}
 use Rattle.baos.specs.declared.item.Item.{Item}
 use Rattle.baos.specs.Table.{Tables, tables_of}
-use Rattle.baos.specs.Text.{TextLists}
+use Rattle.baos.specs.Text.{TextLists, text_lists}
 use Rattle.calls.specs.declared.event.Event.{Event}
-use Rattle.calls.specs.declared.reply.Reply.{Reply}
+use Rattle.calls.specs.Reply.{Reply}
 use Rattle.calls.specs.Call.{Called, call}
 use Rattle.calls.specs.Promise.{Leaves}
 use Rattle.calls.proofs.CallLaws.{reply_told}
-use Rattle.cases.specs.declared.bench.Bench.{Bench}
-use Rattle.cases.specs.Step.{Told, tables_in, called, stepped}
+use Rattle.script.specs.View.{in_places, line_of}
+use Rattle.script.proofs.PlaceLaws.{take_places, drop_places}
+use Rattle.cases.specs.declared.bench.Bench.{Bench as HeldBench}
+use Rattle.cases.specs.Bench.{no_datapoint, no_item}
+use Rattle.cases.specs.Run.{happened}
+use Rattle.cases.specs.Step.{lists_of, tables_in, called, stepped}
+use Rattle.cases.specs.View.{bench_of}
 
--- a table of which the first n are now ys, and the others stand
-joined : {A : Type 0} (n m : ℕ) (xs zs ys : List A) → n ≡ m → take n zs ≡ ys → drop n zs ≡ drop n xs → zs ≡ ys ++ drop m xs
-joined n m xs zs ys e f g = sym (take-append-drop n zs) ∙ rw (f, g, e) refl
+-- a table that is now ys, of as many records
+joined : {A : Type 0} (n : ℕ) (blank : A) (xs ys zs : List A) → ys ≡ zs → length ys ≡ length xs → in_places n blank ys ≡ zs ++ drop (length xs) (in_places n blank xs)
+joined n blank xs ys zs e f =
+    let r : ys ++ replicate (n - length ys) blank ≡ zs ++ replicate (n - length xs) blank = λ i. e i ++ replicate (n - f i) blank in
+    r ∙ ap (λ q. zs ++ q) (sym (drop_places n blank xs))
 
-module _ (b : Bench) (d i p : ℕ) (v : List ℕ) (told : Told b d i p v) (ts : TextLists) (e : Event) where
+pub refilled : {A : Type 0} (xs ws : List A) → length ws ≡ length xs → refill (length xs) xs ws ≡ ws
+refilled xs ws e = let d : drop (length ws) xs ≡ [] = drop_of_length-le xs (omega (arith, e)) in rw (d, append-nil) (take_all (length xs) ws (omega (arith, e)))
+
+module _ (b : HeldBench) (e : Event) where
+  abbrev ts : TextLists
+  ts = text_lists b.site.bytes.items b.defaults.bytes.items
+
   abbrev left : Called
-  left = call e v (tables_of (take d b.datapoints) (take i b.items) (take p b.parameters) ts) b.link b.out
+  left = call e b.value.bytes.items (tables_of b.datapoints.items b.items.items b.parameters.items ts) b.link b.out
 
-  same : left ≡ called b ts e
-  unfolding called tables_in
-  same = rw (told.datapoints, told.items, told.parameters, told.value) refl
+  abbrev right : Called
+  right = called (bench_of b) (lists_of (bench_of b)) e
 
-  pub steps : (r : Reply) (ds : List Datapoint) (is : List Item) (ps : List ℕ) (k : Link) (o : List ℕ) → Leaves left r (tables_of (take d ds) (take i is) (take p ps) ts) k o
-      → drop d ds ≡ drop d b.datapoints → drop i is ≡ drop i b.items → drop p ps ≡ drop p b.parameters
-      → record { link = k; datapoints = ds; datapointcount = b.datapointcount; items = is; itemcount = b.itemcount; parameters = ps; parametercount = b.parametercount; site = b.site; defaults = b.defaults; value = b.value; out = o; reply = r } ≡ stepped b ts e
-  unfolding stepped
-  steps r ds is ps k o l fd fi fp =
-      let t : tables_of (take d ds) (take i is) (take p ps) ts ≡ (called b ts e).tables = l.tables ∙ ap (λ (z : Called). z.tables) same in
-      let ed : ds ≡ (called b ts e).tables.datapoints ++ drop b.datapointcount b.datapoints = joined d b.datapointcount b.datapoints ds _ told.datapoints (ap (λ (z : Tables). z.datapoints) t) fd in
-      let ei : is ≡ (called b ts e).tables.items ++ drop b.itemcount b.items = joined i b.itemcount b.items is _ told.items (ap (λ (z : Tables). z.items) t) fi in
-      let ep : ps ≡ (called b ts e).tables.parameters ++ drop b.parametercount b.parameters = joined p b.parametercount b.parameters ps _ told.parameters (ap (λ (z : Tables). z.parameters) t) fp in
-      let ek : k ≡ (called b ts e).link = l.link ∙ ap (λ (z : Called). z.link) same in
-      let eo : o ≡ (called b ts e).output = l.output ∙ ap (λ (z : Called). z.output) same in
-      let er : r ≡ (called b ts e).reply = reply_told r left.reply l.reply ∙ ap (λ (z : Called). z.reply) same in
-      λ j. record { link = ek j; datapoints = ed j; datapointcount = b.datapointcount; items = ei j; itemcount = b.itemcount; parameters = ep j; parametercount = b.parametercount; site = b.site; defaults = b.defaults; value = b.value; out = eo j; reply = er j }
+  same : left ≡ right
+  unfolding called tables_in lists_of
+  same =
+      sym (λ j. call e (take_places 264 0 b.value.bytes.items j) (tables_of (take_places 50 no_datapoint b.datapoints.items j) (take_places 4 no_item b.items.items j) (take_places 264 0 b.parameters.items j) (text_lists (take_places 264 0 b.site.bytes.items j) (take_places 264 0 b.defaults.bytes.items j))) b.link b.out)
+
+  pub steps : (r : Reply) (ds : List Datapoint) (is : List Item) (ps : List ℕ) (k : Link) (o : List ℕ) → Leaves left r (tables_of ds is ps ts) k o
+      → length ds ≡ length b.datapoints.items → length is ≡ length b.items.items → length ps ≡ length b.parameters.items
+      → record { link = k; datapoints = in_places 50 no_datapoint ds; datapointcount = length ds; items = in_places 4 no_item is; itemcount = length is; parameters = in_places 264 0 ps; parametercount = length ps; site = line_of b.site; defaults = line_of b.defaults; value = line_of b.value; out = o; reply = r } ≡ happened e (bench_of b)
+  unfolding happened stepped
+  steps r ds is ps k o l nd ni np =
+      let t : tables_of ds is ps ts ≡ right.tables = l.tables ∙ ap (λ (z : Called). z.tables) same in
+      let ed = joined 50 no_datapoint b.datapoints.items ds right.tables.datapoints (ap (λ (z : Tables). z.datapoints) t) nd in
+      let ei = joined 4 no_item b.items.items is right.tables.items (ap (λ (z : Tables). z.items) t) ni in
+      let ep = joined 264 0 b.parameters.items ps right.tables.parameters (ap (λ (z : Tables). z.parameters) t) np in
+      let ek : k ≡ right.link = l.link ∙ ap (λ (z : Called). z.link) same in
+      let eo : o ≡ right.output = l.output ∙ ap (λ (z : Called). z.output) same in
+      let er : r ≡ right.reply = reply_told r left.reply l.reply ∙ ap (λ (z : Called). z.reply) same in
+      λ j. record { link = ek j; datapoints = ed j; datapointcount = nd j; items = ei j; itemcount = ni j; parameters = ep j; parametercount = np j; site = line_of b.site; defaults = line_of b.defaults; value = line_of b.value; out = eo j; reply = er j }

@@ -5,10 +5,10 @@ use Rattle.baos.specs.declared.datapoint.Datapoint.{Datapoint}
 use Rattle.baos.specs.declared.item.Item.{Item}
 use Rattle.calls.specs.declared.event.Event.{Event}
 use Rattle.calls.specs.declared.event.Event.TheVariants.{HostByte, IdleMark}
-use Rattle.script.specs.declared.line.Line.{Line}
+use Rattle.script.specs.Line.{Line}
 use Rattle.script.specs.Record.{item_of, datapoint_of}
-use Rattle.cases.specs.declared.bench.Bench.{Bench}
-use Rattle.cases.specs.declared.run.Stand.{Stand}
+use Rattle.cases.specs.Bench.{Bench}
+use Rattle.cases.specs.Run.{Stand}
 use Rattle.cases.specs.Bench.{empty_bench, no_line, with_bits, with_datapoints, with_items, with_parameters, with_site, with_defaults, with_value, Within}
 use Rattle.cases.specs.Step.{stepped}
 use Rattle.cases.specs.Run.{happened, heard, stand_after}
@@ -16,7 +16,7 @@ use Rattle.cases.specs.Lent.{with_item, with_datapoint, filled, built}
 use Rattle.cases.specs.Script.{started, marked, numbered, acted}
 
 -- whichever way a test goes
-either : {A : Type 0} (P : A → Type 0) (t : Bool) {x y : A} → (t ≡ true → P x) → P y → P (if t then x else y)
+pub either : {A : Type 0} (P : A → Type 0) (t : Bool) {x y : A} → (t ≡ true → P x) → P y → P (if t then x else y)
 either P true f p = f refl
 either P false f p = p
 

@@ -4,9 +4,24 @@ use Rattle.ft12.specs.declared.record.Link.{Link}
 use Rattle.ft12.specs.Record.{link_with}
 use Rattle.baos.specs.declared.datapoint.Datapoint.{Datapoint}
 use Rattle.baos.specs.declared.item.Item.{Item}
-use Rattle.calls.specs.declared.reply.Reply.TheVariants.{Accepted}
-use Rattle.cases.specs.declared.bench.Bench.{Bench}
-use Rattle.script.specs.declared.line.Line.{Line}
+use Rattle.calls.specs.Reply.{Reply, Accepted}
+use Rattle.script.specs.Line.{Line}
+
+-- the tables at a fixed width with a count beside each, the link record and the output of one server; the two text lists,
+-- and the value beside a bus value event, as the lines that told them; and what the last call answered
+pub record Bench : Type 0 where
+  pub link : Link
+  pub datapoints : List Datapoint
+  pub datapointcount : ℕ
+  pub items : List Item
+  pub itemcount : ℕ
+  pub parameters : List ℕ
+  pub parametercount : ℕ
+  pub site : Line
+  pub defaults : Line
+  pub value : Line
+  pub out : List ℕ
+  pub reply : Reply
 
 -- nothing received, nothing outstanding, and these bits
 unfoldable pub idle_link : ℕ → ℕ → Link

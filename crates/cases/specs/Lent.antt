@@ -2,9 +2,9 @@
 use Rattle.std.specs.Prelude.{if◌then◌else◌, ℕ, zero, suc, ◌+◌, List, ◌==◌, nat_lt, slice_index, slice_set}
 use Rattle.baos.specs.declared.datapoint.Datapoint.{Datapoint}
 use Rattle.baos.specs.declared.item.Item.{Item}
-use Rattle.cases.specs.declared.bench.Bench.{Bench}
+use Rattle.cases.specs.Bench.{Bench}
 use Rattle.cases.specs.Bench.{empty_bench, with_datapoints, with_items, with_parameters, with_site, with_defaults}
-use Rattle.script.specs.declared.line.Line.{Line}
+use Rattle.script.specs.Line.{Line}
 use Rattle.script.specs.Record.{item_of, datapoint_of}
 
 -- one record more, behind the others; a full table stays

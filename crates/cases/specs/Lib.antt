@@ -6,3 +6,5 @@ pub mod Read
 pub mod Burst
 pub mod Lent
 pub mod Script
+pub mod View
+pub mod Kind

@@ -1,13 +1,13 @@
 -- Readings on the bench, by the numbers that firmware gets.
 use Rattle.std.specs.Prelude.{◌≡◌, ℕ, ◌⊎◌, List, take, pos, ◌-ℤ◌, slice_index, to_bits}
 use Rattle.std.specs.Float.{binary32}
-use Rattle.dpt.specs.declared.reading.ReadingReply.{ReadingReply}
+use Rattle.dpt.specs.Reply.{ReadingReply}
 use Rattle.dpt.specs.declared.reading.ReadingNumbers.{ReadingNumbers}
 use Rattle.dpt.specs.Single.{of_four_bytes}
 use Rattle.dpt.specs.Reading.{reading_for}
 use Rattle.dpt.specs.Numbers.{reading_reply_numbers}
 use Rattle.script.specs.Record.{raised}
-use Rattle.cases.specs.declared.bench.Bench.{Bench}
+use Rattle.cases.specs.Bench.{Bench}
 
 -- the case and no refusal, or minus the refusal and no case; the whole number; the bits of the floating one
 pub record AreNumbers (n : ReadingNumbers) (case refusal whole bits : ℕ) : Type 0 where

@@ -3,11 +3,16 @@ use Rattle.std.specs.Prelude.{if◌then◌else◌, ◌≡◌, ℕ, suc, ◌≤�
 use Rattle.words.specs.Words.{is_yes}
 use Rattle.calls.specs.declared.event.Event.{Event}
 use Rattle.calls.specs.declared.event.Event.TheVariants.{HostByte}
-use Rattle.calls.specs.declared.reply.Reply.{Reply}
-use Rattle.calls.specs.declared.reply.Reply.TheVariants.{Refused, Accepted}
-use Rattle.cases.specs.declared.bench.Bench.{Bench}
-use Rattle.cases.specs.declared.run.Stand.{Stand}
+use Rattle.calls.specs.Reply.{Reply, Refused, Accepted}
+use Rattle.cases.specs.Bench.{Bench}
 use Rattle.cases.specs.Step.{lists_of, stepped}
+
+-- a bench after what happened; whether all was quiet that was to be; and at which of the bytes that the host sent last the
+-- receiver found damage
+pub record Stand : Type 0 where
+  pub bench : Bench
+  pub quiet : Bool
+  pub place : ℕ
 
 -- the bench after an event
 unfoldable pub happened : Event → Bench → Bench

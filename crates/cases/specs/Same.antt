@@ -1,7 +1,7 @@
 -- Tests, and what they decide.
 use Rattle.std.specs.Prelude.{◌≡◌, ℕ, ◌≤◌, Bool, true, List, length, take, drop, slice_index}
 use Rattle.ft12.specs.declared.record.Link.{Link}
-use Rattle.cases.specs.declared.bench.Bench.{Bench}
+use Rattle.cases.specs.Bench.{Bench}
 
 -- r is true exactly where P holds
 abbrev pub Decides : Bool → Type 0 → Type 0

@@ -2,13 +2,13 @@
 use Rattle.std.specs.Prelude.{if◌then◌else◌, ◌≡◌, ℕ, Bool, true, List, [], ◌∷◌, ◌==◌, slice_index}
 use Rattle.calls.specs.declared.event.Event.TheVariants.{IdleMark}
 use Rattle.calls.specs.Numbers.{event_numbered}
-use Rattle.cases.specs.declared.bench.Bench.{Bench}
-use Rattle.cases.specs.declared.run.Stand.{Stand}
+use Rattle.cases.specs.Bench.{Bench}
+use Rattle.cases.specs.Run.{Stand}
 use Rattle.cases.specs.Bench.{empty_bench, with_bits, with_value}
 use Rattle.cases.specs.Read.{ReadsAs}
 use Rattle.cases.specs.Run.{happened, quiet, Sends, stand_after}
 use Rattle.cases.specs.Same.{SameTables, LinkIs}
-use Rattle.script.specs.declared.line.Line.{Line}
+use Rattle.script.specs.Line.{Line}
 use Rattle.script.specs.Line.{listed, lines, read_line}
 use Rattle.script.specs.Record.{raised}
 use Rattle.cases.specs.Burst.{FindsAs}

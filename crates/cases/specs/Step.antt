@@ -4,7 +4,7 @@ use Rattle.baos.specs.Text.{TextLists, text_lists}
 use Rattle.baos.specs.Table.{Tables, tables_of}
 use Rattle.calls.specs.declared.event.Event.{Event}
 use Rattle.calls.specs.Call.{Called, call}
-use Rattle.cases.specs.declared.bench.Bench.{Bench}
+use Rattle.cases.specs.Bench.{Bench}
 use Rattle.script.specs.Line.{listed}
 use Rattle.cases.specs.Bench.{Within}
 

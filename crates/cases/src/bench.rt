@@ -1,23 +1,20 @@
-// The bench: the tables at a fixed width with a count beside each, the link record and the output of one server, by
-// value; and the lines of the script that told what is lent for reading.
-ghost use Rattle.std.specs.Prelude.{◌≡◌};
-ghost use Rattle.cases.specs.Bench.{empty_bench};
-
+// The bench: one server by value, with its tables, its link record and its output; and the lines of the script that told
+// what is lent for reading.
+use arrayvec::ArrayVec;
 use baos::datapoint::Datapoint;
 use baos::item::Item;
-use calls::reply::Reply;
+use calls::event::Event;
+use calls::refusal::Refusal;
 use ft12::record::Link;
 use script::line::Line;
+use server::call::call;
 
-#[derive(Clone, Copy)]
+#[derive(Drop)]
 pub struct Bench {
     pub link: Link,
-    pub datapoints: [Datapoint; 50],
-    pub datapointcount: usize,
-    pub items: [Item; 4],
-    pub itemcount: usize,
-    pub parameters: [u8; 264],
-    pub parametercount: usize,
+    pub datapoints: ArrayVec<Datapoint, 50>,
+    pub items: ArrayVec<Item, 4>,
+    pub parameters: ArrayVec<u8, 264>,
     // The two text lists.
     pub site: Line,
     pub defaults: Line,
@@ -25,56 +22,94 @@ pub struct Bench {
     pub value: Line,
     pub out: [u8; 262],
     // What the last call answered.
-    pub reply: Reply,
+    pub reply: Result<usize, Refusal>,
 }
 
-// Empty tables, and the link as document 01 has it unless it says otherwise: "nothing is outstanding and both bits
-// are odd".
-pub fn empty() -> Bench
-    ensures { result ≡ empty_bench }
-{
-    let link = Link {
-        receiver: [0; 260],
-        received: 0,
-        dropping: 0,
-        expected: 1,
-        send: 1,
-        outstanding: [0; 261],
-        held: 0,
-        resends: 0,
-    };
-    let datapoint = Datapoint {
-        id: 0,
-        typecode: 0,
-        flags: 0,
-        dpt: 0,
-        state: 0,
-        value: [0; 14],
-        mark: 0,
-    };
-    let item = Item {
-        id: 0,
-        size: 0,
-        writable: 0,
-        bytes: [0; 16],
-    };
-    let line = Line {
-        letter: 0,
-        bytes: [0; 264],
-        size: 0,
-    };
-    Bench {
-        link: link,
-        datapoints: [datapoint; 50],
-        datapointcount: 0,
-        items: [item; 4],
-        itemcount: 0,
-        parameters: [0; 264],
-        parametercount: 0,
-        site: line,
-        defaults: line,
-        value: line,
-        out: [0; 262],
-        reply: Reply::Accepted(0),
+impl Bench {
+    ghost use Rattle.std.specs.Prelude.{◌≡◌, ◌<◌, ◌≤◌, take, MatchOption};
+    ghost use Rattle.calls.specs.Reply.{reply_of};
+    ghost use Rattle.cases.specs.Bench.{empty_bench};
+    ghost use Rattle.cases.specs.Run.{happened, count_sent, quiet};
+    ghost use Rattle.cases.specs.View.{bench_of};
+
+    // Empty tables, and the link as document 01 has it unless it says otherwise: "nothing is outstanding and both bits
+    // are odd".
+    pub fn empty() -> Bench
+        ensures { bench_of result ≡ empty_bench }
+    {
+        Bench {
+            link: Link {
+                receiver: [0; 260],
+                received: 0,
+                dropping: 0,
+                expected: 1,
+                send: 1,
+                outstanding: [0; 261],
+                held: 0,
+                resends: 0,
+            },
+            datapoints: ArrayVec::new(),
+            items: ArrayVec::new(),
+            parameters: ArrayVec::new(),
+            site: Line::empty(),
+            defaults: Line::empty(),
+            value: Line::empty(),
+            out: [0; 262],
+            reply: Ok(0),
+        }
+    }
+
+    // The same bench once more.
+    pub fn copy(&self) -> Bench
+        ensures { bench_of result ≡ bench_of self.now }
+    {
+        Bench {
+            link: self.link,
+            datapoints: self.datapoints.clone().unwrap(),
+            items: self.items.clone().unwrap(),
+            parameters: self.parameters.clone().unwrap(),
+            site: self.site.copy(),
+            defaults: self.defaults.copy(),
+            value: self.value.copy(),
+            out: self.out,
+            reply: self.reply,
+        }
+    }
+
+    // One event: the one function that lends the bench to the server's call.
+    pub fn happens(&mut self, event: Event)
+        ensures { bench_of self.new ≡ happened event (bench_of self.old) }
+    {
+        self.reply = call(
+            event,
+            self.value.bytes.as_slice(),
+            self.datapoints.as_mut_slice(),
+            self.items.as_mut_slice(),
+            self.parameters.as_mut_slice(),
+            self.site.bytes.as_slice(),
+            self.defaults.bytes.as_slice(),
+            &mut self.link,
+            &mut self.out,
+        );
+    }
+
+    // What the last call sends; none where it was refused.
+    #[tactic(auto, unfolding(crate::specs::Run::count_sent))]
+    pub fn sent(&self) -> Option<&[u8]>
+        ensures { MatchOption result (262 < count_sent (reply_of self.now.reply))
+            (λ sent. (count_sent (reply_of self.now.reply) ≤ 262) × (sent.now ≡ take (count_sent (reply_of self.now.reply)) self.now.out)) }
+    {
+        match self.reply {
+            Ok(count) => self.out.get(..count),
+            Err(_) => None,
+        }
+    }
+
+    // Whether the last call was accepted and sends nothing.
+    #[tactic(auto, unfolding(crate::specs::Run::quiet, crate::specs::Run::count_sent))]
+    pub fn is_quiet(&self) -> bool
+        ensures { result ≡ quiet (bench_of self.now) }
+    {
+        self.reply == Ok(0)
     }
 }

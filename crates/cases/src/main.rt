@@ -6,33 +6,28 @@
 
 mod bench;
 mod burst;
+mod kind;
 mod lent;
 mod play;
 mod print;
 mod read;
 mod run;
 mod same;
-mod step;
 
 use crate::play::play;
 use script::print::{counted, text};
-use std::num::wrapping_add_u8;
 
 // Plays the scripts, up to a tilde each, and says how many of them went as the papers say.
-fn cases(s: &[u8]) {
-    let mut count: u8 = 0;
-    let mut right: u8 = 0;
-    let mut from: usize = 0;
-    let mut i: usize = 0;
-    while i < s.len() {
-        if s[i] == b'~' {
-            right = wrapping_add_u8(right, play(&s[from..i]) as u8);
-            count = wrapping_add_u8(count, 1);
-            from = i + 1;
-        }
-        i = i + 1;
+fn cases(input: &[u8]) {
+    let mut count = 0u8;
+    let mut right = 0u8;
+    let mut rest = input;
+    while let Some(end) = rest.iter().position(|b| *b == b'~') {
+        right = right.wrapping_add(u8::from(play(&rest[..end])));
+        count = count.wrapping_add(1);
+        rest = &rest[end + 1..];
     }
-    text(&s[from..]);
+    text(rest);
     counted(count, right);
 }
 
@@ -40,10 +35,10 @@ fn cases(s: &[u8]) {
 const STDIN_FILENO: i32 = 0;
 
 // What stands behind so many bytes of the input is not played.
-const MOST_INPUT: usize = 131072;
+const MOST_INPUT: usize = 131_072;
 
 fn main() {
-    let mut input = [0u8; MOST_INPUT];
-    let n = io::read_full(STDIN_FILENO, &mut input);
-    cases(&input[..n]);
+    let mut input = [0; MOST_INPUT];
+    let size = io::read_full(STDIN_FILENO, &mut input);
+    cases(&input[..size]);
 }

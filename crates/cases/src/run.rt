@@ -1,94 +1,140 @@
-// Events on the bench, one after the other.
-ghost use Rattle.std.specs.Prelude.{◌≡◌};
-ghost use Rattle.cases.specs.Bench.{Within};
-ghost use Rattle.cases.specs.Run.{happened, count_sent, Sends, stand_after};
-ghost use Rattle.cases.specs.Same.{Decides};
-
+// What happens by the lines of a script, and what they ask.
 use crate::bench::Bench;
-use crate::step::step;
+use crate::burst::has_found;
+use crate::kind::Kind;
+use crate::read::has_read;
+use crate::same::{is_link, same_tables};
 use calls::event::Event;
-use calls::reply::Reply;
+use numbers::numbers::event_numbered;
+use script::line::Line;
+use script::record::raised;
 
 // A bench after what happened; whether all was quiet that was to be; and at which of the bytes that the host sent last
-// the receiver found damage.
-#[derive(Clone, Copy)]
+// the receiver found damage, if it did.
+#[derive(Drop)]
 pub struct Stand {
     pub bench: Bench,
     pub quiet: bool,
-    pub place: usize,
+    pub place: Option<usize>,
 }
 
-// The bench after this event. What is lent for reading is lent from copies, while `step` takes the bench apart.
-pub fn happens(bench: Bench, event: Event) -> Bench
-    requires { Within bench }
-    ensures { result ≡ happened event bench }
-{
-    let v = bench.value.size;
-    let s = bench.site.size;
-    let d = bench.defaults.size;
-    let value = bench.value.bytes;
-    let site = bench.site.bytes;
-    let defaults = bench.defaults.bytes;
-    step(
-        bench,
-        bench.datapointcount,
-        bench.itemcount,
-        bench.parametercount,
-        event,
-        &value[..v],
-        &site[..s],
-        &defaults[..d],
-    )
-}
+impl Stand {
+    ghost use Rattle.std.specs.Prelude.{◌≡◌, true, slice_index};
+    ghost use Rattle.script.specs.View.{line_of};
+    ghost use Rattle.cases.specs.Run.{Sends, stand_after};
+    ghost use Rattle.cases.specs.Same.{Decides};
+    ghost use Rattle.cases.specs.Script.{standing, started, marked, numbered, acted, Damaged, Right};
+    ghost use Rattle.cases.specs.View.{bench_of, stand_of, place_of};
 
-// How many bytes of the output the last call sends; where it was refused, more than the output has.
-pub fn sent_count(bench: Bench) -> usize
-    ensures { result ≡ count_sent bench.reply }
-{
-    let reply = bench.reply;
-    match reply {
-        Reply::Refused(_) => 263,
-        Reply::Accepted(count) => count,
-    }
-}
-
-// Whether the last call sends these bytes.
-pub fn has_sent(bench: Bench, wanted: &[u8]) -> bool
-    ensures { Decides result (Sends bench wanted.now) }
-{
-    let n = sent_count(bench);
-    if 262 < n {
-        return false;
-    }
-    let out = bench.out;
-    check::same(&out[..n], wanted)
-}
-
-// The bench after each of these bytes from the host, in turn. All is quiet where there are some, and none but the last
-// draws anything. Damage is found at the last byte before which the receiver does not drop; 1000 is no place.
-pub fn hear(bench: Bench, bytes: &[u8]) -> Stand
-    requires { Within bench }
-    ensures { result ≡ stand_after bytes.now bench }
-{
-    let mut b = bench;
-    let mut before = false;
-    let mut quiet = true;
-    let mut place: usize = 1000;
-    let mut i: usize = 0;
-    while i < bytes.len() {
-        before = quiet;
-        if b.link.dropping != 1 {
-            place = i;
+    // Nothing was asked for, and no byte came from the host.
+    pub fn new(bench: Bench) -> Stand
+        ensures { stand_of result ≡ standing (bench_of bench) true 1000 }
+    {
+        Stand {
+            bench,
+            quiet: true,
+            place: None,
         }
-        b = happens(b, Event::HostByte(bytes[i]));
-        if sent_count(b) != 0 {
-            quiet = false;
-        }
-        i = i + 1;
     }
-    Stand {
-        bench: b,
-        quiet: before,
-        place: place,
+
+    // Each of these bytes from the host, in turn. All is quiet where there are some, and none but the last draws
+    // anything. Damage is found at the last byte before which the receiver does not drop.
+    fn hear(&mut self, bytes: &[u8])
+        ensures { stand_of self.new ≡ stand_after bytes.now (bench_of self.old.bench) }
+    {
+        let mut before = false;
+        let mut quiet = true;
+        let mut place = None;
+        for (i, byte) in bytes.iter().enumerate() {
+            before = quiet;
+            if self.bench.link.dropping != 1 {
+                place = Some(i);
+            }
+            self.bench.happens(Event::HostByte(*byte));
+            quiet &= self.bench.is_quiet();
+        }
+        self.quiet = before;
+        self.place = place;
+    }
+
+    // A server starts with the tables that are wanted.
+    fn start(&mut self, wanted: &Bench, line: &Line)
+        ensures { stand_of self.new ≡ started (bench_of wanted.now) (line_of line.now).bytes }
+    {
+        *self = Stand::new(wanted.copy());
+        self.bench.link.expected = line.byte(0);
+        self.bench.link.send = line.byte(1);
+    }
+
+    fn mark(&mut self)
+        ensures { stand_of self.new ≡ marked (bench_of self.old.bench) }
+    {
+        self.bench.happens(Event::IdleMark);
+        self.quiet = self.bench.is_quiet();
+        self.place = None;
+    }
+
+    fn number(&mut self, line: &Line)
+        ensures { stand_of self.new ≡ numbered (line_of line.now).bytes (bench_of self.old.bench) }
+    {
+        let id = raised(line.byte(2), line.byte(3), 0);
+        let event = event_numbered(line.byte(0), line.byte(1), id, line.byte(4));
+        self.bench.happens(event);
+        self.quiet = true;
+        self.place = None;
+    }
+
+    // What happens by this line.
+    pub fn act(&mut self, wanted: &Bench, line: &Line)
+        ensures { stand_of self.new ≡ acted (line_of line.now) (bench_of wanted.now) (stand_of self.old) }
+    {
+        match Kind::of(line.letter) {
+            Kind::Start => self.start(wanted, line),
+            Kind::Host => self.hear(&line.bytes),
+            Kind::Mark => self.mark(),
+            Kind::Value => {
+                self.bench.value = line.copy();
+                self.quiet = true;
+                self.place = None;
+            }
+            Kind::Event => self.number(line),
+            _ => {}
+        }
+    }
+
+    // Whether the last call sends these bytes.
+    fn has_sent(&self, wanted: &[u8]) -> bool
+        ensures { Decides result (Sends (bench_of self.now.bench) wanted.now) }
+    {
+        match self.bench.sent() {
+            Some(sent) => sent == wanted,
+            None => false,
+        }
+    }
+
+    fn is_damaged(&self, asked: u8) -> bool
+        ensures { Decides result (Damaged asked (place_of self.now.place) (bench_of self.now.bench)) }
+    {
+        (self.place == Some(usize::from(asked)))
+            & (self.bench.link.dropping == 1)
+            & self.bench.is_quiet()
+    }
+
+    // Whether what this line asks holds.
+    pub fn holds(&self, wanted: &Bench, line: &Line) -> bool
+        ensures { Decides result (Right (line_of line.now) (bench_of wanted.now) (stand_of self.now)) }
+    {
+        if !self.quiet {
+            return false;
+        }
+        match Kind::of(line.letter) {
+            Kind::Reply => self.has_sent(&line.bytes),
+            Kind::Damage => self.is_damaged(line.byte(0)),
+            Kind::Link => is_link(&self.bench.link, &line.bytes),
+            Kind::Tables => same_tables(&self.bench, wanted),
+            Kind::Reading => has_read(&self.bench, line),
+            Kind::Burst => has_found(&line.bytes),
+            _ => true,
+        }
     }
 }

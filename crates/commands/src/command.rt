@@ -1,115 +1,96 @@
-// The commands of a set request, at one datapoint record.
+// The commands of a set request, at one datapoint record. A command is a byte here, of any value: a request may carry
+// any, and those that there are not change nothing.
 ghost use Rattle.std.specs.Prelude.{◌≡◌, [], ◌∷◌, ◌+◌, ◌≤◌, ◌<◌, length};
+ghost use Rattle.words.specs.Words.{pad};
 ghost use Rattle.baos.specs.Datapoint.{datapoint_id, commanded, with_state, zero_datapoint};
 ghost use Rattle.baos.specs.Lookup.{lookup_of};
+ghost use Rattle.baos.specs.Message.{code_of};
 ghost use Rattle.baos.specs.Table.{found};
 ghost use Rattle.baos.specs.Set.{takes_command, datapoint_code};
 
-use baos::code::{BAD_COMMAND_OR_VALUE, BAD_ID, BAD_LENGTH, NO_ERROR};
+use baos::code::Code;
 use baos::datapoint::{Datapoint, TRANSMIT};
 use baos::lookup::Lookup;
 use baos::service::{LAST_CLOSED_COMMAND, LAST_COMMAND, READ, SET_AND_SEND, SET_VALUE};
 use values::lookup::lookup_of;
 use values::value::{is_unused_bits_ok, padded, size_of};
 
+const SEND: u8 = 2;
+
 // The state that a command leaves of a record that had the state s.
+#[tactic(auto, unfolding(baos::specs::Datapoint::commanded, baos::specs::Datapoint::with_state, baos::specs::Datapoint::with_value))]
 fn state_after(c: u8, s: u8) -> u8
     ensures { result ≡ (commanded c [] (with_state s zero_datapoint)).state }
 {
     match c {
-        1 => s / 32 * 32 + 16 + s % 16,
-        2 => s / 4 * 4 + 3,
-        3 => (s / 32 * 32 + 16 + s % 16) / 4 * 4 + 3,
-        4 => s / 8 * 8 + 4 + s % 4,
+        SET_VALUE => s / 32 * 32 + 16 + s % 16,
+        SEND => s / 4 * 4 + 3,
+        SET_AND_SEND => (s / 32 * 32 + 16 + s % 16) / 4 * 4 + 3,
+        READ => s / 8 * 8 + 4 + s % 4,
         _ => s,
     }
 }
 
+// The value in the record's memory, 0 behind it. One byte, as most values have, is not copied in a loop.
+fn memory_of(value: &[u8]) -> [u8; 14]
+    requires { length value.now ≤ 14 }
+    ensures { result ≡ pad 14 value.now }
+{
+    match value {
+        [b] => [*b, 0, 0, 0, 0, 0, 0, 0, 0, 0, 0, 0, 0, 0],
+        _ => padded(value),
+    }
+}
+
 // A command of a set request, with the value sent with it.
+#[tactic(auto, using(baos::proofs::ApplyLaws::value_1, baos::proofs::ApplyLaws::value_3, baos::proofs::ApplyLaws::value_stays), unfolding(baos::specs::Datapoint::with_state, baos::specs::Datapoint::with_value))]
 pub fn command(d: Datapoint, c: u8, value: &[u8]) -> Datapoint
     requires { length value.now ≤ 14 }
     ensures { result ≡ commanded c value.now d }
 {
-    let mut r = d;
-    r.state = state_after(c, d.state);
-    if c == SET_VALUE {
-        let v = padded(value);
-        r.value = v;
-        return r;
+    let state = state_after(c, d.state);
+    match c {
+        SET_VALUE | SET_AND_SEND => Datapoint {
+            state,
+            value: memory_of(value),
+            ..d
+        },
+        _ => Datapoint { state, ..d },
     }
-    if c == SET_AND_SEND {
-        let v = padded(value);
-        r.value = v;
-        return r;
-    }
-    r
 }
 
-// The same with a value of one byte: no copy.
-pub fn command_byte(d: Datapoint, c: u8, b: u8) -> Datapoint
-    ensures { result ≡ commanded c (b ∷ []) d }
-{
-    let mut r = d;
-    r.state = state_after(c, d.state);
-    if c == SET_VALUE {
-        r.value = [b, 0, 0, 0, 0, 0, 0, 0, 0, 0, 0, 0, 0, 0];
-        return r;
-    }
-    if c == SET_AND_SEND {
-        r.value = [b, 0, 0, 0, 0, 0, 0, 0, 0, 0, 0, 0, 0, 0];
-        return r;
-    }
-    r
-}
-
-// Whether an open datapoint takes the command: those that send it takes only where its transmit flag is on.
-fn open_takes_command(flags: u8, c: u8) -> bool
-    ensures { result ≡ takes_command Lookup.Open flags c }
-{
-    if flags / TRANSMIT % 2 == 1 {
-        return c <= LAST_COMMAND;
-    }
-    if c == READ {
-        return true;
-    }
-    c <= LAST_CLOSED_COMMAND
-}
-
-// Whether the command is taken, by what looking up the ID found and by the flags.
+// Whether the command is taken, by what looking up the ID found and by the flags: an open datapoint takes those that
+// send it only where its transmit flag is on.
+#[tactic(auto, unfolding(baos::specs::Set::takes_command))]
 fn takes_command(lookup: Lookup, flags: u8, c: u8) -> bool
     ensures { result ≡ takes_command lookup flags c }
 {
     match lookup {
         Lookup::Absent => false,
         Lookup::Closed => c <= LAST_CLOSED_COMMAND,
-        Lookup::Open => open_takes_command(flags, c),
+        Lookup::Open if flags / TRANSMIT % 2 == 1 => c <= LAST_COMMAND,
+        Lookup::Open => c == READ || c <= LAST_CLOSED_COMMAND,
     }
 }
 
-// The code of a set entry for this ID, judged by the record that stands where the ID belongs; 0 where nothing is wrong.
-pub fn entry_code(id: u16, d: Datapoint, c: u8, value: &[u8]) -> u8
-    ensures { result ≡ datapoint_code (lookup_of (found datapoint_id id (d ∷ []))) d c value.now }
+// What is wrong with a set entry for this ID, judged by the record that stands where the ID belongs.
+pub fn judge_entry(id: u16, d: Datapoint, c: u8, value: &[u8]) -> Result<(), Code>
+    ensures { code_of result ≡ datapoint_code (lookup_of (found datapoint_id id (d ∷ []))) d c value.now }
 {
     if d.id != id {
-        return BAD_ID;
-    }
-    if !takes_command(lookup_of(d), d.flags, c) {
-        return BAD_COMMAND_OR_VALUE;
-    }
-    if value.len() == 0 {
-        if c == SET_VALUE {
-            return BAD_LENGTH;
+        Err(Code::BadId)
+    } else if !takes_command(lookup_of(d), d.flags, c) {
+        Err(Code::BadCommandOrValue)
+    } else if value.is_empty() {
+        match c {
+            SET_VALUE | SET_AND_SEND => Err(Code::BadLength),
+            _ => Ok(()),
         }
-        if c == SET_AND_SEND {
-            return BAD_LENGTH;
-        }
-        return NO_ERROR;
+    } else if value.len() != size_of(d.typecode) {
+        Err(Code::BadLength)
+    } else if !is_unused_bits_ok(d.typecode, value) {
+        Err(Code::BadCommandOrValue)
+    } else {
+        Ok(())
     }
-    if value.len() != size_of(d.typecode) {
-        return BAD_LENGTH;
-    }
-    if !is_unused_bits_ok(d.typecode, value) {
-        return BAD_COMMAND_OR_VALUE;
-    }
-    NO_ERROR
 }

@@ -17,15 +17,13 @@ use Rattle.ft12.specs.Receiver.{judged, is_more, is_beginning}
 use Rattle.ft12.specs.Record.{Line, host_control, server_control}
 use Rattle.ft12.specs.Rules.{Moved, still, nothing, case_of, case_of_acknowledgement, case_of_fixed, case_of_data, heard_at, on_heard, on_host_byte, on_message, on_idle_mark, at_start, start_dropping, gathering, cleared, holding, expecting}
 use Rattle.ft12.specs.Delivery.{delivered}
-use Rattle.ft12.specs.Burst.{Piece, Contents, before, just_ends, gathered_after, with_byte, contents_from, contents, figures_of, starts_of, BurstCalled, read_burst, BurstLeaves, BurstGives}
+use Rattle.ft12.specs.Burst.{Piece, Contents, before, just_ends, gathered_after, with_byte, contents_from, contents, figures_of, starts_of, BurstReply, Read, BurstCalled, read_burst, BurstLeaves, BurstGives}
 use Rattle.ft12.specs.declared.receiver.Judgement.{Judgement}
 use Rattle.ft12.specs.declared.receiver.Judgement.TheVariants.{More, Damage, Acknowledgement, Fixed, Data}
 use Rattle.ft12.specs.declared.rules.Heard.{Heard}
 use Rattle.ft12.specs.declared.rules.Heard.TheVariants.{Dropped, Ignored, Acknowledged, Reset, Repeat, Request}
 use Rattle.ft12.specs.declared.burst.Ending.{Ending}
 use Rattle.ft12.specs.declared.burst.Ending.TheVariants.{Clean, Damaged, Unfinished}
-use Rattle.ft12.specs.declared.burst.BurstReply.{BurstReply}
-use Rattle.ft12.specs.declared.burst.BurstReply.TheVariants.{Read}
 use Rattle.ft12.specs.declared.burst.BurstNumbers.{BurstNumbers}
 use Rattle.ft12.proofs.HearingLaws
 use Rattle.ft12.proofs.ReceiverLaws.{beginning_on}

@@ -17,10 +17,8 @@ use Rattle.words.proofs.WordLaws.{right}
 use Rattle.ft12.proofs.FrameLaws.{frame_length}
 use Rattle.baos.specs.Table.{Tables, well_formed}
 use Rattle.calls.specs.declared.event.Event.{Event}
-use Rattle.calls.specs.declared.reply.Reply.{Reply}
-use Rattle.calls.specs.declared.reply.Reply.TheVariants.{Refused, Accepted}
+use Rattle.calls.specs.Reply.{Reply, Refused, Accepted, reply_numbers}
 use Rattle.calls.specs.Event.{bus_ok}
-use Rattle.calls.specs.Reply.{reply_numbers}
 use Rattle.calls.specs.Call.{happens, refusal, Called, accepted, call}
 use Rattle.calls.proofs.CallLaws.{refusal_0, refusal_1, refusal_2, refusal_3, refusal_4, not_refused, refused_leaves, call_lasts}
 use Rattle.demands.specs.SentFrames.{ReadsBack, Sends, nothing, acknowledges, resets, frames, answers}

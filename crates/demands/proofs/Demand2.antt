@@ -4,7 +4,7 @@ use mathlib.Core.Path.{◌≡◌, sym, ◌∙◌}
 use mathlib.Core.List.{List}
 use Rattle.ft12.specs.declared.record.Link.{Link}
 use Rattle.baos.specs.Table.{Tables}
-use Rattle.calls.specs.declared.reply.Reply.{Reply}
+use Rattle.calls.specs.Reply.{Reply}
 use Rattle.calls.specs.Call.{Called}
 use Rattle.calls.specs.Promise.{Leaves}
 use Rattle.calls.proofs.CallLaws.{reply_told}

@@ -15,7 +15,7 @@ use Rattle.words.proofs.WordLaws.{left, right, both}
 use Rattle.ft12.specs.Record.{Line, line_of}
 use Rattle.ft12.specs.Rules.{on_host_byte, on_idle_mark}
 use Rattle.baos.specs.declared.datapoint.Datapoint.{Datapoint}
-use Rattle.baos.specs.declared.text.Stretch.{Stretch}
+use Rattle.baos.specs.Text.{Stretch}
 use Rattle.baos.specs.Datapoint.{datapoint_id, datapoint_ok}
 use Rattle.baos.specs.TextList.{ListEntry, MadeOf, EntryAt, text_list_ok}
 use Rattle.baos.specs.Text.{TextLists, text_lists_ok, entries_for, chosen, stretch_of, holder, stretch_bytes, text_of}

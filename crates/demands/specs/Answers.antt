@@ -7,7 +7,7 @@ use Rattle.ft12.specs.Frame.{acknowledgement, data_frame}
 use Rattle.baos.specs.Table.{Tables}
 use Rattle.baos.specs.Service.{carried_out}
 use Rattle.calls.specs.declared.event.Event.{Event}
-use Rattle.calls.specs.declared.reply.Reply.{Reply}
+use Rattle.calls.specs.Reply.{Reply}
 use Rattle.calls.specs.Call.{call}
 use Rattle.calls.specs.Promise.{Leaves}
 use Rattle.demands.specs.Run.{sent_of}

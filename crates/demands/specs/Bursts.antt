@@ -11,11 +11,9 @@ use Rattle.ft12.specs.Record.{Line}
 use Rattle.ft12.specs.Rules.{on_host_byte, on_message, at_start}
 use Rattle.ft12.specs.Delivery.{delivered}
 use Rattle.ft12.specs.Burst.{Piece, Contents, before, just_ends, contents, is_acknowledgement, figures_of, starts_of}
-use Rattle.ft12.specs.Burst.{BurstCalled, read_burst, burst_numbers, BurstLeaves, BurstGives}
+use Rattle.ft12.specs.Burst.{BurstReply, Refused, Read, BurstCalled, read_burst, burst_numbers, BurstLeaves, BurstGives}
 use Rattle.ft12.specs.declared.burst.Ending.{Ending}
 use Rattle.ft12.specs.declared.burst.Ending.TheVariants.{Clean, Damaged, Unfinished}
-use Rattle.ft12.specs.declared.burst.BurstReply.{BurstReply}
-use Rattle.ft12.specs.declared.burst.BurstReply.TheVariants.{Refused, Read}
 use Rattle.ft12.specs.declared.burst.BurstNumbers.{BurstNumbers}
 
 -- ---- the byte-wise receiver, watched

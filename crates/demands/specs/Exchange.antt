@@ -15,8 +15,7 @@ use Rattle.baos.specs.Table.{Tables, well_formed}
 use Rattle.baos.specs.Service.{carried_out}
 use Rattle.calls.specs.declared.event.Event.{Event}
 use Rattle.calls.specs.declared.event.Event.TheVariants.{HostByte, IdleMark}
-use Rattle.calls.specs.declared.reply.Reply.{Reply}
-use Rattle.calls.specs.declared.reply.Reply.TheVariants.{Refused, Accepted}
+use Rattle.calls.specs.Reply.{Reply, Refused, Accepted}
 use Rattle.calls.specs.Call.{Done, quiet, happens, call}
 use Rattle.demands.specs.Run.{Ran, sent_of, before}
 

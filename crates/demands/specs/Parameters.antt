@@ -16,7 +16,7 @@ use Rattle.baos.specs.Service.{unanswered, carried_out}
 use Rattle.calls.specs.declared.event.Event.{Event}
 use Rattle.calls.specs.declared.event.Event.TheVariants.{HostByte, IdleMark, AckWaitOver, Poll, BusValue}
 use Rattle.calls.specs.declared.event.Event.TheVariants.{TransmissionOutcome}
-use Rattle.calls.specs.declared.reply.Reply.{Reply}
+use Rattle.calls.specs.Reply.{Reply}
 use Rattle.calls.specs.Call.{refusal, call}
 use Rattle.calls.specs.Promise.{Leaves}
 use Rattle.demands.specs.Run.{sent_of}

@@ -17,8 +17,7 @@ use Rattle.baos.specs.Flags.{with_flags}
 use Rattle.baos.specs.Table.{datapoints_only, well_formed}
 use Rattle.dpt.specs.declared.reading.Reading.{Reading}
 use Rattle.dpt.specs.declared.reading.Reading.TheVariants.{Switch, Count, TwoOctet, Single, Unreadable}
-use Rattle.dpt.specs.declared.reading.ReadingReply.{ReadingReply}
-use Rattle.dpt.specs.declared.reading.ReadingReply.TheVariants.{Refused, Given}
+use Rattle.dpt.specs.Reply.{ReadingReply, Refused, Given}
 use Rattle.dpt.specs.TwoOctet.{sign_is_set, exponent, eleven_bits, mantissa, hundredths, IsWhole, HundredthsInRange, two_octet, Near}
 use Rattle.dpt.specs.Single.{of_four_bytes}
 use Rattle.dpt.specs.Reading.{octet, reading_of, reading_for}

@@ -7,7 +7,7 @@ use Rattle.ft12.specs.declared.record.Link.{Link}
 use Rattle.ft12.specs.Record.{line_of, in_range}
 use Rattle.baos.specs.Table.{Tables, well_formed}
 use Rattle.calls.specs.declared.event.Event.{Event}
-use Rattle.calls.specs.declared.reply.Reply.TheVariants.{Refused, Accepted}
+use Rattle.calls.specs.Reply.{Refused, Accepted}
 use Rattle.calls.specs.Event.{bus_ok}
 use Rattle.calls.specs.Call.{happens, call}
 

@@ -3,8 +3,7 @@ use Rattle.std.specs.Prelude.{ℕ, List, [], ◌∷◌, ◌++◌, take}
 use Rattle.ft12.specs.declared.record.Link.{Link}
 use Rattle.baos.specs.Table.{Tables}
 use Rattle.calls.specs.declared.event.Event.{Event}
-use Rattle.calls.specs.declared.reply.Reply.{Reply}
-use Rattle.calls.specs.declared.reply.Reply.TheVariants.{Refused, Accepted}
+use Rattle.calls.specs.Reply.{Reply, Refused, Accepted}
 use Rattle.calls.specs.Call.{call}
 
 -- what a run of calls sent, and the tables and the link record after it

@@ -18,7 +18,7 @@ use Rattle.baos.specs.Message.{sub_service, start_of, number_of}
 use Rattle.baos.specs.Get.{in_request}
 use Rattle.baos.specs.Service.{unanswered, carried_out}
 use Rattle.calls.specs.declared.event.Event.{Event}
-use Rattle.calls.specs.declared.reply.Reply.TheVariants.{Refused}
+use Rattle.calls.specs.Reply.{Refused}
 use Rattle.calls.specs.Call.{call}
 use Rattle.demands.specs.HostHears.{Happening}
 use Rattle.demands.specs.Status.{tables_after_all}

@@ -12,8 +12,7 @@ use Rattle.words.specs.Words.{is_yes, of_two_bytes}
 use Rattle.words.proofs.WordLaws.{read_written}
 use Rattle.dpt.specs.declared.reading.Reading.{Reading}
 use Rattle.dpt.specs.declared.reading.Reading.TheVariants.{Switch, Count, TwoOctet, Single, Unreadable}
-use Rattle.dpt.specs.declared.reading.ReadingReply.{ReadingReply}
-use Rattle.dpt.specs.declared.reading.ReadingReply.TheVariants.{Refused, Given}
+use Rattle.dpt.specs.Reply.{ReadingReply, Refused, Given}
 use Rattle.dpt.specs.declared.reading.ReadingNumbers.{ReadingNumbers}
 use Rattle.baos.specs.declared.datapoint.Datapoint.{Datapoint}
 use Rattle.baos.specs.Datapoint.{datapoint_id, datapoint_ok, is_valid}

@@ -15,7 +15,7 @@ use Rattle.baos.specs.declared.datapoint.Datapoint.{Datapoint}
 use Rattle.baos.specs.Datapoint.{datapoint_id, is_valid}
 use Rattle.baos.specs.Table.{found}
 use Rattle.dpt.specs.declared.reading.Reading.TheVariants.{Switch, Count, TwoOctet, Single, Unreadable}
-use Rattle.dpt.specs.declared.reading.ReadingReply.TheVariants.{Refused, Given}
+use Rattle.dpt.specs.Reply.{Refused, Given}
 use Rattle.dpt.specs.TwoOctet.{two_octet}
 use Rattle.dpt.specs.Single.{of_four_bytes, single, is_finite}
 use Rattle.dpt.specs.Reading.{two_octet_reading, single_reading, is_of, octet, reading_of, reply_of}

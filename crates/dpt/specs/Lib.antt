@@ -1,4 +1,5 @@
 pub mod TwoOctet
 pub mod Single
+pub mod Reply
 pub mod Reading
 pub mod Numbers

@@ -4,8 +4,7 @@ use Rattle.std.specs.Float.{fin}
 use Rattle.words.specs.Words.{yes_or_no}
 use Rattle.dpt.specs.declared.reading.Reading.{Reading}
 use Rattle.dpt.specs.declared.reading.Reading.TheVariants.{Switch, Count, TwoOctet, Single, Unreadable}
-use Rattle.dpt.specs.declared.reading.ReadingReply.{ReadingReply}
-use Rattle.dpt.specs.declared.reading.ReadingReply.TheVariants.{Refused, Given}
+use Rattle.dpt.specs.Reply.{ReadingReply, Refused, Given}
 use Rattle.dpt.specs.declared.reading.ReadingNumbers.{ReadingNumbers}
 
 abbrev pub zero_float : Float

@@ -6,8 +6,7 @@ use Rattle.baos.specs.Datapoint.{datapoint_id, datapoint_ok, is_valid}
 use Rattle.baos.specs.Table.{table_ok, found}
 use Rattle.dpt.specs.declared.reading.Reading.{Reading}
 use Rattle.dpt.specs.declared.reading.Reading.TheVariants.{Switch, Count, TwoOctet, Single, Unreadable}
-use Rattle.dpt.specs.declared.reading.ReadingReply.{ReadingReply}
-use Rattle.dpt.specs.declared.reading.ReadingReply.TheVariants.{Refused, Given}
+use Rattle.dpt.specs.Reply.{ReadingReply, Refused, Given}
 use Rattle.dpt.specs.TwoOctet.{two_octet}
 use Rattle.dpt.specs.Single.{of_four_bytes, single, is_finite}
 

@@ -15,12 +15,12 @@ pub fn put_item(out: &mut [u8], at: usize, i: Item) -> usize
     requires { (i.size ≤ 16) × (at + 3 + i.size ≤ length out.old) }
     ensures { Written out.old at (item_entry i).bytes result out.new }
 {
+    let [high, low] = i.id.to_be_bytes();
     let n = i.size as usize;
-    let v = i.bytes;
-    out[at] = (i.id / 256) as u8;
-    out[at + 1] = (i.id % 256) as u8;
-    out[at + 2] = i.size;
-    put_bytes(&mut *out, at + 3, &v[..n]);
+    // By way of the stack go the bytes alone, and not the item.
+    let bytes = i.bytes;
+    put_bytes(out, at, &[high, low, i.size]);
+    put_bytes(out, at + 3, &bytes[..n]);
     at + 3 + n
 }
 
@@ -29,49 +29,43 @@ pub fn put_description(out: &mut [u8], at: usize, d: Datapoint) -> usize
     requires { at + 5 ≤ length out.old }
     ensures { Written out.old at (description_entry d).bytes result out.new }
 {
-    out[at] = (d.id / 256) as u8;
-    out[at + 1] = (d.id % 256) as u8;
-    out[at + 2] = d.typecode;
-    out[at + 3] = d.flags;
-    out[at + 4] = d.dpt;
+    let [high, low] = d.id.to_be_bytes();
+    put_bytes(out, at, &[high, low, d.typecode, d.flags, d.dpt]);
     at + 5
 }
 
 // The record's entry in a value answer or an indication, the state byte as it is, into the buffer at `at`; answers
 // where it ends.
+#[tactic(auto, using(baos::proofs::DatapointLaws::size_fits, baos::proofs::ValueLaws::size_of_bits))]
 pub fn put_value(out: &mut [u8], at: usize, d: Datapoint) -> usize
     requires { (d.typecode ≤ 14) × (at + 4 + size_of d.typecode ≤ length out.old) }
     ensures { Written out.old at (value_entry d).bytes result out.new }
 {
-    let v = d.value;
-    out[at] = (d.id / 256) as u8;
-    out[at + 1] = (d.id % 256) as u8;
-    out[at + 2] = d.state;
+    let [high, low] = d.id.to_be_bytes();
     // One byte, as most values have: no copy, and no look at its size.
     if d.typecode < 8 {
-        out[at + 3] = 1;
-        out[at + 4] = v[0];
+        put_bytes(out, at, &[high, low, d.state, 1, d.value[0]]);
         return at + 5;
     }
     let n = size_by_rule(d.typecode);
-    out[at + 3] = n as u8;
-    put_bytes(&mut *out, at + 4, &v[..n]);
+    // By way of the stack goes the value alone, and not the record.
+    let value = d.value;
+    put_bytes(out, at, &[high, low, d.state, n as u8]);
+    put_bytes(out, at + 4, &value[..n]);
     at + 4 + n
 }
 
 // The same where others follow, with all of the value's memory: no branch on its size. The next entry overwrites what
 // is behind the value.
+#[tactic(auto, using(baos::proofs::DatapointLaws::size_fits))]
 pub fn put_wide_value(out: &mut [u8], at: usize, d: Datapoint) -> usize
     requires { (d.typecode ≤ 14) × (at + 18 ≤ length out.old) }
     ensures { WrittenWide out.old at (wide_value d) (value_entry d).bytes result out.new }
 {
+    let [high, low] = d.id.to_be_bytes();
     let n = size_by_rule(d.typecode);
-    let v = d.value;
     // The value first: it then goes from the record into the buffer, and not by way of the stack.
-    put_bytes(&mut *out, at + 4, &v);
-    out[at] = (d.id / 256) as u8;
-    out[at + 1] = (d.id % 256) as u8;
-    out[at + 2] = d.state;
-    out[at + 3] = n as u8;
+    put_bytes(out, at + 4, &d.value);
+    put_bytes(out, at, &[high, low, d.state, n as u8]);
     at + 4 + n
 }

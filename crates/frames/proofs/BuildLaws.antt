@@ -1,43 +1,37 @@
 -- Data frames as code builds and tests them: framed where the message stands, and tested by their parts, with a law for each answer.
-use Rattle.std.proofs.Common.{◌≡◌, ℕ, suc, ◌+◌, ◌-◌, ◌<◌, ◌≤◌, true, false, ◌&&◌, T, eqb, List, [], ◌∷◌, ◌++◌, length, get_or, take, drop, set, sym, refl, ap, ◌∙◌, append_assoc, add-one, arith, eqb→eq, length-drop, take-append-drop, length-take-le, get_or-drop, take_all, drop-cons, get_or-take, take-suc, take_at, get_or-append-add, eq-eqb, ne_eqb}
-use mathlib.Core.Bool.{and-true, and-false}
-use native.Mathlib.Numerals.{towards_suc}
+use Rattle.std.proofs.Common.{◌≡◌, ℕ, suc, ◌+◌, ◌-◌, ◌<◌, ◌≤◌, true, false, ◌&&◌, T, eqb, List, [], ◌∷◌, ◌++◌, length, get_or, take, drop, sym, refl, ap, ◌∙◌, append_assoc, add-one, arith, eqb→eq, length-drop, take-append-drop, length-take-le, get_or-drop, take_all, drop-cons, get_or-take, take-suc, take_at, get_or-append-add, eq-eqb}
+use mathlib.Core.Bool.{and-true}
 use lib.Seq.{get_or_at}
 use Rattle.words.specs.Words.{put, same}
 use Rattle.ft12.specs.Frame.{checksum, data_frame, is_whole}
 use Rattle.words.proofs.WordLaws.{T_false, true_T, same_test, same→eq, eq→same}
-use Rattle.words.proofs.ByteLaws.{length-put, put_sets, put-put, put_with, put_read}
+use Rattle.words.proofs.ByteLaws.{put-put, put_with, put_read}
+use Rattle.ft12.proofs.ChecksumLaws.{checksum_none, checksum-next}
 use Rattle.ft12.proofs.ReceiverLaws.{headed}
 use Rattle.ft12.proofs.FrameLaws.{frame_length, whole_tested, tested_whole}
+
+-- the checksum byte by byte
+pub ruleset sums = (checksum_none, checksum-next, take_all)
 
 -- the five bytes in front of a message, by L and control
 abbrev pub head_of : ℕ → ℕ → List ℕ
 head_of l c = headed l (c ∷ [])
 
 -- ---- framed in place
--- the head stored byte by byte
-abbrev head_stored : List ℕ → ℕ → ℕ → ℕ → List ℕ
-head_stored o at l c = set (set (set (set (set o at 0x68) (at + 1) l) (at + 2) l) (at + 3) 0x68) (at + 4) c
-
-head_stored_lem : (o : List ℕ) (at l c : ℕ) → at + 5 ≤ length o → head_stored o at l c ≡ put o at (head_of l c)
-head_stored_lem o at l c h = simp towards_suc (put_sets (head_of l c) o at h)
-
--- head and end stored around the n bytes of a message make its frame
-pub framed_in_place : (o : List ℕ) (at n c sum : ℕ) → at + n + 7 ≤ length o → sum ≡ checksum (take (at + 5 + n - (at + 4)) (drop (at + 4) (head_stored o at (n + 1) c)))
-    → set (set (head_stored o at (n + 1) c) (at + 5 + n) sum) (at + 5 + n + 1) 0x16 ≡ put o at (data_frame c (take n (drop (at + 5) o)))
+-- head and end written around the n bytes of a message make its frame
+pub framed_in_place : (o : List ℕ) (at n c sum : ℕ) → at + n + 7 ≤ length o
+    → sum ≡ checksum (take (at + 5 + n - (at + 4)) (drop (at + 4) (put o at (head_of (n + 1) c))))
+    → put (put o at (head_of (n + 1) c)) (at + 5 + n) (sum ∷ 0x16 ∷ []) ≡ put o at (data_frame c (take n (drop (at + 5) o)))
 unfolding data_frame
 framed_in_place o at n c sum h e =
     let m : List ℕ = take n (drop (at + 5) o) in
     let g : List ℕ = head_of (n + 1) c in
     let k : length m ≡ n = length-take-le n (drop (at + 5) o) (omega (arith, length-drop (at + 5) o)) in
-    let p : head_stored o at (n + 1) c ≡ put o at (g ++ m) = head_stored_lem o at (n + 1) c (omega arith) ∙ put_with o at n g (omega arith) in
+    let p : put o at g ≡ put o at (g ++ m) = put_with o at n g (omega arith) in
     let r : take (at + 5 + n - (at + 4)) (drop (at + 4) (put o at (g ++ m))) ≡ c ∷ m =
     put_read o at (at + 4) (at + 5 + n - (at + 4)) (headed (n + 1) []) (c ∷ m) (omega arith) (omega arith) (omega arith) in
     let s : sum ≡ checksum (c ∷ m) = e ∙ rw (p, r) in
-    rw (p, add-one (at + 5 + n))
-    (put_sets (sum ∷ 0x16 ∷ []) (put o at (g ++ m)) (at + 5 + n) (omega (arith, length-put o at (g ++ m) (omega arith)))
-    ∙ put-put o at (at + 5 + n) (g ++ m) (sum ∷ 0x16 ∷ []) (omega arith) (omega arith)
-    ∙ rw (s, add-one n, k))
+    rw p (put-put o at (at + 5 + n) (g ++ m) (sum ∷ 0x16 ∷ []) (omega arith) (omega arith) ∙ rw (s, add-one n, k))
 
 -- ---- the head tested
 head_test : (f : List ℕ) (l c : ℕ) → 5 ≤ length f
@@ -50,18 +44,6 @@ head_test (x ∷ y ∷ z ∷ u ∷ []) l c h = absurd (omega arith)
 head_test (x ∷ y ∷ z ∷ u ∷ v ∷ f) l c h = simp and-true
 
 module _ (f : List ℕ) (l c : ℕ) (h : 5 ≤ length f) where
-  pub other_start : (get_or f 0 0 ≡ 0x68 → ⊥) → false ≡ same (take 5 f) (head_of l c)
-  other_start p = rw (head_test f l c h) (simp (ne_eqb _ _ p))
-
-  pub other_count : (get_or f 1 0 ≡ l → ⊥) → false ≡ same (take 5 f) (head_of l c)
-  other_count p = rw (head_test f l c h) (simp (ne_eqb _ _ p, and-false))
-
-  pub other_second : (get_or f 2 0 ≡ l → ⊥) → false ≡ same (take 5 f) (head_of l c)
-  other_second p = rw (head_test f l c h) (simp (ne_eqb _ _ p, and-false))
-
-  pub other_fourth : (get_or f 3 0 ≡ 0x68 → ⊥) → false ≡ same (take 5 f) (head_of l c)
-  other_fourth p = rw (head_test f l c h) (simp (ne_eqb _ _ p, and-false))
-
   pub control_test : get_or f 0 0 ≡ 0x68 → get_or f 1 0 ≡ l → get_or f 2 0 ≡ l → get_or f 3 0 ≡ 0x68 → eqb (get_or f 4 0) c ≡ same (take 5 f) (head_of l c)
   control_test p q r s = rw (head_test f l c h) (simp (eq-eqb _ _ p, eq-eqb _ _ q, eq-eqb _ _ r, eq-eqb _ _ s))
 

@@ -1,14 +1,8 @@
 -- The test for a beginning, by the length and the bytes: one law for each answer of the code.
-use Prim.Native.Nat.{ℕ, suc, ◌+◌, ◌≤◌, ◌<◌}
-use mathlib.Core.Path.{◌≡◌, refl, ◌∙◌, ap}
-use mathlib.Core.Bool.{Bool, true, false, and-true, and-false}
-use mathlib.Core.List.{List, [], ◌∷◌, ◌++◌}
-use native.Mathlib.Omega.{arith}
+use Rattle.std.proofs.Common.{ℕ, suc, ◌+◌, ◌≤◌, ◌<◌, ◌≡◌, refl, ◌∙◌, ap, Bool, true, false, List, [], ◌∷◌, ◌++◌, arith, length, get_or, take, drop, drop_of_length-le, drop-cons, length-take-le, T, eqb, ne_eqb}
+use mathlib.Core.Bool.{and-true, and-false}
 use native.Mathlib.Decide.{ℕ_discrete}
-use lib.ListN.{length, get_or, take, drop, drop_of_length-le}
-use lib.Seq.{drop-cons, split_at, length-take-le}
-use lib.Dec.{T, eqb}
-use borrow.Author.Tests.{ne_eqb}
+use lib.Seq.{split_at}
 use Rattle.std.specs.Prelude.{if◌then◌else◌}
 use Rattle.ft12.specs.Frame.{checksum}
 use Rattle.ft12.specs.Receiver.{only, judged_first, judged_fixed, judged_data, judged, is_more, gathers, is_beginning}
@@ -176,3 +170,6 @@ module _ (n : ℕ) (b : List ℕ) where
       ap {B = Bool} (λ s. is_beginning (headed n s)) (split_at b (n + 1) 0 h)
       ∙ stops (headed n f) x (drop (suc (n + 1)) b)
       (ap is_more (judged_end n f x (length-take-le (n + 1) b (omega arith))) ∙ end_stops x (Data (get_or f 0 0) n) (unfold is_more in refl))
+
+-- a law for each answer
+pub ruleset beginnings = (none_begins, other_stops, fixed_begins, fixed_again_begins, fixed_stops, data_begins, count_begins, count_stops, again_begins, again_stops, second_stops, head_whole, counted_begins, summed_begins, summed_stops)

@@ -1,25 +1,17 @@
 -- What a burst holds, a piece at a time: the byte-wise receiver over a whole frame is one step.
-use Prim.Native.Nat.{ℕ, zero, suc, ◌+◌, ◌-◌, ◌≤◌, ◌<◌}
-use mathlib.Core.Path.{◌≡◌, refl, sym, ◌∙◌, ap}
+use Rattle.std.proofs.Common.{ℕ, zero, suc, ◌+◌, ◌-◌, ◌≤◌, ◌<◌, ◌≡◌, refl, sym, ◌∙◌, ap, List, [], ◌∷◌, ◌++◌, append-nil, arith, length, get_or, drop, length-append, drop_at, T, eqb, le-ltb, lt-ltb, ℤ, pos, negsuc}
 use mathlib.Core.Bool.{or-true}
-use mathlib.Core.List.{List, [], ◌∷◌, ◌++◌, append-nil}
-use native.Mathlib.Omega.{arith}
-use lib.ListN.{length, get_or, drop, length-append, length-map}
-use lib.Seq.{append_snoc, drop_at}
-use lib.Dec.{T, eqb}
-use borrow.Author.Tests.{le-ltb, lt-ltb}
-use lib.IntN.{ℤ, pos, negsuc}
+use lib.ListN.{length-map}
+use lib.Seq.{append_snoc}
 use Rattle.std.specs.Prelude.{if◌then◌else◌}
 use Rattle.words.specs.Words.{is_empty, put}
 use Rattle.words.proofs.WordLaws.{left, right, T_true, kept_and_not, some_filled}
 use Rattle.ft12.specs.Frame.{fixed_frame, data_frame}
 use Rattle.ft12.specs.Receiver.{judged, is_more, gathers, is_beginning}
-use Rattle.ft12.specs.Burst.{Piece, Contents, before, just_ends, gathered_after, with_byte, contents_from, contents, first_size, is_acknowledgement, figures_of, starts_of, burst_refused, read_burst, ending_number, burst_numbers}
+use Rattle.ft12.specs.Burst.{Piece, Contents, before, just_ends, gathered_after, with_byte, contents_from, contents, first_size, is_acknowledgement, figures_of, starts_of, burst_refused, BurstReply, Refused, Read, read_burst, ending_number, burst_numbers}
 use Rattle.ft12.specs.declared.receiver.Judgement.TheVariants.{More, Damage}
 use Rattle.ft12.specs.declared.burst.Ending.{Ending}
 use Rattle.ft12.specs.declared.burst.Ending.TheVariants.{Clean, Damaged, Unfinished}
-use Rattle.ft12.specs.declared.burst.BurstReply.{BurstReply}
-use Rattle.ft12.specs.declared.burst.BurstReply.TheVariants.{Refused, Read}
 use Rattle.ft12.specs.declared.burst.BurstNumbers.{BurstNumbers}
 use Rattle.ft12.proofs.RulesLaws.{is_more_lem}
 use Rattle.ft12.proofs.BeginningLaws.{damages}
@@ -197,12 +189,6 @@ module _ (burst run : List ℕ) where
   run_short h = simp (lt-ltb (length run) 2048 h, or-true)
 
 -- ---- the numbers of a reply
-pub ending_small : (e : Ending) → ending_number e ≤ 3
-unfolding ending_number
-ending_small Clean = omega arith
-ending_small Damaged = omega arith
-ending_small Unfinished = omega arith
-
 -- a reply is had back from its numbers, so that they determine it: a refusal's number is 0 or below, an ending's above
 ending_back : ℕ → Ending
 ending_back k = if eqb k 1 then Clean else if eqb k 2 then Damaged else Unfinished

@@ -1,17 +1,9 @@
 -- A request's frame with one byte changed or lost, and an idle mark behind it: it draws nothing, or it acts as an acknowledgement. (Demand 3: "each
 -- other delivery has exactly one byte changed or lost; each is followed by an idle mark".)
-use Prim.Native.Nat.{ℕ, zero, suc, ◌+◌, ◌-◌, ◌≤◌, ◌<◌}
-use mathlib.Core.Path.{◌≡◌, refl, sym, ◌∙◌, ap}
-use mathlib.Core.Logic.{◌≢◌, ◌⊎◌, inl, inr}
-use mathlib.Core.Bool.{Bool, true, false, not}
-use mathlib.Core.List.{List, [], ◌∷◌, ◌++◌, append_assoc}
-use native.Mathlib.Omega.{arith}
+use Rattle.std.proofs.Common.{ℕ, zero, suc, ◌+◌, ◌-◌, ◌≤◌, ◌<◌, ◌≡◌, refl, sym, ◌∙◌, ap, ◌≢◌, ◌⊎◌, inl, inr, Bool, true, false, not, List, [], ◌∷◌, ◌++◌, append_assoc, arith, zero-add, suc-add, not-suc-le-zero, le_of_suc-le-suc, length, get_or, take, drop, set, replicate, length-append, length-set, length-drop, get_or-append-add, length-take-le, T, ne_eqb}
 use native.Mathlib.Decide.{ℕ_discrete, dec_lt}
-use native.Mathlib.Nat.{zero-add, suc-add, not-suc-le-zero, le_of_suc-le-suc}
-use lib.ListN.{get_or-append, length, get_or, take, drop, set, replicate, length-append, length-set, length-drop}
-use lib.Seq.{get_or-append-add, set-append_left, take-append-le, drop-append-le, length-take-le, append_snoc}
-use lib.Dec.{T}
-use borrow.Author.Tests.{ne_eqb}
+use lib.ListN.{get_or-append}
+use lib.Seq.{set-append_left, take-append-le, drop-append-le, append_snoc}
 use Rattle.ft12.specs.declared.receiver.Judgement.TheVariants.{Damage}
 use Rattle.std.specs.Prelude.{if◌then◌else◌}
 use Rattle.words.specs.Words.{is_empty, are_bytes}

@@ -1,13 +1,6 @@
 -- Idle mark, ack wait and a message taken back: what the code leaves in the record and in the buffer is what the rules say.
-use Prim.Native.Nat.{ℕ, zero, suc, ◌+◌, ◌-◌, ◌≤◌, ◌<◌}
-use mathlib.Core.Path.{◌≡◌, refl, sym, ◌∙◌, ap}
-use mathlib.Core.Bool.{Bool, true, or-true}
-use mathlib.Core.List.{List, [], ◌++◌, append-nil}
-use native.Mathlib.Omega.{arith}
-use lib.ListN.{length, take, drop, replicate, length-take, length-drop, take-append-drop}
-use lib.Seq.{length-take-le}
-use lib.Dec.{T, eqb}
-use borrow.Author.Tests.{lt-ltb, le-ltb, ne_eqb}
+use Rattle.std.proofs.Common.{ℕ, zero, suc, ◌+◌, ◌-◌, ◌≤◌, ◌<◌, ◌≡◌, refl, sym, ◌∙◌, ap, Bool, true, List, [], ◌++◌, append-nil, arith, length, take, drop, replicate, length-take, length-drop, take-append-drop, length-take-le, T, eqb, lt-ltb, le-ltb, ne_eqb}
+use mathlib.Core.Bool.{or-true}
 use Rattle.ft12.specs.declared.record.Link.{Link}
 use Rattle.words.specs.Words.{is_yes, yes_or_no, is_empty, pad, put}
 use Rattle.ft12.specs.Frame.{fixed_frame, data_frame}

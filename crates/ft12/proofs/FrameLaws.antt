@@ -1,14 +1,7 @@
 -- Frames: the test for a beginning decides the paper's words, and so does the test for a whole data frame.
-use Prim.Native.Nat.{ℕ, zero, suc, ◌+◌, ◌-◌, ◌≤◌, ◌<◌}
-use mathlib.Core.Path.{◌≡◌, refl, sym, ◌∙◌, ap}
-use mathlib.Core.Logic.{◌↔◌}
-use mathlib.Core.Bool.{true}
-use mathlib.Core.List.{List, [], ◌∷◌, ◌++◌, append_assoc}
-use native.Mathlib.Omega.{arith}
-use lib.ListN.{length, take, drop, replicate, length-append, length-take, length-replicate, take-append-drop}
-use lib.Seq.{append_snoc, take-append_seam, take-append-le, take_at}
-use lib.Dec.{T, leb, ltb, leb→le, le→leb, lt→ltb}
-use borrow.Author.Tests.{le-leb, eq-eqb}
+use Rattle.std.proofs.Common.{ℕ, zero, suc, ◌+◌, ◌-◌, ◌≤◌, ◌<◌, ◌≡◌, refl, sym, ◌∙◌, ap, ◌↔◌, true, List, [], ◌∷◌, ◌++◌, append_assoc, arith, length, take, drop, replicate, length-append, length-take, take-append-drop, take_at, T, leb, ltb, leb→le, le→leb, lt→ltb, le-leb, eq-eqb}
+use lib.ListN.{length-replicate}
+use lib.Seq.{append_snoc, take-append_seam, take-append-le}
 use Rattle.words.specs.Words.{are_bytes, same}
 use Rattle.ft12.specs.Frame.{fixed_frame, checksum, data_frame, Sound, fixed, carries, Begins, Whole, message_of, is_whole}
 use Rattle.ft12.specs.Receiver.{only, judged_first, judged, is_more, gathers, is_beginning}

@@ -1,15 +1,8 @@
 -- What stands in front of a run of bytes at a frame start: a whole form, or else they stop short of a frame's end or are
 -- damage at some byte.
-use Prim.Native.Nat.{ℕ, suc, ◌+◌, ◌≤◌, ◌<◌}
-use mathlib.Core.Path.{◌≡◌, refl, sym, ◌∙◌}
-use mathlib.Core.Bool.{Bool, true, false, ◌&&◌}
-use mathlib.Core.List.{List, [], ◌∷◌, ◌++◌, append-nil}
-use native.Mathlib.Omega.{arith}
+use Rattle.std.proofs.Common.{ℕ, suc, ◌+◌, ◌≤◌, ◌<◌, ◌≡◌, refl, sym, ◌∙◌, Bool, true, false, ◌&&◌, List, [], ◌∷◌, ◌++◌, append-nil, arith, length, length-append, T, leb, eqb, eqb-true}
 use native.Mathlib.Decide.{ℕ_discrete}
-use lib.ListN.{length, length-append}
 use lib.Seq.{append_snoc}
-use lib.Dec.{T, leb, eqb}
-use borrow.Author.Tests.{eqb-true}
 use Rattle.std.specs.Prelude.{if◌then◌else◌}
 use Rattle.ft12.specs.Frame.{acknowledgement, fixed_frame, checksum, data_frame}
 use Rattle.ft12.specs.Receiver.{judged_first, judged, is_more, gathers, is_beginning}

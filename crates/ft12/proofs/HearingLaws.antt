@@ -1,14 +1,6 @@
 -- How bytes are heard from a frame start: a beginning, damage, an acknowledgement, a whole data frame, an idle mark.
-use Prim.Native.Nat.{ℕ, suc, ◌-◌, ◌≤◌}
-use mathlib.Core.Path.{◌≡◌, refl, sym, ◌∙◌, ap}
-use mathlib.Core.Logic.{◌≢◌}
-use mathlib.Core.Bool.{Bool, true, false, not}
-use mathlib.Core.List.{List, [], ◌∷◌, ◌++◌, append-nil}
-use native.Mathlib.Omega.{arith}
-use lib.ListN.{length, get_or, take, length-append}
-use lib.Seq.{append_snoc, take_at, get_or_at}
-use lib.Dec.{T}
-use borrow.Author.Tests.{eq-eqb, ne_eqb}
+use Rattle.std.proofs.Common.{ℕ, suc, ◌-◌, ◌≤◌, ◌≡◌, refl, sym, ◌∙◌, ap, ◌≢◌, Bool, true, false, not, List, [], ◌∷◌, ◌++◌, append-nil, arith, length, get_or, take, length-append, take_at, T, eq-eqb, ne_eqb}
+use lib.Seq.{append_snoc, get_or_at}
 use Rattle.ft12.specs.declared.receiver.Judgement.TheVariants.{More, Damage, Data}
 use Rattle.ft12.specs.declared.rules.Heard.{Heard}
 use Rattle.ft12.specs.declared.rules.Heard.TheVariants.{Ignored, Repeat, Request}

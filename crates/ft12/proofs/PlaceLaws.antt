@@ -1,4 +1,4 @@
--- What the code leaves in the record is what the rules say: one law for each case of a host byte, and for the other events.
+-- What the code leaves in the record is what the rules say: the parts that stay, and those that a host byte leaves.
 use Prim.Native.Nat.{ℕ, zero, suc, ◌+◌, ◌-◌, ◌≤◌, ◌<◌}
 use mathlib.Core.Path.{◌≡◌, refl, sym, ◌∙◌, ap}
 use mathlib.Core.List.{List, [], ◌∷◌, ◌++◌}
@@ -14,7 +14,7 @@ use Rattle.ft12.specs.declared.rules.Bits.{Bits}
 use Rattle.words.specs.Words.{is_yes, yes_or_no, is_empty, pad, are_zero, is_padded}
 use Rattle.ft12.specs.Receiver.{judged, is_beginning}
 use Rattle.ft12.specs.Record.{Line, link_with, line_of, link_of, receiver_ok, outstanding_ok, line_ok, memory_ok, in_range}
-use Rattle.ft12.specs.Rules.{at_start, start_dropping, gathering, cleared, expecting, case_of, heard_at, on_heard, on_host_byte, bits_of, BitsAfter, unread, after_host_byte}
+use Rattle.ft12.specs.Rules.{start_dropping, gathering, case_of, heard_at, on_heard, on_host_byte, bits_of, BitsAfter, unread, after_host_byte}
 use Rattle.words.proofs.WordLaws.{left, right, parts3, T_true, written_read, pad-take, padded_length, zeros_are, empty_eq}
 use Rattle.ft12.proofs.RecordLaws.{memory_parts, two_valued_parts}
 use Rattle.ft12.proofs.RangeLaws.{empty_take}
@@ -162,71 +162,6 @@ module _ (k : Link) (range : T (in_range k)) where
   unfolding line_of
   received_stays = sym (padded_length 260 k.received k.receiver (receiver_padded_lem k range))
 
--- ---- one law for each case
-module _ (b : ℕ) (k : Link) (bits : Bits) (range : T (in_range k)) where
-  pub place_gathered : Gathered ≡ heard_at b (line_of k) → bits_of (on_heard Gathered b (line_of k)).line ≡ bits → k.dropping ≡ 0 → k.received < 260
-      → link_with (set k.receiver k.received b) (k.received + 1) k.dropping bits.expected bits.send k.outstanding k.held bits.resends ≡ after_host_byte b k
-  place_gathered e d x h =
-      in_place Gathered b k bits _ _ _ _ _ e d
-      (unfold left_by unread on_heard gathering line_of in stored 260 k.received b k.receiver (receiver_padded_lem k range) h)
-      (unfold left_by unread on_heard gathering in omega (arith, received_stays k range, length-append (line_of k).gathered (b ∷ [])))
-      (unfold left_by unread on_heard gathering in x)
-      (unfold left_by unread on_heard gathering in held_stays k range)
-      (unfold left_by unread on_heard gathering in count_stays k range)
-
-  -- the receiver emptied, the outstanding frame as it was
-  module _ (receiver : List ℕ) (received : ℕ) (r : receiver ≡ replicate k.received 0 ++ drop k.received k.receiver) (n : received ≡ 0) where
-    blanked : receiver ≡ pad 260 []
-    blanked = r ∙ emptied 260 k.received k.receiver (receiver_padded_lem k range)
-
-    pub place_dropped : Dropped ≡ heard_at b (line_of k) → bits_of (on_heard Dropped b (line_of k)).line ≡ bits
-        → link_with receiver received 1 bits.expected bits.send k.outstanding k.held bits.resends ≡ after_host_byte b k
-    place_dropped e d =
-        in_place Dropped b k bits _ _ _ _ _ e d
-        (unfold left_by unread on_heard start_dropping in blanked) (unfold left_by unread on_heard start_dropping in n) (unfold left_by unread on_heard start_dropping in refl)
-        (unfold left_by unread on_heard start_dropping in held_stays k range) (unfold left_by unread on_heard start_dropping in count_stays k range)
-
-    pub place_ignored : Ignored ≡ heard_at b (line_of k) → bits_of (on_heard Ignored b (line_of k)).line ≡ bits → k.dropping ≡ 0
-        → link_with receiver received k.dropping bits.expected bits.send k.outstanding k.held bits.resends ≡ after_host_byte b k
-    place_ignored e d x =
-        in_place Ignored b k bits _ _ _ _ _ e d
-        (unfold left_by unread on_heard at_start in blanked) (unfold left_by unread on_heard at_start in n) (unfold left_by unread on_heard at_start in x)
-        (unfold left_by unread on_heard at_start in held_stays k range) (unfold left_by unread on_heard at_start in count_stays k range)
-
-    pub place_repeat : Repeat ≡ heard_at b (line_of k) → bits_of (on_heard Repeat b (line_of k)).line ≡ bits → k.dropping ≡ 0
-        → link_with receiver received k.dropping bits.expected bits.send k.outstanding k.held bits.resends ≡ after_host_byte b k
-    place_repeat e d x =
-        in_place Repeat b k bits _ _ _ _ _ e d
-        (unfold left_by unread on_heard at_start in blanked) (unfold left_by unread on_heard at_start in n) (unfold left_by unread on_heard at_start in x)
-        (unfold left_by unread on_heard at_start in held_stays k range) (unfold left_by unread on_heard at_start in count_stays k range)
-
-    -- and nothing outstanding any more
-    module _ (outstanding : List ℕ) (held : ℕ) (o : outstanding ≡ replicate k.held 0 ++ drop k.held k.outstanding) (m : held ≡ 0) where
-      cleared_away : outstanding ≡ pad 261 []
-      cleared_away = o ∙ emptied 261 k.held k.outstanding (outstanding_padded_lem k range)
-
-      pub place_acknowledged : Acknowledged ≡ heard_at b (line_of k) → bits_of (on_heard Acknowledged b (line_of k)).line ≡ bits → k.dropping ≡ 0
-          → link_with receiver received k.dropping bits.expected bits.send outstanding held bits.resends ≡ after_host_byte b k
-      place_acknowledged e d x =
-          in_place Acknowledged b k bits _ _ _ _ _ e d
-          (unfold left_by unread on_heard cleared at_start in blanked) (unfold left_by unread on_heard cleared at_start in n) (unfold left_by unread on_heard cleared at_start in x)
-          (unfold left_by unread on_heard cleared at_start in cleared_away) (unfold left_by unread on_heard cleared at_start in m)
-
-      pub place_reset : Reset ≡ heard_at b (line_of k) → bits_of (on_heard Reset b (line_of k)).line ≡ bits → k.dropping ≡ 0
-          → link_with receiver received k.dropping bits.expected bits.send outstanding held bits.resends ≡ after_host_byte b k
-      place_reset e d x =
-          in_place Reset b k bits _ _ _ _ _ e d
-          (unfold left_by unread on_heard expecting cleared at_start in blanked) (unfold left_by unread on_heard expecting cleared at_start in n) (unfold left_by unread on_heard expecting cleared at_start in x)
-          (unfold left_by unread on_heard expecting cleared at_start in cleared_away) (unfold left_by unread on_heard expecting cleared at_start in m)
-
-  pub place_request : (size : ℕ) → Request size ≡ heard_at b (line_of k) → bits_of (on_heard (Request size) b (line_of k)).line ≡ bits → k.dropping ≡ 0
-      → link_with k.receiver k.received k.dropping bits.expected bits.send k.outstanding k.held bits.resends ≡ after_host_byte b k
-  place_request size e d x =
-      in_place (Request size) b k bits _ _ _ _ _ e d
-      (unfold left_by unread on_heard gathering expecting at_start in gathered_stays k range) (unfold left_by unread on_heard gathering expecting at_start in received_stays k range)
-      (unfold left_by unread on_heard gathering expecting at_start in x)
-      (unfold left_by unread on_heard gathering expecting at_start in held_stays k range) (unfold left_by unread on_heard gathering expecting at_start in count_stays k range)
-
 -- while it drops, nothing moves
 dropping_empty : (k : Link) → T (in_range k) → k.dropping ≡ 1 → (line_of k).gathered ≡ []
 unfolding in_range line_of receiver_ok
@@ -250,11 +185,7 @@ place_drops b k t e =
     (unfold left_by unread on_heard start_dropping in held_stays k t)
     (unfold left_by unread on_heard start_dropping in count_stays k t)
 
--- what the code knows of a case: its byte was judged j, and found to be h; the bits after it
-pub found_as : (k : Link) (b : ℕ) (j : Judgement) (x h : Heard) → T (in_range k) → k.dropping ≡ 0 → j ≡ judged (take k.received k.receiver) b
-    → x ≡ case_of j (is_yes k.expected) (eqb k.held 0) → x ≡ h → h ≡ heard_at b (line_of k)
-found_as k b j x h t d e f g = sym g ∙ f ∙ heard-found k b j t d e
-
+-- the bits after a case, on the record's own line
 pub bits_found : (k : Link) (b : ℕ) (x h : Heard) (bits : Bits) → T (in_range k) → BitsAfter x (record { expected = k.expected; send = k.send; resends = k.resends }) bits → x ≡ h
     → bits_of (on_heard h b (line_of k)).line ≡ bits
 bits_found k b x h bits t f g = rw g at (f (line_of k) b (bits_stay k t))

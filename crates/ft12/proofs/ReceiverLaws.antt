@@ -1,14 +1,8 @@
 -- The receiver: one law for each answer, and where a beginning stands in its frame.
-use Prim.Native.Nat.{ℕ, suc, ◌+◌, ◌≤◌, ◌<◌}
-use mathlib.Core.Path.{◌≡◌, refl, sym, ap}
-use mathlib.Core.Bool.{Bool, true, false, ◌&&◌, and_assoc}
-use mathlib.Core.List.{List, [], ◌∷◌, ◌++◌, append-nil}
-use native.Mathlib.Omega.{arith}
+use Rattle.std.proofs.Common.{ℕ, suc, ◌+◌, ◌≤◌, ◌<◌, ◌≡◌, refl, sym, ap, Bool, true, false, ◌&&◌, List, [], ◌∷◌, ◌++◌, append-nil, arith, length, get_or, length-append, T, leb, eqb, lt-ltb, le-ltb, eq-eqb, ne_eqb, eqb-true, leb-true}
+use mathlib.Core.Bool.{and_assoc}
 use native.Mathlib.Decide.{ℕ_discrete}
-use lib.ListN.{length, get_or, length-append}
 use lib.Seq.{append_snoc}
-use lib.Dec.{T, leb, eqb}
-use borrow.Author.Tests.{lt-ltb, le-ltb, eq-eqb, ne_eqb, eqb-true, leb-true}
 use Rattle.std.specs.Prelude.{if◌then◌else◌}
 use Rattle.ft12.specs.Frame.{checksum}
 use Rattle.ft12.specs.Receiver.{only, judged_first, judged_fixed, judged_data, judged, is_more, gathers, is_beginning}

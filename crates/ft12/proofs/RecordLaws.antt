@@ -1,14 +1,14 @@
 -- The link record: what it holds, and its range test decides the paper's words.
 use Prim.Native.Nat.{ℕ, ◌≤◌}
-use mathlib.Core.Path.{◌≡◌, refl, ◌∙◌}
+use mathlib.Core.Path.{◌≡◌, refl}
 use mathlib.Core.Logic.{◌↔◌}
-use mathlib.Core.Bool.{Bool, true, false, ◌&&◌, and-false, and-true}
+use mathlib.Core.Bool.{Bool, true, false, ◌&&◌}
 use mathlib.Core.List.{List, [], ◌∷◌}
 use native.Mathlib.Omega.{arith}
-use lib.ListN.{length, take}
+use lib.ListN.{length}
 use lib.Dec.{T, leb, leb→le, le→leb, ltb→lt, lt→ltb, eqb→eq}
 use Rattle.ft12.specs.declared.record.Link.{Link}
-use Rattle.words.specs.Words.{is_yes_or_no, is_yes, yes_or_no, is_empty, pad, is_padded, are_bytes}
+use Rattle.words.specs.Words.{is_yes_or_no, yes_or_no, is_empty, pad, is_padded, are_bytes}
 use Rattle.ft12.specs.Frame.{Whole, is_whole, data_frame}
 use Rattle.ft12.specs.Record.{Line, line_of, link_of, server_control, receiver_ok, outstanding_ok, line_ok, two_valued, memory_ok, in_range, ReceiverInRange, beginning, drops, OutstandingInRange, holds_nothing, frame_held, InRange}
 use Rattle.words.proofs.WordLaws.{left, right, both, parts3, join3, T_true, read_written, written_is, written_read, take-pad, pad-take, pad_padded, padded_length, padded_decided, bytes_take, empty_eq}
@@ -172,22 +172,3 @@ in_range_decided k bytes = (to, from)
         both (a && b && v) (r && o)
         (join3 a b v ((padded_decided 260 k.received k.receiver).1 i.receiver_padded) ((padded_decided 261 k.held k.outstanding).1 i.outstanding_padded) bits)
         (both r o ((receiver_decided l gathered_bytes).1 i.receiver_in_range) ((outstanding_decided l).1 i.outstanding_in_range))
-
--- ---- the test as the code makes it: the receiver, the outstanding frame, and then what is two-valued
-regroup : (v a b c d : Bool) → (a && c && (b && d) && v) ≡ (a && b && v && (c && d))
-regroup true a b c d = and-true (a && c && (b && d)) ∙ by a b
-  where
-    by : (x y : Bool) → (x && c && (y && d)) ≡ (x && y && true && (c && d))
-    by true true = refl
-    by true false = and-false c
-    by false y = refl
-regroup false true true c d = and-false (c && d)
-regroup false true false c d = and-false (c && false)
-regroup false false b c d = refl
-
-pub range_parts : (k : Link)
-    → (is_padded 260 k.received k.receiver && receiver_ok (is_yes k.dropping) (take k.received k.receiver) && (is_padded 261 k.held k.outstanding && outstanding_ok (is_yes k.send) k.resends (take k.held k.outstanding)) && two_valued k.dropping k.expected k.send) ≡ in_range k
-unfolding in_range memory_ok line_ok line_of
-range_parts k =
-    regroup (two_valued k.dropping k.expected k.send) (is_padded 260 k.received k.receiver) (is_padded 261 k.held k.outstanding) (receiver_ok (is_yes k.dropping) (take k.received k.receiver))
-    (outstanding_ok (is_yes k.send) k.resends (take k.held k.outstanding))

@@ -1,12 +1,6 @@
 -- The link rules: what none of them does, and that each leaves a line that is in order in order.
-use Prim.Native.Nat.{ℕ, ◌+◌, ◌≤◌, ◌<◌}
-use mathlib.Core.Path.{◌≡◌, refl, sym, ◌∙◌, ap}
-use mathlib.Core.Bool.{Bool, true, false, not, ◌||◌, or-true}
-use mathlib.Core.List.{List, [], ◌∷◌, ◌++◌}
-use native.Mathlib.Omega.{arith}
-use lib.ListN.{length}
-use lib.Dec.{T, leb, ltb, eqb, le→leb}
-use borrow.Author.Tests.{ltb-true, ltb-false, eqb-true, eq-eqb}
+use Rattle.std.proofs.Common.{ℕ, ◌+◌, ◌≤◌, ◌<◌, ◌≡◌, refl, sym, ◌∙◌, ap, Bool, true, false, not, ◌||◌, List, [], ◌∷◌, ◌++◌, arith, length, T, leb, ltb, eqb, le→leb, ltb-true, ltb-false, eqb-true, eq-eqb}
+use mathlib.Core.Bool.{or-true}
 use Rattle.ft12.specs.declared.receiver.Judgement.{Judgement}
 use Rattle.ft12.specs.declared.receiver.Judgement.TheVariants.{More, Damage, Acknowledgement, Fixed, Data}
 use Rattle.ft12.specs.declared.rules.Heard.{Heard}

@@ -1,8 +1,7 @@
 -- The types of this crate as the kit of walks has them, and the link record as its fields side by side.
-use mathlib.Core.Path.{◌≡◌, refl}
-use mathlib.Core.List.{List, [], ◌∷◌}
+use Rattle.std.proofs.Common.{◌≡◌, refl, List, [], ◌∷◌, w8, w16, w64}
 use seplogic.Ra.Ura.{Ura}
-use mir.Syntax.{w8, w16, w64, ty_int, ty_array}
+use mir.Syntax.{ty_int, ty_array}
 use types.Logic.{Logic}
 use denote.RattleType.{RattleType}
 use denote.Laws.{Lawfuls}

@@ -1,6 +1,6 @@
 -- Document 02, item 8. "The rack's serial driver hands us everything between two idle marks at once, up to 2048 bytes."
 -- What such a burst holds, by the byte-wise receiver from a frame start on, and what a reader of bursts returns.
-use Rattle.std.specs.Prelude.{if◌then◌else◌, ℕ, suc, ◌-◌, ◌≡◌, Bool, not, ◌||◌, List, [], ◌∷◌, ◌++◌, map, length, ltb, ℤ, pos, neg_ℤ}
+use Rattle.std.specs.Prelude.{if◌then◌else◌, ℕ, suc, ◌-◌, ◌≡◌, Bool, not, ◌||◌, List, [], ◌∷◌, ◌++◌, map, length, ltb, ℤ, pos, neg_ℤ, Result, Ok, Err}
 use Rattle.words.specs.Words.{is_empty, put, keep, same}
 use Rattle.ft12.specs.Frame.{acknowledgement}
 use Rattle.ft12.specs.Receiver.{judged}
@@ -9,8 +9,8 @@ use Rattle.ft12.specs.declared.receiver.Judgement.TheVariants.{More, Damage, Ack
 use Rattle.ft12.specs.declared.burst.Ending.{Ending}
 use Rattle.ft12.specs.declared.burst.Ending.TheVariants.{Clean, Damaged, Unfinished}
 use Rattle.ft12.specs.declared.burst.Figures.{Figures}
-use Rattle.ft12.specs.declared.burst.BurstReply.{BurstReply}
-use Rattle.ft12.specs.declared.burst.BurstReply.TheVariants.{Refused, Read}
+use Rattle.ft12.specs.declared.burst.BurstRefusal.{BurstRefusal}
+use Rattle.ft12.specs.declared.burst.BurstRefusal.TheVariants.{TooLong, TooFewPlaces}
 use Rattle.ft12.specs.declared.burst.BurstNumbers.{BurstNumbers}
 
 -- ---- what a burst holds
@@ -87,6 +87,11 @@ starts_of c = map (λ (p : Piece). p.start) c.pieces
 unfoldable pub burst_refused : List ℕ → List ℕ → Bool
 burst_refused burst run = ltb 2048 (length burst) || ltb (length run) 2048
 
+-- the refusal's number, or what was found
+pub data BurstReply : Type 0 where
+  Refused : ℕ → BurstReply
+  Read : Figures → BurstReply
+
 -- what is answered, and the lent run after it
 pub record BurstCalled : Type 0 where
   pub reply : BurstReply
@@ -97,6 +102,16 @@ unfoldable pub read_burst : List ℕ → List ℕ → BurstCalled
 read_burst burst run =
     if burst_refused burst run then record { reply = Refused 8; run = run }
     else record { reply = Read (figures_of (contents burst)); run = put run 0 (starts_of (contents burst)) }
+
+-- ---- what a reader returns
+-- "call number 8 for a longer burst or a shorter run"
+abbrev pub number_of_refusal : BurstRefusal → ℕ
+number_of_refusal TooLong = 8
+number_of_refusal TooFewPlaces = 8
+
+abbrev pub reply_of : Result Figures BurstRefusal → BurstReply
+reply_of (Ok f) = Read f
+reply_of (Err e) = Refused (number_of_refusal e)
 
 -- ---- replies as numbers
 -- the place in the paper's list, "clean, in damage or in an unfinished frame" (build)

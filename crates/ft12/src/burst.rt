@@ -7,30 +7,30 @@ pub const LEAST_PLACES: usize = 2048;
 
 pub const BAD_BURST: u8 = 8;
 
-// "whether the burst ended clean, in damage or in an unfinished frame"
-#[derive(Clone, Copy)]
+// "whether the burst ended clean, in damage or in an unfinished frame", with the place in this list, which firmware gets.
+#[derive(Clone, Copy, Debug, PartialEq, Eq)]
 pub enum Ending {
-    Clean,
-    Damaged,
-    Unfinished,
+    Clean = 1,
+    Damaged = 2,
+    Unfinished = 3,
 }
 
 // "how many sound frames (ignored ones too) and acknowledgements it found", and how the burst ended.
-#[derive(Clone, Copy)]
+#[derive(Clone, Copy, Debug, PartialEq, Eq)]
 pub struct Figures {
     pub frames: u16,
     pub acknowledgements: u16,
     pub ending: Ending,
 }
 
-// What the reader of bursts answers: the refusal's number, or what it found.
-#[derive(Clone, Copy)]
-pub enum BurstReply {
-    Refused(u8),
-    Read(Figures),
+// Why the reader of bursts refuses: a longer burst, or a shorter run. Both have the number BAD_BURST.
+#[derive(Clone, Copy, Debug, PartialEq, Eq)]
+pub enum BurstRefusal {
+    TooLong,
+    TooFewPlaces,
 }
 
-// The same as C has it: minus the refusal's number, or the place of the ending in the paper's list, 1 to 3; and the two
+// The answer as C has it: minus the refusal's number, or the place of the ending in the paper's list, 1 to 3; and the two
 // counts, 0 where the burst was refused.
 #[repr(C)]
 #[derive(Clone, Copy)]

@@ -2,7 +2,7 @@
 
 // The link record, lent by the serial loop. A two-valued thing is a byte, 0 or 1; a bit is 1 where it is odd.
 #[repr(C)]
-#[derive(Clone, Copy)]
+#[derive(Clone, Copy, Debug, PartialEq, Eq)]
 pub struct Link {
     // The bytes of the frame that is being received, and how many they are.
     pub receiver: [u8; 260],

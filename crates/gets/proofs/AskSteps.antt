@@ -1,24 +1,22 @@
--- The laws of the gets of datapoints and items, exit by exit, of what their callees answer: v, w, from, g and u.
-use Prim.Native.Nat.{ℕ, ◌+◌, ◌≤◌}
-use mathlib.Core.Path.{◌≡◌, sym, ◌∙◌, ap}
-use mathlib.Core.Bool.{Bool, true, false, not}
-use mathlib.Core.List.{List, ◌++◌}
-use native.Mathlib.Omega.{arith}
-use lib.ListN.{length, take, drop}
-use lib.Dec.{T, eqb}
-use borrow.Author.Tests.{eq-eqb, ne_eqb}
+-- The laws of the gets of datapoints and items, exit by exit, of what their callees answer: v, w, from, g and u; and then
+-- of what their checks say.
+use Rattle.std.proofs.Common.{ℕ, ◌+◌, ◌≤◌, ◌≡◌, refl, sym, ◌∙◌, ap, Bool, true, false, not, List, ◌++◌, arith, length, take, drop, T, eqb, Ok, Err, inl, inr, subst, eq-eqb, ne_eqb}
 use Rattle.words.specs.Words.{put}
 use Rattle.words.proofs.ByteLaws.{length-put}
 use Rattle.words.proofs.WordLaws.{true_T}
 use Rattle.baos.specs.declared.datapoint.Datapoint.{Datapoint}
 use Rattle.baos.specs.declared.item.Item.{Item}
-use Rattle.baos.specs.declared.inner.Gathered.{Gathered}
-use Rattle.baos.specs.declared.inner.Verdict.{Verdict}
+use Rattle.baos.specs.Inner.Gather.{Gathered}
+use Rattle.baos.specs.Message.{Verdict}
 use Rattle.baos.specs.declared.inner.Wanted.{Wanted}
 use Rattle.baos.specs.Datapoint.{datapoint_id, datapoint_ok}
 use Rattle.baos.specs.Item.{item_id, item_ok}
 use Rattle.baos.specs.Table.{datapoints_only, items_only, place, table_ok}
-use Rattle.baos.specs.Message.{coded, verdict_of}
+use Rattle.baos.specs.declared.inner.Fault.{Fault}
+use Rattle.baos.specs.Message.{coded, verdict_of, code_number}
+use Rattle.gets.proofs.MeasureSteps.{code_some}
+use Rattle.gets.specs.Measure.{Checked}
+use Rattle.gets.specs.declared.found.Entries.{Entries}
 use Rattle.baos.specs.Get.{get_server_item}
 use Rattle.baos.specs.Inner.Gather.{request_finding, gathered_verdict, wanted_of, walked, nothing_gathered, datapoint_step, item_step, datapoints_built, datapoints_left, items_built, get_datapoints}
 use Rattle.baos.specs.Inner.Promise.{Written, Answered}
@@ -146,3 +144,64 @@ module _ (values : Bool) (m : List ℕ) (ds : List Datapoint) (ok : table_ok 100
             buffer = p.buffer ∙ (λ i. put ((h.buffer ∙ ap (λ (x : Gathered). put out at (head_of m x.count)) datapoint_summed) i) (k i) (datapoint_bytes i)) ∙ q.buffer;
             ends = p.ends ∙ (λ i. k i + length (datapoint_bytes i)) ∙ q.ends;
           }
+
+-- ---- what the checks say
+module _ (m : List ℕ) (is : List Item) (ok : table_ok 64 item_id item_ok is ≡ true) (out : List ℕ) (at : ℕ) where
+  abbrev items_asked : Wanted
+  items_asked = wanted_of false m
+
+  pub items_faulty : (f : Fault) {n : ℕ} {o : List ℕ}
+      → Checked (request_finding false m) items_asked.start (walked (item_step items_asked) nothing_gathered (drop (place item_id items_asked.start is) is)) (Err f)
+      → Written out at (coded m f.id (code_number f.code)) n o → Written out at (get_server_item (items_only is) m).says n o
+  unfolding verdict_of
+  items_faulty f (inl e) p = items_turned_away m is ok out at (sym (ap verdict_of e)) (code_some f.code) p
+  items_faulty f (inr (e, q)) p = items_found_none m is ok out at (sym (ap verdict_of e)) refl refl refl refl (sym q) (code_some f.code) p
+
+  module _ (e : Entries) {w : Wanted} {from : ℕ} (ew : w ≡ wanted_of false m) (ef : from ≡ place item_id w.start is)
+      (c : Checked (request_finding false m) w.start (walked (item_step w) nothing_gathered (drop from is)) (Ok e)) (room : at + 254 ≤ length out)
+      {end : ℕ} {head : List ℕ} (h : Written out at (head_of m e.count) end head) where
+    pub items_room : end + length (items_built w (drop from is)) ≤ length head
+    unfolding verdict_of
+    items_room =
+        items_have_room m is ok out at (sym (ap verdict_of c.0)) refl ew ef refl (sym c.1.0) refl room
+        (subst (λ (n : ℕ). Written out at (head_of m n) end head) c.1.1 h)
+
+    pub items_done : {n : ℕ} {o : List ℕ} → Written head end (items_built w (drop from is)) n o → Written out at (get_server_item (items_only is) m).says n o
+    unfolding verdict_of
+    items_done p =
+        items_answered m is ok out at (sym (ap verdict_of c.0)) refl ew ef refl (sym c.1.0) refl room
+        (subst (λ (n : ℕ). Written out at (head_of m n) end head) c.1.1 h) p
+
+module _ (values : Bool) (m : List ℕ) (ds : List Datapoint) (ok : table_ok 1000 datapoint_id datapoint_ok ds ≡ true) (out : List ℕ) (at : ℕ) where
+  abbrev datapoints_asked : Wanted
+  datapoints_asked = wanted_of values m
+
+  pub datapoints_faulty : (f : Fault) {n : ℕ} {o : List ℕ}
+      → Checked (request_finding values m) datapoints_asked.start (walked (datapoint_step datapoints_asked) nothing_gathered (drop (place datapoint_id datapoints_asked.start ds) ds)) (Err f)
+      → Written out at (coded m f.id (code_number f.code)) n o
+      → Answered (get_datapoints values (datapoints_only ds) m).after.datapoints out at (get_datapoints values (datapoints_only ds) m).says n o ds
+  unfolding verdict_of
+  datapoints_faulty f (inl e) p = datapoints_turned_away values m ds ok out at (sym (ap verdict_of e)) (code_some f.code) p
+  datapoints_faulty f (inr (e, q)) p = datapoints_found_none values m ds ok out at (sym (ap verdict_of e)) refl refl refl refl (sym q) (code_some f.code) p
+
+  module _ (e : Entries) {w : Wanted} {from : ℕ} (ew : w ≡ wanted_of values m) (ef : from ≡ place datapoint_id w.start ds)
+      (c : Checked (request_finding values m) w.start (walked (datapoint_step w) nothing_gathered (drop from ds)) (Ok e)) (room : at + 254 ≤ length out)
+      {end : ℕ} {head : List ℕ} (h : Written out at (head_of m e.count) end head) where
+    pub datapoints_room : end + length (datapoints_built w (drop from ds)) ≤ length head
+    unfolding verdict_of
+    datapoints_room =
+        datapoints_have_room values m ds ok out at (sym (ap verdict_of c.0)) refl ew ef refl (sym c.1.0) refl room
+        (subst (λ (n : ℕ). Written out at (head_of m n) end head) c.1.1 h)
+
+    pub datapoints_size : e.size ≡ length (datapoints_built w (drop from ds))
+    unfolding verdict_of
+    datapoints_size =
+        c.1.2 ∙ datapoints_are_sized values m ds ok out at (sym (ap verdict_of c.0)) refl ew ef refl (sym c.1.0) refl room
+        (subst (λ (n : ℕ). Written out at (head_of m n) end head) c.1.1 h)
+
+    pub datapoints_done : {n : ℕ} {o : List ℕ} {t : List Datapoint} → Answered (take from ds ++ datapoints_left w (drop from ds)) head end (datapoints_built w (drop from ds)) n o t
+        → Answered (get_datapoints values (datapoints_only ds) m).after.datapoints out at (get_datapoints values (datapoints_only ds) m).says n o t
+    unfolding verdict_of
+    datapoints_done p =
+        datapoints_answered values m ds ok out at (sym (ap verdict_of c.0)) refl ew ef refl (sym c.1.0) refl room
+        (subst (λ (n : ℕ). Written out at (head_of m n) end head) c.1.1 h) p

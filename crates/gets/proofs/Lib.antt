@@ -1,2 +1,3 @@
 mod AskSteps
 mod PassSteps
+pub mod MeasureSteps

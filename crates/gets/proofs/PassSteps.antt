@@ -1,11 +1,5 @@
 -- The laws of the second pass, turn by turn, of a record as the code reads it: z is what it reads where no record stands.
-use Prim.Native.Nat.{ℕ, ◌+◌, ◌<◌, ◌≤◌}
-use mathlib.Core.Path.{◌≡◌, sym, ◌∙◌, ap, subst}
-use mathlib.Core.Bool.{Bool, true, false, not}
-use mathlib.Core.List.{List, [], ◌++◌}
-use native.Mathlib.Omega.{arith}
-use lib.ListN.{length, get_or, set, take, drop, length-append, length-set}
-use lib.Dec.{T}
+use Rattle.std.proofs.Common.{ℕ, ◌+◌, ◌<◌, ◌≤◌, ◌≡◌, sym, ◌∙◌, ap, subst, Bool, true, false, not, List, [], ◌++◌, arith, length, get_or, set, take, drop, length-append, length-set, T}
 use Rattle.words.specs.Words.{every, put}
 use Rattle.words.proofs.WordLaws.{true_T}
 use Rattle.baos.specs.declared.datapoint.Datapoint.{Datapoint}
@@ -17,8 +11,9 @@ use Rattle.baos.proofs.MeasureLaws.{not_behind, in_range_lem, item_length}
 use Rattle.baos.specs.Datapoint.{datapoint_id, datapoint_ok, zero_datapoint}
 use Rattle.baos.specs.Inner.Gather.{is_behind, is_within, is_wanted, entry_of, wide_of, left_of, datapoints_built, datapoints_left, items_built}
 use Rattle.baos.specs.Inner.Promise.{Written, Answered}
-use Rattle.baos.proofs.PassLaws.{here_ok, bytes_fit, code_fits, wide_short, drop-set, built_end, built_behind, built_wanted, built_other, left_end, left_behind, left_wanted, left_other, Putting, putting_none, putting_next, putting_over, entry_fits}
-use Rattle.baos.proofs.PlaceLaws.{ok_from, from_id, from_ok}
+use Rattle.baos.specs.Table.{place, table_ok}
+use Rattle.baos.proofs.PassLaws.{here_ok, bytes_fit, code_fits, wide_short, drop-set, built_end, built_behind, built_wanted, built_other, left_end, left_behind, left_wanted, left_other, Putting, putting_all, putting_none, putting_next, putting_over, entry_fits}
+use Rattle.baos.proofs.PlaceLaws.{ok_from, from_id, from_ok, at_place}
 use Rattle.baos.proofs.WideLaws.{behind_of, wide_is}
 
 -- what a look past the end would give
@@ -48,6 +43,12 @@ module _ (w : Wanted) (start : ℕ) (ys : List Item) (out : List ℕ) (at : ℕ)
     pub inside : i ≤ length ys
     pub each : T (every item_fine (drop i ys))
     pub putting : Putting out at items_all bs end (items_built w (drop i ys))
+
+  pub items_begin : table_ok 64 item_id item_ok ys ≡ true → start ≡ place item_id w.start ys → at + length items_all ≤ length out → ItemStands (start + 0) at out
+  items_begin t p l =
+      let q = at_place item_id zero_item w.start item_ok 64 ys start t p in
+      let e : start + 0 ≡ start = omega arith in
+      rw e (record { inside = q.0; each = q.1; putting = putting_all out at items_all l })
 
 module _ {w : Wanted} {start : ℕ} {ys : List Item} {out : List ℕ} {at i end : ℕ} {bs : List ℕ} (s : ItemStands w start ys out at i end bs) (z : Item) where
   abbrev item : Item

@@ -1,176 +1,151 @@
 // Gathering entries into an answer: the core by value, and the two passes over a lent table. The first measures, and
 // nothing is written before it is known that all entries fit; the second builds.
-ghost use Rattle.std.specs.Prelude.{◌≡◌, true, ◌++◌, ◌+◌, ◌≤◌, ◌<◌, length, take, drop};
-ghost use Rattle.baos.specs.Get.{item_entry};
+ghost use Rattle.std.specs.Prelude.{◌≡◌, true, Bool, ℕ, ◌++◌, ◌+◌, ◌≤◌, ◌<◌, length, take, drop};
+ghost use Rattle.std.proofs.Common.{lit≤};
+ghost use Rattle.baos.specs.declared.inner.Wanted.{Wanted};
+ghost use Rattle.baos.specs.Get.{AnswerEntry, item_entry};
 ghost use Rattle.baos.specs.Datapoint.{datapoint_id, datapoint_ok};
 ghost use Rattle.baos.specs.Item.{item_id, item_ok};
 ghost use Rattle.baos.specs.Table.{place, table_ok};
-ghost use Rattle.baos.specs.Inner.Gather.{is_behind, is_within, is_wanted, entry_of, wide_of, left_of, ended, with_entry};
-ghost use Rattle.baos.specs.Inner.Gather.{measured, walked, nothing_gathered, datapoint_step, item_step};
+ghost use Rattle.baos.specs.Inner.Gather.{is_behind, is_within, is_wanted, entry_of, wide_of, left_of};
+ghost use Rattle.baos.specs.Inner.Gather.{walked, nothing_gathered};
 ghost use Rattle.baos.specs.Inner.Gather.{datapoints_built, datapoints_left, items_built};
 ghost use Rattle.baos.specs.Inner.Promise.{Written, WrittenWide, Answered};
+ghost use Rattle.baos.proofs.MeasureLaws.{entry_id};
+ghost use Rattle.gets.specs.EntryLaws.{datapoint_bounds, item_id_lem, item_bounds};
+ghost use Rattle.gets.specs.Measure.{size_wanted, record_step, Measured};
 
+use crate::found::Entries;
 use baos::datapoint::Datapoint;
-use baos::inner::{Gathered, Wanted};
+use baos::inner::{Fault, Wanted};
 use baos::item::Item;
-use baos::service::ROOM_FOR_ENTRIES;
 use entries::entry::{put_description, put_item, put_value, put_wide_value};
+use masks::record::Record;
 use records::datapoint::{handed_out, passes_filter};
 use values::value::size_by_rule;
 
 // Whether the ID is behind the range.
+#[tactic(auto, unfolding(baos::specs::Inner::Gather::is_behind))]
 pub fn is_behind(w: Wanted, id: u16) -> bool
     ensures { result ≡ is_behind w id }
 {
     w.end <= id as u32
 }
 
-// Whether the record is to be gathered. Its ID is in the range: the passes begin at the place of the first ID, and
-// end behind the last.
-fn is_wanted(w: Wanted, d: Datapoint) -> bool
-    requires { (w.start ≤ d.id) × (d.id < w.end) }
-    ensures { result ≡ is_wanted w d }
-{
-    passes_filter(d, w.filter)
+// A record of a table from which entries are gathered: its ID, and the entry that an answer has of it.
+pub trait Listed: Record {
+    ghost most: { ℕ };
+
+    ghost is_wanted: { Wanted → Self → Bool };
+
+    ghost entry: { Wanted → Self → AnswerEntry };
+
+    // How many bytes its entry takes, if it is wanted. Its ID is in the range: the passes begin at the place of the
+    // first ID, and end behind the last.
+    fn entry_size(&self, w: Wanted) -> Option<usize>
+        requires { (Self.ok self.now ≡ true) × (w.start ≤ Self.id_of self.now) × (Self.id_of self.now < w.end) }
+        ensures { result ≡ size_wanted (is_wanted w self.now) (entry w self.now) };
+
+    ghost few: { most ≤ 1000 };
+
+    ghost entry_id: { (w : Wanted) (r : Self) → (entry w r).id ≡ Self.id_of r };
+
+    ghost entry_bounds: { (w : Wanted) (r : Self) → Self.ok r ≡ true → (1 ≤ length (entry w r).bytes) × (length (entry w r).bytes ≤ 32) };
 }
 
-// How many bytes the record's entry takes.
-fn entry_size(w: Wanted, d: Datapoint) -> usize
-    requires { d.typecode ≤ 14 }
-    ensures { result ≡ length (entry_of w d).bytes }
-{
-    if w.values {
-        return 4 + size_by_rule(d.typecode);
+impl Listed for Datapoint {
+    ghost most = { 1000 };
+
+    ghost few = { lit≤ tt };
+
+    ghost is_wanted = { is_wanted };
+
+    ghost entry = { entry_of };
+
+    ghost entry_id = { entry_id };
+
+    ghost entry_bounds = { datapoint_bounds };
+
+    fn entry_size(&self, w: Wanted) -> Option<usize> {
+        if !passes_filter(*self, w.filter) {
+            return None;
+        }
+        Some(if w.values {
+            4 + size_by_rule(self.typecode)
+        } else {
+            5
+        })
     }
-    5
+}
+
+impl Listed for Item {
+    ghost most = { 64 };
+
+    ghost few = { lit≤ tt };
+
+    ghost is_wanted = { λ w i. is_within w i.id };
+
+    ghost entry = { λ w i. item_entry i };
+
+    ghost entry_id = { λ w i. item_id_lem i };
+
+    ghost entry_bounds = { λ w i. item_bounds i };
+
+    fn entry_size(&self, w: Wanted) -> Option<usize> {
+        Some(3 + self.size as usize)
+    }
 }
 
 // The record's entry, into the buffer at `at`; answers where it ends.
+#[tactic(auto, unfolding(baos::specs::Inner::Gather::entry_of))]
 fn put_entry(out: &mut [u8], at: usize, w: Wanted, d: Datapoint) -> usize
     requires { (d.typecode ≤ 14) × (at + length (entry_of w d).bytes ≤ length out.old) }
     ensures { Written out.old at (entry_of w d).bytes result out.new }
 {
     if w.values {
-        return put_value(&mut *out, at, d);
+        put_value(out, at, d)
+    } else {
+        put_description(out, at, d)
     }
-    put_description(&mut *out, at, d)
 }
 
-// The same where others follow.
+// The same where others follow: it writes more, and so promises another thing.
+#[tactic(auto, unfolding(baos::specs::Inner::Gather::entry_of, baos::specs::Inner::Gather::wide_of))]
 fn put_wide_entry(out: &mut [u8], at: usize, w: Wanted, d: Datapoint) -> usize
     requires { (d.typecode ≤ 14) × (at + 18 ≤ length out.old) }
     ensures { WrittenWide out.old at (wide_of w d) (entry_of w d).bytes result out.new }
 {
     if w.values {
-        return put_wide_value(&mut *out, at, d);
+        put_wide_value(out, at, d)
+    } else {
+        put_description(out, at, d)
     }
-    put_description(&mut *out, at, d)
 }
 
 // The record after its entry was built.
+#[tactic(auto, unfolding(baos::specs::Inner::Gather::left_of))]
 fn left_of(w: Wanted, d: Datapoint) -> Datapoint
     ensures { result ≡ left_of w d }
 {
-    if w.values {
-        return handed_out(d);
-    }
-    d
+    if w.values { handed_out(d) } else { d }
 }
 
-// Nothing after this is looked at.
-fn ended(g: Gathered) -> Gathered
-    ensures { result ≡ ended g }
+// The first pass over a table, from the place of the first ID of the range on: rows 2 and 3.
+pub fn measure<R: Listed>(table: &[R], from: usize, w: Wanted) -> Result<Entries, Fault>
+    requires { (table_ok R.most R.id_of R.ok table.now ≡ true) × (from ≡ place R.id_of w.start table.now) }
+    ensures { Measured w.start
+        (walked (record_step R.id_of R.is_wanted R.entry w) nothing_gathered (drop from table.now)) result }
 {
-    let mut r = g;
-    r.ended = true;
-    r
-}
-
-// An entry of so many bytes is counted, or is the first that does not fit.
-pub fn with_entry(g: Gathered, id: u16, n: usize) -> Gathered
-    requires { (g.count ≤ g.size) × (g.size ≤ 248) × (n ≤ 32) }
-    ensures { result ≡ with_entry id n g }
-{
-    let size = g.size + n;
-    let mut r = g;
-    if ROOM_FOR_ENTRIES < size {
-        r.over = id;
-        r.ended = true;
-        return r;
-    }
-    r.count = g.count + 1;
-    r.size = size;
-    r
-}
-
-// A datapoint is measured, after those before it.
-fn measured(w: Wanted, d: Datapoint, g: Gathered) -> Gathered
-    requires { (w.start ≤ d.id) × (d.typecode ≤ 14) × (g.count ≤ g.size) × (g.size ≤ 248) }
-    ensures { result ≡ measured (is_behind w d.id) (is_wanted w d) (entry_of w d) g }
-{
-    if is_behind(w, d.id) {
-        return ended(g);
-    }
-    if is_wanted(w, d) {
-        return with_entry(g, d.id, entry_size(w, d));
-    }
-    g
-}
-
-// An item is measured, after those before it.
-fn item_measured(w: Wanted, i: Item, g: Gathered) -> Gathered
-    requires { (w.start ≤ i.id) × (i.size ≤ 16) × (g.count ≤ g.size) × (g.size ≤ 248) }
-    ensures { result ≡ measured (is_behind w i.id) (is_within w i.id) (item_entry i) g }
-{
-    if is_behind(w, i.id) {
-        return ended(g);
-    }
-    with_entry(g, i.id, 3 + i.size as usize)
-}
-
-// The first pass over the datapoints, from the place of the first ID of the range on.
-pub fn measure_datapoints(table: &[Datapoint], from: usize, w: Wanted) -> Gathered
-    requires { (table_ok 1000 datapoint_id datapoint_ok table.now ≡ true)
-        × (from ≡ place datapoint_id w.start table.now) }
-    ensures { result ≡ walked (datapoint_step w) nothing_gathered (drop from table.now) }
-{
-    let mut g = Gathered {
-        count: 0,
-        size: 0,
-        over: 0,
-        ended: false,
-    };
-    let mut i = from;
-    while i < table.len() {
-        g = measured(w, table[i], g);
-        if g.ended {
-            return g;
+    let mut found = Entries::new();
+    for record in &table[from..] {
+        if is_behind(w, record.id()) {
+            break;
         }
-        i += 1;
-    }
-    g
-}
-
-// The first pass over the items, from the place of the first ID of the range on.
-pub fn measure_items(table: &[Item], from: usize, w: Wanted) -> Gathered
-    requires { (table_ok 64 item_id item_ok table.now ≡ true) × (from ≡ place item_id w.start table.now) }
-    ensures { result ≡ walked (item_step w) nothing_gathered (drop from table.now) }
-{
-    let mut g = Gathered {
-        count: 0,
-        size: 0,
-        over: 0,
-        ended: false,
-    };
-    let mut i = from;
-    while i < table.len() {
-        g = item_measured(w, table[i], g);
-        if g.ended {
-            return g;
+        if let Some(size) = record.entry_size(w) {
+            found = found.with_entry(record.id(), size)?;
         }
-        i += 1;
     }
-    g
+    found.unless_none(w.start)
 }
 
 // The second pass over the datapoints, from the place of the first ID of the range on: the entries go into the buffer
@@ -195,14 +170,14 @@ pub fn build_datapoints(
         out.new table.new }
 {
     let stop = at + size;
-    let mut i = from;
     let mut end = at;
-    while i < table.len() {
+    for i in from..table.len() {
         let d = table[i];
         if is_behind(w, d.id) {
             return end;
         }
-        if is_wanted(w, d) {
+        if passes_filter(d, w.filter) {
+            // Read and stored in either branch: what is left and what is put then share one test for values.
             if end + 18 <= stop {
                 let e = table[i];
                 table[i] = left_of(w, e);
@@ -213,7 +188,6 @@ pub fn build_datapoints(
                 end = put_entry(out, end, w, e);
             }
         }
-        i += 1;
     }
     end
 }
@@ -224,15 +198,12 @@ pub fn build_items(table: &[Item], from: usize, w: Wanted, out: &mut [u8], at: u
         × (at + length (items_built w (drop from table.now)) ≤ length out.old) }
     ensures { Written out.old at (items_built w (drop from table.now)) result out.new }
 {
-    let mut i = from;
     let mut end = at;
-    while i < table.len() {
-        let item = table[i];
+    for item in &table[from..] {
         if is_behind(w, item.id) {
             return end;
         }
-        end = put_item(out, end, item);
-        i += 1;
+        end = put_item(out, end, *item);
     }
     end
 }

@@ -1,5 +1,6 @@
 // The gets: entries gathered into an answer.
 #![tactic(auto)]
 
+pub mod found;
 pub mod gather;
 pub mod get;

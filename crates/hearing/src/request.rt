@@ -18,7 +18,5 @@ pub fn request_message(receiver: &[u8; 260], l: u8) -> &[u8]
     requires { 1 ≤ l }
     ensures { result.now ≡ take (l - 1) (drop 5 receiver.now) }
 {
-    let bytes = &receiver[..];
-    let end = l as usize + BEFORE_MESSAGE - 1;
-    &bytes[BEFORE_MESSAGE..end]
+    &receiver[BEFORE_MESSAGE..BEFORE_MESSAGE + l as usize - 1]
 }

@@ -1,10 +1,5 @@
 -- The laws of the pass over the table, of a record as the code reads it: z is what it reads where no record stands.
-use Prim.Native.Nat.{ℕ, ◌+◌, ◌-◌, ◌<◌, ◌≤◌}
-use mathlib.Core.Path.{◌≡◌, sym, ◌∙◌, ap, subst}
-use mathlib.Core.Bool.{Bool, true, false, not}
-use mathlib.Core.List.{List}
-use lib.ListN.{length, get_or, set}
-use lib.Dec.{T, leb}
+use Rattle.std.proofs.Common.{ℕ, ◌+◌, ◌-◌, ◌<◌, ◌≤◌, ◌≡◌, sym, ◌∙◌, ap, subst, Bool, true, false, not, List, length, get_or, set, T, leb}
 use Rattle.std.proofs.lemmas.List.{get_or_default}
 use Rattle.words.specs.Words.{put}
 use Rattle.words.proofs.WordLaws.{true_T}

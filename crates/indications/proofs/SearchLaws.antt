@@ -1,11 +1,5 @@
 -- The laws of the search for a mark, of a record as the code reads it: z is what it reads where no record stands.
-use Prim.Native.Nat.{ℕ, ◌+◌, ◌<◌}
-use mathlib.Core.Path.{◌≡◌, sym, ◌∙◌, ap}
-use mathlib.Core.Bool.{not}
-use mathlib.Core.List.{List}
-use lib.ListN.{length, get_or}
-use lib.Dec.{T}
-use borrow.Author.Tests.{eq-eqb, ne_eqb}
+use Rattle.std.proofs.Common.{ℕ, ◌+◌, ◌<◌, ◌≡◌, sym, ◌∙◌, ap, not, List, length, get_or, T, eq-eqb, ne_eqb}
 use Rattle.std.proofs.lemmas.List.{get_or_default}
 use Rattle.words.proofs.WordLaws.{true_T}
 use Rattle.baos.specs.declared.datapoint.Datapoint.{Datapoint}

@@ -22,13 +22,14 @@ fn waits(d: Datapoint, end: usize, most: usize) -> bool
     let room = most - end;
     // One byte, as most values have. put_value makes the same test: it costs no jump more.
     if d.typecode < 8 {
-        return room < 5;
+        room < 5
+    } else {
+        room < 4 + size_by_rule(d.typecode)
     }
-    room < 4 + size_by_rule(d.typecode)
 }
 
-// Where the first marked datapoint stands; the table's length where there is none. Four records a turn: most polls find
-// nothing, and one loop's jump and count serve four.
+// Where the first marked datapoint stands; the table's length where there is none. Four records a turn, and so no `for`:
+// most polls find nothing, and one loop's jump and count serve four.
 fn first_marked(table: &[Datapoint]) -> usize
     ensures { result ≡ first_marked table.now }
 {
@@ -49,13 +50,12 @@ fn first_marked(table: &[Datapoint]) -> usize
         }
         i += 4;
     }
-    while i < n {
-        if table[i].mark == 1 {
-            return i;
+    for j in i..n {
+        if table[j].mark == 1 {
+            return j;
         }
-        i += 1;
     }
-    i
+    n
 }
 
 // The entries of the marked datapoints, into the buffer at `at`, until the next one does not fit; each record that is
@@ -66,28 +66,20 @@ fn tell_marked(table: &mut [Datapoint], out: &mut [u8], at: usize) -> Told
     ensures { MarkedTold table.old out.old at result out.new table.new }
 {
     let most = at + ROOM_FOR_ENTRIES;
-    let mut i = first_marked(table);
     let mut end = at;
     let mut count: u16 = 0;
-    while i < table.len() {
+    for i in first_marked(table)..table.len() {
         if table[i].mark == 1 {
             let d = table[i];
             if waits(d, end, most) {
-                return Told {
-                    count: count,
-                    end: end,
-                };
+                break;
             }
             table[i] = reported(d);
             end = put_value(out, end, d);
             count += 1;
         }
-        i += 1;
     }
-    Told {
-        count: count,
-        end: end,
-    }
+    Told { count, end }
 }
 
 // One indication, into the buffer at `at`; answers where it ends. Where nothing is marked nothing is said.

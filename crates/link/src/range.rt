@@ -1,5 +1,5 @@
 // The test that the link record is in range.
-ghost use Rattle.std.specs.Prelude.{◌≡◌, ◌&&◌, length, take};
+ghost use Rattle.std.specs.Prelude.{◌≡◌, ◌≤◌, ◌&&◌, length, take, IsTrue};
 ghost use Rattle.words.specs.Words.{is_yes, is_padded};
 ghost use Rattle.ft12.specs.Record.{two_valued, receiver_ok, outstanding_ok, in_range};
 
@@ -10,99 +10,63 @@ use hearing::case::server_control;
 use judging::receiver::is_beginning;
 use words::bytes::are_zero;
 
-// Whether each of the three is 0 or 1.
-fn is_two_valued(dropping: u8, expected: u8, send: u8) -> bool
-    ensures { result ≡ two_valued dropping expected send }
+// Whether n bytes are used at most, and the others are 0. In line, which saves two calls a call of the server.
+#[tactic(auto, unfolding(words::specs::Words::is_padded))]
+#[inline(always)]
+fn is_padded(bytes: &[u8], n: usize) -> bool
+    ensures padded { result ≡ is_padded (length bytes.now) n bytes.now }
+    ensures within { IsTrue result → n ≤ length bytes.now }
 {
-    if dropping > 1 {
-        return false;
-    }
-    if expected > 1 {
-        return false;
-    }
-    send <= 1
+    n <= bytes.len() && are_zero(&bytes[n..])
 }
 
-// Whether the receiver's n bytes are a beginning, or none while it drops, and the others 0.
-fn is_receiver_ok(receiver: &[u8], n: usize, dropping: bool) -> bool
-    requires { length receiver.now ≡ 260 }
-    ensures { result ≡ (is_padded 260 n receiver.now
-        && receiver_ok dropping (take n receiver.now)) }
+// Whether each two-valued thing is 0 or 1.
+#[tactic(auto, unfolding(ft12::specs::Record::two_valued))]
+fn is_two_valued(link: &Link) -> bool
+    ensures { result ≡ two_valued link.now.dropping link.now.expected link.now.send }
 {
-    if receiver.len() < n {
-        return false;
-    }
-    if are_zero(&receiver[n..]) {
-        if dropping {
-            return n == 0;
-        }
-        return is_beginning(&receiver[..n]);
-    }
-    false
+    link.dropping <= 1 && link.expected <= 1 && link.send <= 1
 }
 
-// Whether nothing is outstanding, or n bytes that are a whole frame under the send bit, sent again three times at
-// most, and the others are 0.
-fn is_outstanding_ok(outstanding: &[u8], n: usize, send: bool, resends: u8) -> bool
-    requires { length outstanding.now ≡ 261 }
-    ensures { result ≡ (is_padded 261 n outstanding.now
-        && outstanding_ok send resends (take n outstanding.now)) }
+// Whether the receiver's bytes are a beginning, or none while it drops, and the others 0.
+#[tactic(auto, unfolding(ft12::specs::Record::receiver_ok))]
+fn is_receiver_ok(link: &Link) -> bool
+    ensures { result ≡ (is_padded 260 link.now.received link.now.receiver
+        && receiver_ok (is_yes link.now.dropping) (take link.now.received link.now.receiver)) }
 {
-    if outstanding.len() < n {
-        return false;
+    let n = link.received as usize;
+    if !is_padded(&link.receiver, n) {
+        false
+    } else if link.dropping == 1 {
+        n == 0
+    } else {
+        is_beginning(&link.receiver[..n])
     }
-    if are_zero(&outstanding[n..]) {
-        if n == 0 {
-            return resends == 0;
-        }
-        if resends <= MOST_RESENDS {
-            let control = server_control(send);
-            return is_whole(&outstanding[..n], control);
-        }
-        return false;
-    }
-    false
 }
 
-// The range test, on the record's parts.
-fn are_parts_in_range(
-    receiver: &[u8; 260],
-    received: u16,
-    dropping: u8,
-    expected: u8,
-    send: u8,
-    outstanding: &[u8; 261],
-    held: u16,
-    resends: u8,
-) -> bool
-    ensures { result ≡ (is_padded 260 received receiver.now
-        && receiver_ok (is_yes dropping) (take received receiver.now)
-        && (is_padded 261 held outstanding.now
-        && outstanding_ok (is_yes send) resends (take held outstanding.now))
-        && two_valued dropping expected send) }
+// Whether nothing is outstanding, or a whole frame under the send bit, sent again three times at most, and the other
+// bytes are 0.
+#[tactic(auto, unfolding(ft12::specs::Record::outstanding_ok))]
+fn is_outstanding_ok(link: &Link) -> bool
+    ensures { result ≡ (is_padded 261 link.now.held link.now.outstanding
+        && outstanding_ok (is_yes link.now.send) link.now.resends (take link.now.held link.now.outstanding)) }
 {
-    let n = received as usize;
-    if is_receiver_ok(receiver, n, dropping == 1) {
-        let k = held as usize;
-        if is_outstanding_ok(outstanding, k, send == 1, resends) {
-            return is_two_valued(dropping, expected, send);
-        }
+    let n = link.held as usize;
+    if !is_padded(&link.outstanding, n) {
+        false
+    } else if n == 0 {
+        link.resends == 0
+    } else {
+        link.resends <= MOST_RESENDS
+            && is_whole(&link.outstanding[..n], server_control(link.send == 1))
     }
-    false
 }
 
-// Whether the link record is in range.
+// Whether the link record is in range. Not in line: there it would take registers from the loops over the tables.
+#[tactic(auto, unfolding(ft12::specs::Record::in_range, ft12::specs::Record::memory_ok, ft12::specs::Record::line_ok, ft12::specs::Record::line_of))]
+#[inline(never)]
 pub fn in_range(link: &Link) -> bool
     ensures { result ≡ in_range link.now }
 {
-    are_parts_in_range(
-        &link.receiver,
-        link.received,
-        link.dropping,
-        link.expected,
-        link.send,
-        &link.outstanding,
-        link.held,
-        link.resends,
-    )
+    is_receiver_ok(link) && is_outstanding_ok(link) && is_two_valued(link)
 }

@@ -1,26 +1,28 @@
 -- Words against masks: the unused bytes and bits of a record are 0 exactly when two words have no bit of its masks set.
-use Prim.Native.Nat.{ℕ, zero, suc, ◌+◌, ◌-◌, ◌*◌, ◌/◌, ◌%◌, ◌^◌, ◌<◌, ◌≤◌}
-use mathlib.Core.Path.{◌≡◌, refl, sym, ◌∙◌, ap, subst}
-use mathlib.Core.Bool.{Bool, true, false, ◌&&◌, and_assoc, and-true, and-false}
-use mathlib.Core.List.{List, [], ◌∷◌, ◌++◌}
-use native.Mathlib.Omega.{arith}
-use native.Mathlib.Nat.{div-eq_of_lt, mod-lt}
-use lib.ListN.{length, get_or, take, drop, length-drop, take-append-drop}
-use lib.Seq.{drop-cons, drop-nil, take_all}
-use lib.Dec.{leb, ltb, eqb, eqb→eq, ltb→lt, lt→ltb, lit<}
-use lib.Pow.{pow_pos, pow_mono, pow-add, split, shr_mod}
-use lib.Bits.{bit_and, and_high, and_block, and_zero_r}
-use borrow.Author.Tests.{lt-ltb, le-ltb, le-leb, lt-leb, eq-eqb, ne_eqb, leb-true, leb-false, ltb-true, ltb-false}
+use Rattle.std.proofs.Common.{ℕ, zero, suc, ◌+◌, ◌-◌, ◌*◌, ◌/◌, ◌%◌, ◌^◌, ◌<◌, ◌≤◌, ◌≡◌, refl, sym, ◌∙◌, ap, subst, Bool, true, false, ◌&&◌, List, [], ◌∷◌, ◌++◌, arith, mod-lt, length, get_or, take, drop, length-drop, take-append-drop, drop-cons, take_all, leb, ltb, eqb, eqb→eq, ltb→lt, lt→ltb, lit<, pow_pos, pow_mono, pow-add, bit_and, lt-ltb, le-ltb, le-leb, eq-eqb, leb-true, leb-false, ltb-true, ltb-false}
+use Rattle.std.proofs.Math.Bool.{and_assoc, and-true, and-false}
+use Rattle.std.proofs.Math.Nat.{div-eq_of_lt}
+use Rattle.std.proofs.Math.Seq.{drop-nil}
+use Rattle.std.proofs.Math.Pow.{split, shr_mod}
+use Rattle.std.proofs.lemmas.Nat.Bits.{and_high}
+use Rattle.std.proofs.lemmas.Nat.{and_block}
+use Rattle.std.specs.Int.Bits.{and_zero_r}
+use Rattle.std.proofs.lemmas.Bool.{lt-leb}
+use Rattle.std.specs.Int.{w64, from_le_bytes}
 use Rattle.words.specs.Words.{is_yes_or_no, are_zero, is_padded}
 use Rattle.words.proofs.WordLaws.{left, right, both, true_T, same_test}
 use Rattle.baos.specs.declared.datapoint.Datapoint.{Datapoint}
 use Rattle.baos.specs.declared.item.Item.{Item}
-use Rattle.masks.specs.declared.mask.Masks.{Masks}
 use Rattle.baos.specs.Datapoint.{size_of, limit_of, unused_bits_ok, value_of, datapoint_ok}
 use Rattle.baos.specs.Item.{item_ok}
 use Rattle.masks.specs.Mask.{word, bits_from, used_bits, datapoint_masks, item_masks, are_clear}
 use Rattle.baos.proofs.DatapointLaws.{size_fits}
 use Rattle.baos.proofs.ValueLaws.{size_of_bits, limit_of_whole}
+
+-- ---- eight bytes as the library reads them
+pub word_read : (b0 b1 b2 b3 b4 b5 b6 b7 : ℕ) → from_le_bytes w64 (b0 ∷ b1 ∷ b2 ∷ b3 ∷ b4 ∷ b5 ∷ b6 ∷ b7 ∷ []) ≡ word (b0 ∷ b1 ∷ b2 ∷ b3 ∷ b4 ∷ b5 ∷ b6 ∷ b7 ∷ [])
+unfolding word
+word_read b0 b1 b2 b3 b4 b5 b6 b7 = omega arith
 
 -- ---- one word against a mask
 only_rest : (q r n k : ℕ) → q + r ≡ n → q ≡ 0 → r < k → n < k
@@ -204,16 +206,6 @@ clear_tail mark s ys h b =
     ap (λ (k : ℕ). eqb (bit_and k (bits_from 1 8 * 2 ^ m + bits_from (8 * s) m)) 0) (tail_word mark ys)
     ∙ clear_both m mark (bits_from 1 8) (word ys) (bits_from (8 * s) m) (word_below ys b) (omega (arith, pow_pos (8 * s), pow_pos m))
     ∙ (λ i. clear_bytes s ys b i && clear_below mark 1 8 h i)
-
--- ---- one word after the other
-module _ (m : Masks) (low high : ℕ) where
-  pub not_clear : (bit_and low m.low ≡ 0 → ⊥) → are_clear m low high ≡ false
-  unfolding are_clear
-  not_clear n = ap (λ (t : Bool). t && eqb (bit_and high m.high) 0) (ne_eqb (bit_and low m.low) 0 n)
-
-  pub clear_then : bit_and low m.low ≡ 0 → are_clear m low high ≡ eqb (bit_and high m.high) 0
-  unfolding are_clear
-  clear_then e = ap (λ (t : Bool). t && eqb (bit_and high m.high) 0) (eq-eqb (bit_and low m.low) 0 e)
 
 -- ---- a record behind another
 pub not_above : (last id : ℕ) (ok : Bool) → id ≤ last → (ltb last id && ok) ≡ false

@@ -5,3 +5,4 @@
 pub mod datapoint;
 pub mod item;
 pub mod mask;
+pub mod record;

@@ -1,36 +1,31 @@
 // What a burst holds, as the numbers that firmware gets.
 ghost use Rattle.std.specs.Prelude.{◌≡◌};
-ghost use Rattle.ft12.specs.Burst.{ending_number, burst_numbers};
+ghost use Rattle.ft12.specs.Burst.{burst_numbers, reply_of};
 
-use ft12::burst::{BurstNumbers, BurstReply, Ending};
+use ft12::burst::{BAD_BURST, BurstNumbers, BurstRefusal, Figures};
 
-fn ending_number(ending: Ending) -> u8
-    ensures { result ≡ ending_number ending }
+// Minus the refusal's number, or the ending's number and the two counts. A function, and no `From`: both types are
+// those of `ft12`, which has definitions and no code.
+#[tactic(auto, unfolding(ft12::specs::Burst::burst_numbers, ft12::specs::Burst::ending_number))]
+pub fn burst_numbers(read: Result<Figures, BurstRefusal>) -> BurstNumbers
+    ensures { result ≡ burst_numbers (reply_of read) }
 {
-    match ending {
-        Ending::Clean => 1,
-        Ending::Damaged => 2,
-        Ending::Unfinished => 3,
-    }
-}
-
-// Minus the refusal's number, or the ending's number and the two counts.
-pub fn burst_numbers(reply: BurstReply) -> BurstNumbers
-    ensures { result ≡ burst_numbers reply }
-{
-    match reply {
-        BurstReply::Refused(number) => BurstNumbers {
-            number: 0 - (number as i32),
+    match read {
+        Ok(
+            Figures {
+                frames,
+                acknowledgements,
+                ending,
+            },
+        ) => BurstNumbers {
+            number: ending as i32,
+            frames,
+            acknowledgements,
+        },
+        Err(BurstRefusal::TooLong | BurstRefusal::TooFewPlaces) => BurstNumbers {
+            number: -i32::from(BAD_BURST),
             frames: 0,
             acknowledgements: 0,
         },
-        BurstReply::Read(figures) => {
-            let ending = figures.ending;
-            BurstNumbers {
-                number: ending_number(ending) as i32,
-                frames: figures.frames,
-                acknowledgements: figures.acknowledgements,
-            }
-        }
     }
 }

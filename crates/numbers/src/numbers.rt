@@ -1,26 +1,26 @@
 // Events and replies as the numbers that firmware gives and gets.
-ghost use Rattle.std.specs.Prelude.{◌≡◌, ◌<◌, ◌^◌};
-ghost use Rattle.calls.specs.Reply.{sent_count};
+ghost use Rattle.std.specs.Prelude.{if◌then◌else◌, ◌≡◌, ◌<◌, ◌^◌, Some, None};
+ghost use Rattle.calls.specs.Reply.{sent_count, reply_of};
 ghost use Rattle.calls.specs.Numbers.{is_event, outcome_numbered, event_numbered, reply_number};
 
 use baos::bus::Outcome;
 use calls::event::Event;
-use calls::reply::Reply;
+use calls::refusal::Refusal;
 
 // Whether the numbers name an event.
+#[tactic(auto, unfolding(calls::specs::Numbers::is_event))]
 pub fn is_event(event: u8, outcome: u8) -> bool
     ensures { result ≡ is_event event outcome }
 {
-    if event == 6 {
-        return outcome < 3;
+    match event {
+        1..=5 => true,
+        6 => outcome < 3,
+        _ => false,
     }
-    if event < 1 {
-        return false;
-    }
-    event < 6
 }
 
 // Sent, failed or in progress.
+#[tactic(auto, unfolding(calls::specs::Numbers::outcome_numbered))]
 fn outcome_numbered(outcome: u8) -> Outcome
     ensures { result ≡ outcome_numbered outcome }
 {
@@ -31,7 +31,8 @@ fn outcome_numbered(outcome: u8) -> Outcome
     }
 }
 
-// The event of these numbers.
+// The event of these numbers. It cannot fail: where they name none, its definition gives the last.
+#[tactic(auto, unfolding(calls::specs::Numbers::event_numbered))]
 pub fn event_numbered(event: u8, byte: u8, id: u16, outcome: u8) -> Event
     ensures { result ≡ event_numbered event byte id outcome }
 {
@@ -45,13 +46,24 @@ pub fn event_numbered(event: u8, byte: u8, id: u16, outcome: u8) -> Event
     }
 }
 
-// How many bytes are to be sent, or minus the refusal's number.
-pub fn reply_number(reply: Reply) -> i32
-    requires { sent_count reply < 2 ^ 31 }
-    ensures { result ≡ reply_number reply }
+// The same where the numbers name an event.
+pub fn event_named(event: u8, byte: u8, id: u16, outcome: u8) -> Option<Event>
+    ensures { result ≡ (if is_event event outcome then Some (event_numbered event byte id outcome) else None) }
+{
+    if is_event(event, outcome) {
+        Some(event_numbered(event, byte, id, outcome))
+    } else {
+        None
+    }
+}
+
+// How many bytes are to be sent, or minus the refusal's number. No `From`, since neither type is this crate's.
+pub fn reply_number(reply: Result<usize, Refusal>) -> i32
+    requires { sent_count (reply_of reply) < 2 ^ 31 }
+    ensures { result ≡ reply_number (reply_of reply) }
 {
     match reply {
-        Reply::Refused(number) => 0 - (number as i32),
-        Reply::Accepted(count) => count as i32,
+        Ok(count) => count as i32,
+        Err(refusal) => -(refusal.number() as i32),
     }
 }

@@ -3,5 +3,4 @@
 
 pub mod numbers;
 pub mod reading;
-pub mod table;
 pub mod two_octet;

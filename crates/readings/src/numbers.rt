@@ -1,9 +1,12 @@
 // Readings and refusals as the numbers that firmware gets.
 ghost use Rattle.std.specs.Prelude.{◌≡◌};
+ghost use Rattle.dpt.specs.Reply.{reading_reply_of};
 ghost use Rattle.dpt.specs.Numbers.{reading_numbers, reading_reply_numbers};
 
-use dpt::reading::{Reading, ReadingNumbers, ReadingReply};
+use dpt::reading::{Reading, ReadingNumbers, ReadingRefusal};
 
+// Functions and no `From`, which would have to stand beside these types, among the definitions.
+#[tactic(auto, unfolding(dpt::specs::Numbers::reading_numbers))]
 fn reading_numbers(reading: Reading) -> ReadingNumbers
     ensures { result ≡ reading_numbers reading }
 {
@@ -37,15 +40,16 @@ fn reading_numbers(reading: Reading) -> ReadingNumbers
 }
 
 // Minus the refusal's number, or the reading's numbers.
-pub fn reply_numbers(reply: ReadingReply) -> ReadingNumbers
-    ensures { result ≡ reading_reply_numbers reply }
+#[tactic(auto, unfolding(dpt::specs::Numbers::reading_reply_numbers))]
+pub fn reply_numbers(reply: Result<Reading, ReadingRefusal>) -> ReadingNumbers
+    ensures { result ≡ reading_reply_numbers (reading_reply_of reply) }
 {
     match reply {
-        ReadingReply::Refused(number) => ReadingNumbers {
-            number: 0 - (number as i32),
+        Ok(reading) => reading_numbers(reading),
+        Err(refusal) => ReadingNumbers {
+            number: -(refusal.number() as i32),
             whole: 0,
             value: 0.0,
         },
-        ReadingReply::Given(reading) => reading_numbers(reading),
     }
 }

@@ -4,3 +4,4 @@
 
 pub mod bus;
 pub mod datapoint;
+pub mod filter;

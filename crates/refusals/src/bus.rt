@@ -2,34 +2,38 @@
 ghost use Rattle.std.specs.Prelude.{◌≡◌, true};
 ghost use Rattle.baos.specs.Datapoint.{datapoint_id, datapoint_ok};
 ghost use Rattle.baos.specs.Table.{table_ok};
+ghost use Rattle.calls.specs.Reply.{reply_of};
 ghost use Rattle.calls.specs.Promise.{BusEventTaken};
 
 use baos::bus::BusEvent;
 use baos::datapoint::Datapoint;
-use calls::refusal::BAD_BUS_EVENT;
-use calls::reply::Reply;
+use calls::refusal::Refusal;
 use records::bus::{after_byte, after_event, takes_event};
-use tables::table::{datapoint_at, datapoint_place, put_datapoint_at};
+use tables::table::place;
 
-// A bus event about the datapoint of this ID: one look-up, and one record stored; or refusal 4.
-pub fn on_bus_event(event: BusEvent, id: u16, value: &[u8], datapoints: &mut [Datapoint]) -> Reply
+// A bus event about the datapoint of this ID: one look-up, and one record stored. Nothing is sent.
+pub fn on_bus_event(
+    event: BusEvent,
+    id: u16,
+    value: &[u8],
+    datapoints: &mut [Datapoint],
+) -> Result<usize, Refusal>
     requires { table_ok 1000 datapoint_id datapoint_ok datapoints.old ≡ true }
-    ensures { BusEventTaken event id value.now datapoints.old result datapoints.new }
+    ensures { BusEventTaken event id value.now datapoints.old (reply_of result) datapoints.new }
 {
-    let place = datapoint_place(datapoints, id);
+    let place = place(datapoints, id);
     if datapoints.len() <= place {
-        return Reply::Refused(BAD_BUS_EVENT);
+        return Err(Refusal::BadBusEvent);
     }
-    let d = datapoint_at(datapoints, place);
+    let d = datapoints[place];
     if !takes_event(event, id, value, d) {
-        return Reply::Refused(BAD_BUS_EVENT);
+        return Err(Refusal::BadBusEvent);
     }
+    // A value of one byte has a way of its own: the compiler then stores only the bytes that change.
     if value.len() == 1 {
-        let changed = after_byte(event, value[0], d);
-        put_datapoint_at(datapoints, place, changed);
-        return Reply::Accepted(0);
+        datapoints[place] = after_byte(event, value[0], d);
+        return Ok(0);
     }
-    let after = after_event(event, value, d);
-    put_datapoint_at(datapoints, place, after);
-    Reply::Accepted(0)
+    datapoints[place] = after_event(event, value, d);
+    Ok(0)
 }

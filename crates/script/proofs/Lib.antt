@@ -1,1 +1,3 @@
 pub mod LineLaws
+pub mod PlaceLaws
+pub mod RecordLaws

@@ -1,52 +1,40 @@
 -- A line is read byte by byte, and a script line by line.
-use Rattle.std.proofs.Common.{◌≡◌, ℕ, suc, ◌+◌, ◌-◌, ◌*◌, ◌/◌, ◌<◌, ◌≤◌, Bool, true, false, ◌&&◌, eqb, ltb, List, [], ◌∷◌, length, get_or, take, drop, set, replicate, refl, ◌∙◌, add-one, arith, drop_of_length-le, drop-cons, ltb-false, ltb-true, le-ltb, lt-ltb, eq-eqb, ne_eqb}
+use Rattle.std.proofs.Common.{◌≡◌, ℕ, zero, suc, min, ◌+◌, ◌-◌, ◌*◌, ◌/◌, ◌<◌, ◌≤◌, Bool, true, false, eqb, ltb, List, [], ◌∷◌, length, get_or, take, drop, set, refl, ◌∙◌, add-one, arith, ltb-false, ltb-true, eq-eqb, ne_eqb}
+use Rattle.std.proofs.Common.{◌++◌, length-append}
+use Rattle.script.specs.View.{in_places}
+use Rattle.script.proofs.PlaceLaws.{place_next}
 use Rattle.script.specs.Line.{line_end, onto, lines, byte_of, byte_count, written, read_line}
 
-false_true : false ≡ true → ⊥
-false_true e = let z : ◌≡◌ {A = ℕ} 0 1 = cc in omega arith
-
 -- ---- the bytes of a line, one after the other
-pub record Reading (s bytes : List ℕ) (k : ℕ) : Type 0 where
-  pub within : k ≤ 264
-  pub more : 3 * k < length s
-  pub first : bytes ≡ written s k
+pub record Reading (s xs : List ℕ) (k : ℕ) : Type 0 where
+  pub first : in_places 264 0 xs ≡ written s k
+  pub size : length xs ≡ k
 
-pub reading_begins : (s : List ℕ) → 0 < length s → Reading s (replicate 264 0) 0
+pub reading_begins : (s : List ℕ) → Reading s [] 0
 unfolding written
-reading_begins s h = record { within = omega arith; more = omega arith; first = refl }
+reading_begins s = record { first = refl; size = refl }
 
-pub reading_goes : (s bytes : List ℕ) (k at b : ℕ) → at ≡ 3 * k + 3 → b ≡ byte_of (get_or s (at - 1) 0) (get_or s at 0) → k < 264 → at < length s → Reading s bytes k → Reading s (set bytes k b) (k + 1)
+pub reading_goes : (s xs : List ℕ) (k b : ℕ) → b ≡ byte_of (get_or s (3 * k + 2) 0) (get_or s (3 * k + 3) 0) → k < 264 → Reading s xs k → Reading s (xs ++ b ∷ []) (k + 1)
 unfolding written
-reading_goes s bytes k at b p e h m r =
-    let high : at - 1 ≡ 3 * k + 2 = omega (arith, p) in
-    let low : at ≡ 3 * k + 2 + 1 = omega (arith, p) in
-    let f : b ≡ byte_of (get_or s (3 * k + 2) 0) (get_or s (3 * k + 2 + 1) 0) = e ∙ (λ i. byte_of (get_or s (high i) 0) (get_or s (low i) 0)) in
-    record { within = omega arith; more = omega (arith, p); first = rw (add-one, f, r.first) refl }
+reading_goes s xs k b e l r =
+    let low : 3 * k + 3 ≡ 3 * k + 2 + 1 = omega arith in
+    let f : b ≡ byte_of (get_or s (3 * k + 2) 0) (get_or s (3 * k + 2 + 1) 0) = e ∙ (λ i. byte_of (get_or s (3 * k + 2) 0) (get_or s (low i) 0)) in
+    let z : set (in_places 264 0 xs) (length xs) b ≡ set (written s k) k b = λ i. set (r.first i) (r.size i) b in
+    record { first = place_next 264 0 xs b (omega (arith, r.size, l)) ∙ z ∙ rw (add-one, f) refl; size = simp length-append (omega (arith, r.size)) }
 
-count_is : (s : List ℕ) (k : ℕ) → (length s - 1) / 3 ≡ k → k < 264 → byte_count s ≡ k
+count_is : (s : List ℕ) → min ((length s - 1) / 3) 264 ≡ byte_count s
 unfolding byte_count
-count_is s k e h = rw e (simp (lt-ltb k 264 h))
-
-count_full : (s : List ℕ) → 264 ≤ (length s - 1) / 3 → byte_count s ≡ 264
-unfolding byte_count
-count_full s h = simp (le-ltb _ _ h)
-
--- the loop's test: there is a place, and there are two digits
-pub goes_on : (k at n : ℕ) → (ltb k 264 && ltb at n) ≡ true → (k < 264) × (at < n)
-goes_on k at n e = go (ltb k 264) refl (ltb at n) refl e
+count_is s = go (ltb ((length s - 1) / 3) 264) refl
   where
-    go : (t : Bool) → ltb k 264 ≡ t → (u : Bool) → ltb at n ≡ u → (t && u) ≡ true → (k < 264) × (at < n)
-    go true x true y e = (ltb-true k 264 x, ltb-true at n y)
-    go true x false y e = absurd (false_true e)
-    go false x u y e = absurd (false_true e)
+    go : (t : Bool) → ltb ((length s - 1) / 3) 264 ≡ t → min ((length s - 1) / 3) 264 ≡ byte_count s
+    go true e = rw e (omega (arith, ltb-true ((length s - 1) / 3) 264 e))
+    go false e = rw e (omega (arith, ltb-false ((length s - 1) / 3) 264 e))
 
-pub reading_ends : (s bytes : List ℕ) (k at : ℕ) → at ≡ 3 * k + 3 → (ltb k 264 && ltb at (length s)) ≡ false → Reading s bytes k → record { letter = get_or s 0 0; bytes = bytes; size = k } ≡ read_line s
+pub reading_ends : (s xs : List ℕ) (k n : ℕ) → n ≡ min ((length s - 1) / 3) 264 → n ≤ k → k ≤ n → Reading s xs k → record { letter = get_or s 0 0; bytes = in_places 264 0 xs; size = length xs } ≡ read_line s
 unfolding read_line
-reading_ends s bytes k at p e r = rw (r.first, go (ltb k 264) refl e) refl
-  where
-    go : (t : Bool) → ltb k 264 ≡ t → (t && ltb at (length s)) ≡ false → byte_count s ≡ k
-    go true x e = count_is s k (omega (arith, r.more, p, ltb-false at (length s) e)) (ltb-true k 264 x)
-    go false x e = count_full s (omega (arith, r.more, ltb-false k 264 x)) ∙ omega (arith, r.within, ltb-false k 264 x)
+reading_ends s xs k n e l m r =
+    let g : k ≡ byte_count s = omega (arith, e, count_is s) in
+    rw (r.first, r.size, g) refl
 
 pub count_fits : (s : List ℕ) → (read_line s).size ≤ 264
 unfolding read_line byte_count
@@ -57,32 +45,20 @@ count_fits s = go (ltb ((length s - 1) / 3) 264) refl
     go false e = rw e (omega arith)
 
 -- ---- the end of a line
-pub record Seeking (s : List ℕ) (i : ℕ) : Type 0 where
-  pub within : i ≤ length s
-  pub ahead : line_end s ≡ i + line_end (drop i s)
-
-pub seeking_begins : (s : List ℕ) → Seeking s 0
-seeking_begins s = record { within = omega arith; ahead = omega arith }
-
-pub seeking_goes : (s : List ℕ) (i : ℕ) → i < length s → (get_or s i 0 ≡ 10 → ⊥) → Seeking s i → Seeking s (i + 1)
+pub end_found : (s : List ℕ) (i : ℕ) → i < length s → get_or s i 0 ≡ 10 → ((k : ℕ) → k < i → get_or s k 0 ≡ 10 → ⊥) → i + 1 ≡ line_end s
 unfolding line_end
-seeking_goes s i l h r =
-    let d : drop i s ≡ get_or s i 0 ∷ drop (i + 1) s = rw add-one (drop-cons s i 0 l) in
-    let e : line_end (drop i s) ≡ suc (line_end (drop (i + 1) s)) = rw (d, ne_eqb (get_or s i 0) 10 h) refl in
-    record { within = omega arith; ahead = r.ahead ∙ omega (arith, e) }
+end_found [] i l e h = absurd (omega (arith, l))
+end_found (x ∷ xs) zero l e h = rw (eq-eqb x 10 e) refl
+end_found (x ∷ xs) (suc i) l e h =
+    let r = end_found xs i (omega (arith, l)) e (λ k m. h (suc k) (omega (arith, m))) in
+    rw (ne_eqb x 10 (h 0 (omega arith))) (omega (arith, r))
 
-pub seeking_found : (s : List ℕ) (i : ℕ) → i < length s → get_or s i 0 ≡ 10 → Seeking s i → i + 1 ≡ line_end s
+pub end_absent : (s : List ℕ) → ((k : ℕ) → k < length s → get_or s k 0 ≡ 10 → ⊥) → length s ≡ line_end s
 unfolding line_end
-seeking_found s i l h r =
-    let d : drop i s ≡ get_or s i 0 ∷ drop (suc i) s = drop-cons s i 0 l in
-    let e : line_end (drop i s) ≡ 1 = rw (d, eq-eqb (get_or s i 0) 10 h) refl in
-    omega (arith, r.ahead, e)
-
-pub seeking_ends : (s : List ℕ) (i : ℕ) → length s ≤ i → Seeking s i → i ≡ line_end s
-unfolding line_end
-seeking_ends s i l r =
-    let e : line_end (drop i s) ≡ 0 = rw (drop_of_length-le s l) refl in
-    omega (arith, r.ahead, e)
+end_absent [] h = refl
+end_absent (x ∷ xs) h =
+    let r = end_absent xs (λ k m. h (suc k) (omega (arith, m))) in
+    rw (ne_eqb x 10 (h 0 (omega arith))) (omega (arith, r))
 
 -- ---- the first line, and the others
 onto-next : (x : ℕ) (ys : List ℕ) → (0 < length ys → lines ys ≡ take (line_end ys) ys ∷ lines (drop (line_end ys) ys))

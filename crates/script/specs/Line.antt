@@ -1,6 +1,5 @@
 -- A script's text: its lines, and what stands in one.
 use Rattle.std.specs.Prelude.{if◌then◌else◌, ℕ, zero, suc, ◌+◌, ◌-◌, ◌*◌, ◌/◌, ◌%◌, List, [], ◌∷◌, length, take, replicate, ◌==◌, nat_lt, slice_index, slice_set}
-use Rattle.script.specs.declared.line.Line.{Line}
 
 -- ---- lines
 
@@ -19,6 +18,12 @@ lines [] = []
 lines (x ∷ xs) = if x == 10 then (x ∷ []) ∷ lines xs else onto x (lines xs)
 
 -- ---- a letter, and bytes of a blank and two digits each
+
+-- the bytes stand in the first places of 264, as many as the size says
+pub record Line : Type 0 where
+  pub letter : ℕ
+  pub bytes : List ℕ
+  pub size : ℕ
 
 -- 0 to 9 are 30 to 39 hex, A to F are 41 to 46
 abbrev pub digit_of : ℕ → ℕ

@@ -1,13 +1,15 @@
 // A script is text, in lines. Each has its end, \n, in it. A line is text for the trace; or a small letter and the bytes
 // behind it, each a blank and two hexadecimal digits, as the papers have them.
 ghost use Rattle.std.specs.Prelude.{◌≡◌, ◌<◌, length};
-ghost use Rattle.script.specs.Line.{digit_of, read_line, line_end};
+ghost use Rattle.script.specs.Line.{digit_of, line_end};
 
-#[derive(Clone, Copy)]
+use arrayvec::ArrayVec;
+
+// The bytes are up to 264.
+#[derive(Debug, Drop)]
 pub struct Line {
     pub letter: u8,
-    pub bytes: [u8; 264],
-    pub size: usize,
+    pub bytes: ArrayVec<u8, 264>,
 }
 
 // The value of a digit, 0 to 9 or A to F.
@@ -17,23 +19,64 @@ fn digit(d: u8) -> u8
     (d % 16 + d / 64 * 9) % 16
 }
 
-// The letter of a line, which is not empty, and its bytes, up to 264 of them.
-pub fn read(s: &[u8]) -> Line
-    requires { 0 < length s.now }
-    ensures { result ≡ read_line s.now }
-{
-    let mut bytes = [0u8; 264];
-    let mut k: usize = 0;
-    let mut at: usize = 3;
-    while (k < 264) & (at < s.len()) {
-        bytes[k] = digit(s[at - 1]) * 16 + digit(s[at]);
-        k = k + 1;
-        at = at + 3;
+impl Line {
+    ghost use Rattle.std.specs.Prelude.{◌+◌, ◌≤◌, slice_index, take, drop, replicate};
+    ghost use Rattle.script.specs.Line.{read_line};
+    ghost use Rattle.script.specs.View.{line_of};
+
+    // No letter, and no bytes.
+    pub fn empty() -> Line
+        ensures { line_of result ≡ record { letter = 0; bytes = replicate 264 0; size = 0 } }
+    {
+        Line {
+            letter: 0,
+            bytes: ArrayVec::new(),
+        }
     }
-    Line {
-        letter: s[0],
-        bytes: bytes,
-        size: k,
+
+    // The line of a text, which is not empty.
+    pub fn read(text: &[u8]) -> Line
+        requires { 0 < length text.now }
+        ensures { line_of result ≡ read_line text.now }
+    {
+        let mut bytes = ArrayVec::new();
+        // By place, as the definition `written` goes; `chunks_exact` is no plainer.
+        for k in 0..((text.len() - 1) / 3).min(264) {
+            bytes.push(digit(text[3 * k + 2]) * 16 + digit(text[3 * k + 3]));
+        }
+        Line {
+            letter: text[0],
+            bytes,
+        }
+    }
+
+    // The byte at a place; 0 behind the last.
+    pub fn byte(&self, at: usize) -> u8
+        ensures { result ≡ slice_index (line_of self.now).bytes at }
+    {
+        self.bytes.get(at).copied().unwrap_or(0)
+    }
+
+    // The N bytes from a place on, with 0 behind the last.
+    pub fn array<const N: usize>(&self, from: usize) -> [u8; N]
+        requires { from + N ≤ 264 }
+        ensures { result ≡ take N (drop from (line_of self.now).bytes) }
+    {
+        let mut bytes = [0; N];
+        for (k, byte) in bytes.iter_mut().enumerate() {
+            *byte = self.byte(from + k);
+        }
+        bytes
+    }
+
+    // The same line once more.
+    pub fn copy(&self) -> Line
+        ensures { line_of result ≡ line_of self.now }
+    {
+        Line {
+            letter: self.letter,
+            bytes: self.bytes.clone().unwrap(),
+        }
     }
 }
 
@@ -41,12 +84,8 @@ pub fn read(s: &[u8]) -> Line
 pub fn line_end(s: &[u8]) -> usize
     ensures { result ≡ line_end s.now }
 {
-    let mut i: usize = 0;
-    while i < s.len() {
-        if s[i] == b'\n' {
-            return i + 1;
-        }
-        i = i + 1;
+    match s.iter().position(|b| *b == b'\n') {
+        Some(i) => i + 1,
+        None => s.len(),
     }
-    i
 }

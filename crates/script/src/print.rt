@@ -1,71 +1,72 @@
 // The trace, on standard output. No contract can say what is written: these functions are proved safe and ending.
+use arrayvec::ArrayString;
+use std::fmt::{self, Write};
+
 // Standard output, as the C library numbers it.
 const STDOUT_FILENO: i32 = 1;
 
+// The bytes of a script, as they stand there.
 pub fn text(s: &[u8]) {
     io::write_all(STDOUT_FILENO, s);
 }
 
-// What stands in front of the byte at place i: nothing, a blank, or a new line, which has 24 bytes.
-fn gap(i: usize) {
-    if i % 24 != 0 {
-        text(b" ");
-        return;
-    }
-    if i != 0 {
-        text(b"\n            ");
+// Standard output. What can't be written is left out.
+#[derive(Drop)]
+struct Output;
+
+impl fmt::Write for Output {
+    fn write_str(&mut self, s: &str) -> fmt::Result {
+        text(s.as_bytes());
+        Ok(())
     }
 }
 
-// A byte in hexadecimal.
-fn byte(b: u8) {
-    let high = b / 16;
-    let low = b % 16;
-    text(&[b'0' + high + high / 10 * 7, b'0' + low + low / 10 * 7]);
-}
+// Bytes in hexadecimal, 24 in a line.
+#[derive(Drop)]
+struct Hex<'a>(&'a [u8]);
 
-// Bytes, and the end of their last line.
-fn bytes(s: &[u8]) {
-    let mut i: usize = 0;
-    while i < s.len() {
-        gap(i);
-        byte(s[i]);
-        i = i + 1;
+impl fmt::Display for Hex<'_> {
+    fn fmt<W: fmt::Write>(&self, f: &mut fmt::Formatter<W>) -> fmt::Result {
+        for (i, byte) in self.0.iter().enumerate() {
+            let gap = match i {
+                0 => "",
+                _ if i % 24 == 0 => "\n            ",
+                _ => " ",
+            };
+            // Both digits in one write: a write that fails leaves no half of a byte.
+            let mut digits = ArrayString::<2>::new();
+            write!(digits, "{byte:02X}")?;
+            write!(f, "{gap}{digits}")?;
+        }
+        Ok(())
     }
-    text(b"\n");
 }
 
 // What is sent at once: nothing, a frame, or an acknowledgement and perhaps a frame behind it.
-pub fn frames(label: &[u8], s: &[u8]) {
-    text(label);
-    if s.len() == 0 {
-        text(b"nothing\n");
-        return;
-    }
-    if s[0] != 0xE5 {
-        bytes(s);
-        return;
-    }
-    text(b"E5\n            acknowledgement\n");
-    if 1 < s.len() {
-        text(label);
-        bytes(&s[1..]);
-    }
+pub fn frames(label: &str, sent: &[u8]) {
+    let _ = match sent {
+        [] => write!(Output, "{label}nothing\n"),
+        [0xE5] => write!(Output, "{label}E5\n            acknowledgement\n"),
+        [0xE5, frame @ ..] => write!(
+            Output,
+            "{label}E5\n            acknowledgement\n{label}{}\n",
+            Hex(frame)
+        ),
+        _ => write!(Output, "{label}{}\n", Hex(sent)),
+    };
 }
 
 // How many cases there are, and how many of them went as the papers say.
 pub fn counted(count: u8, right: u8) {
-    io::print_decimal(STDOUT_FILENO, count as u64);
-    text(b" cases, ");
-    io::print_decimal(STDOUT_FILENO, right as u64);
-    text(b" as the paper says\n");
+    let _ = write!(Output, "{count} cases, {right} as the paper says\n");
 }
 
 // The last words of a case.
 pub fn verdict(right: bool) {
-    if right {
-        text(b"   as the paper says");
-        return;
-    }
-    text(b"   NOT as the paper says");
+    let words = if right {
+        "   as the paper says"
+    } else {
+        "   NOT as the paper says"
+    };
+    text(words.as_bytes());
 }

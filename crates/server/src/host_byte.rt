@@ -5,12 +5,12 @@ ghost use Rattle.ft12.specs.Record.{line_of, in_range};
 ghost use Rattle.ft12.specs.Rules.{on_host_byte};
 ghost use Rattle.baos.specs.Text.{text_lists};
 ghost use Rattle.baos.specs.Table.{tables_of, well_formed};
+ghost use Rattle.calls.specs.Reply.{Accepted};
 ghost use Rattle.calls.specs.Call.{accepted, on_moved};
-ghost use Rattle.calls.specs.Promise.{Leaves, acknowledgement_of, request_l};
+ghost use Rattle.calls.specs.Promise.{Leaves, acknowledgement_of};
 
 use baos::datapoint::Datapoint;
 use baos::item::Item;
-use calls::reply::Reply;
 use frames::frame::put_acknowledgement;
 use ft12::record::Link;
 use ft12::rules::Heard;
@@ -25,42 +25,16 @@ fn acknowledge(heard: Heard, out: &mut [u8]) -> usize
         × (result ≡ length (acknowledgement_of heard)) }
 {
     match heard {
-        Heard::Gathered => 0,
-        Heard::Dropped => 0,
-        Heard::Ignored => 0,
-        Heard::Acknowledged => 0,
-        Heard::Reset => {
+        Heard::Gathered | Heard::Dropped | Heard::Ignored | Heard::Acknowledged => 0,
+        Heard::Reset | Heard::Repeat | Heard::Request(_) => {
             put_acknowledgement(out, 0);
             1
         }
-        Heard::Repeat => {
-            put_acknowledgement(out, 0);
-            1
-        }
-        Heard::Request(_) => {
-            put_acknowledgement(out, 0);
-            1
-        }
-    }
-}
-
-// The request's L, by which the link finds its message; 0 where there is no request.
-fn request_l(heard: Heard) -> u8
-    ensures { result ≡ request_l heard }
-{
-    match heard {
-        Heard::Gathered => 0,
-        Heard::Dropped => 0,
-        Heard::Ignored => 0,
-        Heard::Acknowledged => 0,
-        Heard::Reset => 0,
-        Heard::Repeat => 0,
-        Heard::Request(l) => l,
     }
 }
 
 // A host byte. A request's message is carried out where it stands in the receiver, and its answer is framed in the
-// output right after the acknowledgement.
+// output right after the acknowledgement. Answers how many bytes are to be sent.
 pub fn on_host_byte<'a>(
     b: u8,
     datapoints: &mut [Datapoint],
@@ -70,26 +44,25 @@ pub fn on_host_byte<'a>(
     defaults: &'a [u8],
     link: &mut Link,
     out: &mut [u8],
-) -> Reply
+) -> usize
     requires { T (well_formed (tables_of datapoints.old items.old parameters.old
         (text_lists site.now defaults.now))) × T (in_range link.old) × (262 ≤ length out.old) }
     ensures { Leaves (accepted out.old (on_moved (on_host_byte b (line_of link.old))
         (tables_of datapoints.old items.old parameters.old
-        (text_lists site.now defaults.now)))) result
+        (text_lists site.now defaults.now)))) (Accepted result)
         (tables_of datapoints.new items.new parameters.new
         (text_lists site.now defaults.now)) link.new out.new }
 {
     let heard = host_byte(link, b);
     let sent = acknowledge(heard, out);
-    let l = request_l(heard);
-    if l == 0 {
-        return Reply::Accepted(sent);
-    }
+    let Heard::Request(l) = heard else {
+        return sent;
+    };
     let message = request_message(&link.receiver, l);
     let answered = carry_out(
         datapoints, items, parameters, site, defaults, message, out, ANSWER_AT,
     );
     clear_request(link);
     let framed = take_message(link, out, ANSWER_FRAME_AT, answered - ANSWER_AT);
-    Reply::Accepted(framed + ANSWER_FRAME_AT)
+    framed + ANSWER_FRAME_AT
 }

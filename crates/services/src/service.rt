@@ -4,35 +4,19 @@ ghost use Rattle.baos.specs.Datapoint.{datapoint_id, datapoint_ok};
 ghost use Rattle.baos.specs.Item.{item_id, item_ok};
 ghost use Rattle.baos.specs.Text.{text_lists, text_lists_ok};
 ghost use Rattle.baos.specs.Table.{tables_of, table_ok};
-ghost use Rattle.baos.specs.Service.{unanswered, carried_out};
+ghost use Rattle.baos.specs.Service.{carried_out};
 ghost use Rattle.baos.specs.Inner.Promise.{Carried};
 
-use baos::code::SERVICE_NOT_SUPPORTED;
+use baos::code::Code;
 use baos::datapoint::Datapoint;
+use baos::inner::Fault;
 use baos::item::Item;
-use baos::service::{
-    ANSWER, GET_DATAPOINT_DESCRIPTION, GET_DATAPOINT_VALUE, GET_DESCRIPTION_STRING,
-    GET_PARAMETER_BYTE, GET_SERVER_ITEM, MAIN_SERVICE, MESSAGE_HEAD, SET_DATAPOINT_VALUE,
-    SET_PARAMETER_BYTE, SET_SERVER_ITEM,
-};
+use baos::service::Service;
 use gets::get::{get_datapoints, get_items, get_parameters};
-use messages::message::{put_coded, start_of, sub_service_of};
+use messages::message::{Request, start_of, sub_service_of};
 use parameters::parameter::set_parameters;
 use sets::set::{set_datapoints, set_items};
 use strings::get::get_strings;
-
-// Whether the message gets no answer.
-fn is_unanswered(m: &[u8]) -> bool
-    ensures { result ≡ unanswered m.now }
-{
-    if m.len() < MESSAGE_HEAD {
-        return true;
-    }
-    if m[0] != MAIN_SERVICE {
-        return true;
-    }
-    ANSWER <= m[1]
-}
 
 // A message carried out: the answer, into the buffer at `at`, or nothing where none is due; answers where it ends.
 pub fn carry_out<'a>(
@@ -54,34 +38,24 @@ pub fn carry_out<'a>(
         out.old at result out.new datapoints.new items.new
         parameters.new }
 {
-    if is_unanswered(m) {
+    let Some(request) = Request::new(m) else {
         return at;
+    };
+    let Ok(service) = Service::try_from(sub_service_of(request.message)) else {
+        let fault = Fault {
+            id: start_of(request.message),
+            code: Code::ServiceNotSupported,
+        };
+        return request.put_fault(out, at, fault);
+    };
+    match service {
+        Service::GetServerItem => get_items(items, request, out, at),
+        Service::SetServerItem => set_items(items, request, out, at),
+        Service::GetDatapointDescription => get_datapoints(datapoints, request, false, out, at),
+        Service::GetDescriptionString => get_strings(datapoints, site, defaults, request, out, at),
+        Service::GetDatapointValue => get_datapoints(datapoints, request, true, out, at),
+        Service::SetDatapointValue => set_datapoints(datapoints, request, out, at),
+        Service::GetParameterByte => get_parameters(parameters, request, out, at),
+        Service::SetParameterByte => set_parameters(parameters, request, out, at),
     }
-    let sub = sub_service_of(m);
-    if sub == GET_SERVER_ITEM {
-        return get_items(items, m, out, at);
-    }
-    if sub == SET_SERVER_ITEM {
-        return set_items(items, m, out, at);
-    }
-    if sub == GET_DATAPOINT_DESCRIPTION {
-        return get_datapoints(datapoints, m, false, out, at);
-    }
-    if sub == GET_DESCRIPTION_STRING {
-        return get_strings(datapoints, site, defaults, m, out, at);
-    }
-    if sub == GET_DATAPOINT_VALUE {
-        return get_datapoints(datapoints, m, true, out, at);
-    }
-    if sub == SET_DATAPOINT_VALUE {
-        return set_datapoints(datapoints, m, out, at);
-    }
-    if sub == GET_PARAMETER_BYTE {
-        return get_parameters(parameters, m, out, at);
-    }
-    if sub == SET_PARAMETER_BYTE {
-        return set_parameters(parameters, m, out, at);
-    }
-    let start = start_of(m);
-    put_coded(out, at, m, start, SERVICE_NOT_SUPPORTED)
 }

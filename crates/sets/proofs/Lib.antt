@@ -1,1 +1,1 @@
-mod SetLoops
+pub mod Loops

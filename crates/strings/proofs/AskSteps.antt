@@ -1,23 +1,21 @@
--- The laws of the get of strings, exit by exit, of what its callees answer: v, w, from, g and u.
-use Prim.Native.Nat.{ℕ, ◌+◌, ◌≤◌}
-use mathlib.Core.Path.{◌≡◌, sym, ◌∙◌, ap}
-use mathlib.Core.Bool.{Bool, true, false, not}
-use mathlib.Core.List.{List}
-use native.Mathlib.Omega.{arith}
-use lib.ListN.{length, drop}
-use lib.Dec.{T, eqb}
-use borrow.Author.Tests.{eq-eqb, ne_eqb}
+-- The laws of the get of strings, exit by exit, of what its callees answer: v, w, from, g and u; and then of what its
+-- checks say.
+use Rattle.std.proofs.Common.{ℕ, ◌+◌, ◌≤◌, ◌≡◌, refl, sym, ◌∙◌, ap, Bool, true, false, not, List, arith, length, drop, T, eqb, Ok, Err, inl, inr, subst, eq-eqb, ne_eqb}
 use Rattle.words.specs.Words.{put}
 use Rattle.words.proofs.ByteLaws.{length-put}
 use Rattle.words.proofs.WordLaws.{true_T}
 use Rattle.baos.specs.declared.datapoint.Datapoint.{Datapoint}
-use Rattle.baos.specs.declared.inner.Gathered.{Gathered}
-use Rattle.baos.specs.declared.inner.Verdict.{Verdict}
+use Rattle.baos.specs.Inner.Gather.{Gathered}
+use Rattle.baos.specs.Message.{Verdict}
 use Rattle.baos.specs.declared.inner.Wanted.{Wanted}
 use Rattle.baos.specs.Datapoint.{datapoint_id, datapoint_ok}
 use Rattle.baos.specs.Table.{datapoints_with_texts, place, table_ok}
 use Rattle.baos.specs.Text.{TextLists}
-use Rattle.baos.specs.Message.{coded, verdict_of}
+use Rattle.baos.specs.declared.inner.Fault.{Fault}
+use Rattle.baos.specs.Message.{coded, verdict_of, code_number}
+use Rattle.gets.proofs.MeasureSteps.{code_some}
+use Rattle.gets.specs.Measure.{Checked}
+use Rattle.gets.specs.declared.found.Entries.{Entries}
 use Rattle.baos.specs.Get.{get_description_string}
 use Rattle.baos.specs.Inner.Gather.{request_finding, gathered_verdict, wanted_of, walked, nothing_gathered}
 use Rattle.baos.specs.Inner.Strings.{string_step, strings_built}
@@ -87,3 +85,30 @@ module _ (ts : TextLists) (m : List ℕ) (ds : List Datapoint) (ok : table_ok 10
             buffer = p.buffer ∙ (λ i. put ((h.buffer ∙ ap (λ (x : Gathered). put out at (head_of m x.count)) string_summed) i) (k i) (string_bytes i)) ∙ q.buffer;
             ends = p.ends ∙ (λ i. k i + length (string_bytes i)) ∙ q.ends;
           }
+
+-- ---- what the checks say
+module _ (ts : TextLists) (m : List ℕ) (ds : List Datapoint) (ok : table_ok 1000 datapoint_id datapoint_ok ds ≡ true) (out : List ℕ) (at : ℕ) where
+  abbrev asked : Wanted
+  asked = wanted_of false m
+
+  pub strings_faulty : (f : Fault) {n : ℕ} {o : List ℕ}
+      → Checked (request_finding false m) asked.start (walked (string_step ts asked) nothing_gathered (drop (place datapoint_id asked.start ds) ds)) (Err f)
+      → Written out at (coded m f.id (code_number f.code)) n o → Written out at (get_description_string (datapoints_with_texts ds ts) m).says n o
+  unfolding verdict_of
+  strings_faulty f (inl e) p = strings_turned_away ts m ds ok out at (sym (ap verdict_of e)) (code_some f.code) p
+  strings_faulty f (inr (e, q)) p = strings_found_none ts m ds ok out at (sym (ap verdict_of e)) refl refl refl refl (sym q) (code_some f.code) p
+
+  module _ (e : Entries) {w : Wanted} {from : ℕ} (ew : w ≡ wanted_of false m) (ef : from ≡ place datapoint_id w.start ds)
+      (c : Checked (request_finding false m) w.start (walked (string_step ts w) nothing_gathered (drop from ds)) (Ok e)) (room : at + 254 ≤ length out)
+      {end : ℕ} {head : List ℕ} (h : Written out at (head_of m e.count) end head) where
+    pub strings_room : end + length (strings_built ts w (drop from ds)) ≤ length head
+    unfolding verdict_of
+    strings_room =
+        strings_have_room ts m ds ok out at (sym (ap verdict_of c.0)) refl ew ef refl (sym c.1.0) refl room
+        (subst (λ (n : ℕ). Written out at (head_of m n) end head) c.1.1 h)
+
+    pub strings_done : {n : ℕ} {o : List ℕ} → Written head end (strings_built ts w (drop from ds)) n o → Written out at (get_description_string (datapoints_with_texts ds ts) m).says n o
+    unfolding verdict_of
+    strings_done p =
+        strings_answered ts m ds ok out at (sym (ap verdict_of c.0)) refl ew ef refl (sym c.1.0) refl room
+        (subst (λ (n : ℕ). Written out at (head_of m n) end head) c.1.1 h) p

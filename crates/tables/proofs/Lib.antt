@@ -1,2 +1,3 @@
-pub mod Blanks
+mod HalvingLaws
+mod RisenLaws
 mod SearchLaws

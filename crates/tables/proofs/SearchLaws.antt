@@ -1,257 +1,162 @@
--- The search for the place of an ID, look by look: what is known of the records behind and in front of those that are left. Generic over the records.
-use mathlib.Core.Path.{◌≡◌, refl, sym, ◌∙◌, ap, subst}
-use Prim.Native.Nat.{ℕ, zero, suc, ◌<◌, ◌≤◌, ◌+◌, ◌-◌, ◌*◌, ◌/◌}
-use native.Mathlib.Omega.{arith}
-use native.Mathlib.Nat.{lt_irrefl}
-use mathlib.Core.Bool.{Bool, true, false, not}
-use mathlib.Core.List.{List}
-use lib.ListN.{length, get_or, take, drop, length-drop}
-use lib.Seq.{get_or-drop, drop-drop, take_all}
-use lib.Dec.{T, T_not}
+-- The search for the place of an ID, look by look: what is known of the records in front of those that are left, and behind.
+use Rattle.std.proofs.Common.{◌≡◌, ℕ, zero, suc, ◌+◌, ◌-◌, ◌*◌, ◌%◌, ◌^◌, ◌<◌, ◌≤◌, Bool, true, false, List, [], ◌∷◌, length, get_or, take, drop, sym, ap, ◌∙◌, refl, arith, length-drop, mod-eq_of_lt, pow_pos, pow_mono}
+use Rattle.std.specs.Prelude.{min}
+use Rattle.std.proofs.lemmas.Bool.{false≢true}
+use Rattle.std.proofs.lemmas.List.{get_or_read, get_or-drop, drop-drop, take_all}
 use Rattle.baos.specs.Table.{place}
 use Rattle.baos.proofs.PlaceLaws.{id_at, Rising, lower, higher, place_is}
 
--- a width that is halved k times: a power of two each time, and then 0
-pub Halving : ℕ → ℕ → Type 0
-Halving zero w = w ≡ 0
-Halving (suc k) w = (2 * (w / 2) - 1 ≡ w - 1) × Halving k (w / 2)
-
-pub halved : (k w : ℕ) → Halving k w → 0 < w → 2 * (w / 2) - 1 ≡ w - 1
-unfolding Halving
-halved zero w h l = absurd (lt_irrefl 0 (omega (arith, h, l)))
-halved (suc k) w h l = h.0
-
-pub halves : (k w : ℕ) → Halving k w → 0 < w → Halving (k - 1) (w / 2)
-unfolding Halving
-halves zero w h l = absurd (lt_irrefl 0 (omega (arith, h, l)))
-halves (suc k) w h l = subst (λ (j : ℕ). Halving j (w / 2)) {x = k} {y = suc k - 1} (omega arith) h.1
-
-pub halving_512 : Halving 10 512
-unfolding Halving
-halving_512 = (refl, (refl, (refl, (refl, (refl, (refl, (refl, (refl, (refl, (refl, refl))))))))))
-
-module _ {A : Type 0} (id_of : A → ℕ) (blank : A) (xs : List A) (id : ℕ) where
+module _ {A : Type 0} (id_of : A → ℕ) (xs : List A) (id : ℕ) where
   abbrev n : ℕ
   n = length xs
 
-  abbrev ids : ℕ → ℕ
-  ids = id_at id_of blank xs
+  -- how many records are left where fewer than `limit` can be
+  abbrev left : ℕ → ℕ
+  left limit = min n (limit - 1)
 
-  -- `left` records are left, from `at` on; once it is begun they are one less than twice the width
-  pub record Searching (begun : Bool) (width at left : ℕ) : Type 0 where
-    pub inside : at + left ≤ n
-    pub below : (i : ℕ) → i < at → ids i < id
-    pub above : (i : ℕ) → at + left ≤ i → i < n → id ≤ ids i
-    pub going : T begun → left ≡ 2 * width - 1
-    pub fresh : T (not begun) → (at ≡ 0) × (n < 2 * width)
+  -- Where the loop stands: in front of `rest` all IDs are lower, and behind its first `left limit` records none is. Once it
+  -- is begun, the table has as many records as the limit. A record is read with some record for places past the end.
+  pub record Standing (begun : Bool) (limit : ℕ) (rest : List A) : Type 0 where
+    pub inside : length rest ≤ n
+    pub enough : left limit ≤ length rest
+    pub is_rest : rest ≡ drop (n - length rest) xs
+    pub below : (blank : A) (i : ℕ) → i < n - length rest → id_at id_of blank xs i < id
+    pub above : (blank : A) (i : ℕ) → n - length rest + left limit ≤ i → i < n → id ≤ id_at id_of blank xs i
+    pub going : begun ≡ true → limit ≤ n
+    pub fresh : begun ≡ false → n < limit
 
-  -- where the loop stands: `rest` is what is left of the table, from `at` on, and the width can be halved down to 0
-  pub record Standing (begun : Bool) (width : ℕ) (rest : List A) : Type 0 where
-    pub turns : ℕ
-    pub at : ℕ
-    pub left : ℕ
-    pub known : Searching begun width at left
-    pub halving : Halving turns width
-    pub few : width ≤ 512
-    pub behind : at ≤ n
-    pub is_rest : rest ≡ drop at xs
+  pub stand_begins : (limit : ℕ) → n < limit → Standing false limit xs
+  stand_begins limit l =
+      record {
+        inside = omega arith;
+        enough = omega arith;
+        is_rest = ap (λ (k : ℕ). drop k xs) {x = 0} {y = n - n} (omega arith);
+        below = λ b i u. absurd (omega (arith, u));
+        above = λ b i u v. absurd (omega (arith, u, v, l));
+        going = λ e. absurd (false≢true e);
+        fresh = λ e. l;
+      }
 
-  module _ (rise : Rising id_of blank xs) where
-    pub search_begins : (width : ℕ) → n < 2 * width → Searching false width 0 n
-    search_begins width l =
+  pub none_lower : n ≡ 0 → 0 ≡ place id_of id xs
+  unfolding place
+  none_lower e = go xs e
+    where
+      go : (ys : List A) → length ys ≡ 0 → 0 ≡ place id_of id ys
+      go [] e = refl
+      go (y ∷ ys) e = absurd (omega (arith, e))
+
+  -- no record is left
+  pub stand_ends : (begun : Bool) (rest : List A) → 0 < n → Standing begun 1 rest → n - length rest ≡ place id_of id xs
+  stand_ends begun rest some s = go xs refl
+    where
+      go : (ys : List A) → xs ≡ ys → n - length rest ≡ place id_of id xs
+      go [] e = absurd (omega (arith, some, ap length e))
+      go (y ∷ ys) e = place_is id_of y id xs (n - length rest) (omega arith) (s.below y) (λ i u v. s.above y i (omega (arith, u)) v)
+
+  -- one look, `width` from the end of what is left
+  module _ (begun : Bool) (limit width : ℕ) (rest : List A) (s : Standing begun limit rest) (twice : limit ≡ 2 * width) (some : 0 < width) where
+    -- the table has fewer records than the width
+    pub stand_narrower : begun ≡ false → n < width → Standing begun width rest
+    stand_narrower off u =
         record {
-          inside = omega arith;
-          below = λ i u. absurd (lt_irrefl 0 (omega (arith, u)));
-          above = λ i u v. absurd (lt_irrefl i (omega (arith, u, v)));
-          going = λ t. absurd t;
-          fresh = λ t. (refl, l);
+          inside = s.inside;
+          enough = omega (arith, u, s.enough, twice);
+          is_rest = s.is_rest;
+          below = s.below;
+          above = λ b i v w. s.above b i (omega (arith, u, v, twice)) w;
+          going = λ e. absurd (false≢true (sym off ∙ e));
+          fresh = λ e. u;
         }
 
-    module _ (begun : Bool) (width at left : ℕ) (h : Searching begun width at left) where
-      -- nothing is left
-      pub search_ends : 0 < n → width ≤ 0 → at ≡ place id_of id xs
-      search_ends some l = go begun h.going h.fresh
+    module _ (rise : (blank : A) → Rising id_of blank xs) (wide : width ≤ n) (next : Bool) (on : next ≡ true)
+        (look : ℕ) (there : look ≡ left limit - width) (x : A) (read : x ≡ get_or rest look x) where
+      look_in : look < length rest
+      look_in = omega (arith, s.enough, twice, some, wide, there)
+
+      id_is : (blank : A) → id_of x ≡ id_at id_of blank xs (n - length rest + look)
+      id_is blank = ap id_of (get_or_read rest look x look_in read blank ∙ ap (λ (ys : List A). get_or ys look blank) s.is_rest ∙ get_or-drop (n - length rest) xs look blank)
+
+      pub stand_before : id ≤ id_of x → Standing next width rest
+      stand_before u =
+          record {
+            inside = s.inside;
+            enough = omega (arith, s.enough, twice, some, wide);
+            is_rest = s.is_rest;
+            below = s.below;
+            above = λ b i v w. higher id_of b xs (rise b) id (n - length rest + look) (omega (arith, u, id_is b)) i (omega (arith, v, there, twice, some, wide)) w;
+            going = λ e. wide;
+            fresh = λ e. absurd (false≢true (sym e ∙ on));
+          }
+
+      pub stand_behind : id_of x < id → (k : ℕ) → k ≡ look + 1 → Standing next width (take (length rest - k) (drop k rest))
+      stand_behind u k past =
+          record {
+            inside = omega (arith, long, s.inside);
+            enough = omega (arith, long, s.enough, twice, some, wide, there, past);
+            is_rest = whole ∙ ap (drop k) s.is_rest ∙ drop-drop k (n - length rest) xs ∙ ap (λ (j : ℕ). drop j xs) {x = n - length rest + k} (omega (arith, long, s.inside, past, look_in));
+            below = λ b i v. lower id_of b xs (rise b) id (n - length rest + look) (omega (arith, s.inside, look_in)) (omega (arith, u, id_is b)) i (omega (arith, v, long, past, s.inside, look_in));
+            above = λ b i v w. s.above b i (omega (arith, v, long, past, there, twice, some, wide, s.inside, look_in)) w;
+            going = λ e. wide;
+            fresh = λ e. absurd (false≢true (sym e ∙ on));
+          }
         where
-          go : (b : Bool) → (T b → left ≡ 2 * width - 1) → (T (not b) → (at ≡ 0) × (n < 2 * width)) → at ≡ place id_of id xs
-          go true g f = place_is id_of blank id xs at (omega (arith, h.inside)) h.below (λ i u v. h.above i (omega (arith, u, g tt, l)) v)
-          go false g f = absurd (lt_irrefl n (omega (arith, (f tt).1, l)))
+          whole : take (length rest - k) (drop k rest) ≡ drop k rest
+          whole = take_all (length rest - k) (drop k rest) (omega (arith, length-drop k rest))
 
-      module _ (some : 0 < width) (even : 2 * (width / 2) - 1 ≡ width - 1) where
-        -- begun: the record in the middle
-        module _ (on : T begun) where
-          pub middle_in : at + (width - 1) < n
-          middle_in = omega (arith, h.inside, h.going on, some)
+          long : length (take (length rest - k) (drop k rest)) ≡ length rest - k
+          long = ap length whole ∙ length-drop k rest
 
-          pub search_behind : ids (at + (width - 1)) < id → Searching begun (width / 2) (at + width) (width - 1)
-          search_behind u =
-              record {
-                inside = omega (arith, h.inside, h.going on, some);
-                below = λ i v. lower id_of blank xs rise id (at + (width - 1)) middle_in u i (omega (arith, v, some));
-                above = λ i v w. h.above i (omega (arith, v, h.going on, some)) w;
-                going = λ t. sym even;
-                fresh = λ t. absurd (T_not begun t on);
-              }
+  -- ---- the widths, which are powers of two
+  halved : (power : ℕ) → 0 < power → 2 ^ power ≡ 2 * 2 ^ (power - 1)
+  halved zero some = elim some [ ]
+  halved (suc power) some = let before : suc power - 1 ≡ power = omega arith in omega (arith, ap (λ (k : ℕ). 2 ^ k) before)
 
-          pub search_before : id ≤ ids (at + (width - 1)) → Searching begun (width / 2) at (width - 1)
-          search_before u =
-              record {
-                inside = omega (arith, middle_in);
-                below = h.below;
-                above = λ i v w. higher id_of blank xs rise id (at + (width - 1)) u i v w;
-                going = λ t. sym even;
-                fresh = λ t. absurd (T_not begun t on);
-              }
+  one : (power : ℕ) → power ≤ 0 → 2 ^ power ≡ 1
+  one power none = ap (λ (k : ℕ). 2 ^ k) {x = power} {y = 0} (omega (arith, none))
 
-        -- not begun: the first look, `width` from the end
-        module _ (off : T (not begun)) where
-          module _ (enough : width ≤ n) where
-            pub first_in : n - width < n
-            first_in = omega (arith, enough, some)
+  abbrev shifted : ℕ → ℕ
+  shifted power = 1 * 2 ^ power % 18446744073709551616
 
-            pub first_behind : ids (n - width) < id → Searching true (width / 2) (n - width + 1) (width - 1)
-            first_behind u =
-                record {
-                  inside = omega (arith, enough, some);
-                  below = λ i v. lower id_of blank xs rise id (n - width) first_in u i v;
-                  above = λ i v w. absurd (lt_irrefl i (omega (arith, v, w, enough, some)));
-                  going = λ t. sym even;
-                  fresh = λ t. absurd t;
-                }
+  shifted_is : (power : ℕ) → power ≤ 10 → shifted power ≡ 2 ^ power
+  shifted_is power few = let low : 2 ^ power ≤ 2 ^ 10 = pow_mono few in omega (arith, low, mod-eq_of_lt {n = 1 * 2 ^ power} {m = 18446744073709551616} (omega (arith, low)))
 
-            pub first_before : id ≤ ids (n - width) → Searching true (width / 2) at (width - 1)
-            first_before u =
-                record {
-                  inside = omega (arith, enough, (h.fresh off).0);
-                  below = h.below;
-                  above = λ i v w. higher id_of blank xs rise id (n - width) u i (omega (arith, v, (h.fresh off).1, some)) w;
-                  going = λ t. sym even;
-                  fresh = λ t. absurd t;
-                }
+  -- ---- a turn of the loop
+  module _ (begun : Bool) (power : ℕ) (rest : List A) (s : Standing begun (2 ^ power) rest) where
+    pub turns_end : 0 < n → power ≤ 0 → n - length rest ≡ place id_of id xs
+    turns_end filled none = stand_ends begun rest filled (rw (one power none) at s)
 
-          -- the table has fewer
-          pub search_narrower : 0 < n → n < width → Searching begun (width / 2) at left
-          search_narrower l u =
-              record {
-                inside = h.inside;
-                below = h.below;
-                above = h.above;
-                going = λ t. absurd (T_not begun off t);
-                fresh = λ t. ((h.fresh off).0, omega (arith, l, u, even));
-              }
+    module _ (rise : (blank : A) → Rising id_of blank xs) (few : power ≤ 10) (some : 0 < power) (x : A) where
+      abbrev width : ℕ
+      width = shifted (power - 1)
 
-    -- ---- `rest`, look by look
-    pub stand_begins : n ≤ 1000 → Standing false 512 xs
-    stand_begins l =
-        record {
-          turns = 10;
-          at = 0;
-          left = n;
-          known = search_begins 512 (omega (arith, l));
-          halving = halving_512;
-          few = omega arith;
-          behind = omega arith;
-          is_rest = refl;
-        }
+      positive : 0 < 2 ^ (power - 1)
+      positive = pow_pos (power - 1)
 
-    module _ (begun : Bool) (width : ℕ) (rest : List A) (s : Standing begun width rest) where
-      -- so many records are left
-      pub as_long : length rest ≡ n - s.at
-      as_long = ap length s.is_rest ∙ length-drop s.at xs
+      same : width ≡ 2 ^ (power - 1)
+      same = shifted_is (power - 1) (omega (arith, few))
 
-      pub stand_ends : 0 < n → width ≤ 0 → n - length rest ≡ place id_of id xs
-      stand_ends some l = omega (arith, as_long, s.behind) ∙ search_ends begun width s.at s.left s.known some l
+      module _ (on : begun ≡ true) (read : x ≡ get_or rest (width - 1) x) where
+        wide : 2 ^ (power - 1) ≤ n
+        wide = omega (arith, s.going on, halved power some)
 
-      module _ (some : 0 < width) where
-        even : 2 * (width / 2) - 1 ≡ width - 1
-        even = halved s.turns width s.halving some
+        there : width - 1 ≡ left (2 ^ power) - 2 ^ (power - 1)
+        there = omega (arith, s.going on, halved power some, same)
 
-        ahead : (k : ℕ) → take (length rest - k) (drop k rest) ≡ drop (s.at + k) xs
-        ahead k = take_all (length rest - k) (drop k rest) (omega (arith, length-drop k rest)) ∙ ap (drop k) s.is_rest ∙ drop-drop k s.at xs
+        pub middle_behind : id_of x < id → Standing begun (2 ^ (power - 1)) (take (length rest - width) (drop width rest))
+        middle_behind u = stand_behind begun (2 ^ power) (2 ^ (power - 1)) rest s (halved power some) positive rise wide begun on (width - 1) there x read u width (omega (arith, same, positive))
 
-        read : (i : ℕ) → id_of (get_or rest i blank) ≡ ids (s.at + i)
-        read i = ap (λ (ys : List A). id_of (get_or ys i blank)) s.is_rest ∙ ap id_of (get_or-drop s.at xs i blank)
+        pub middle_before : id ≤ id_of x → Standing begun (2 ^ (power - 1)) rest
+        middle_before u = stand_before begun (2 ^ power) (2 ^ (power - 1)) rest s (halved power some) positive rise wide begun on (width - 1) there x read u
 
-        -- the record in the middle
-        module _ (on : T begun) where
-          middle : s.at + (width - 1) < n
-          middle = middle_in begun width s.at s.left s.known some even on
+      module _ (off : begun ≡ false) (enough : width ≤ n) (read : x ≡ get_or rest (n - width) x) where
+        filled : 2 ^ (power - 1) ≤ n
+        filled = omega (arith, enough, same)
 
-          pub stand_behind : id_of (get_or rest (width - 1) blank) < id → Standing begun (width / 2) (take (length rest - width) (drop width rest))
-          stand_behind u =
-              record {
-                turns = s.turns - 1;
-                at = s.at + width;
-                left = width - 1;
-                known = search_behind begun width s.at s.left s.known some even on (omega (arith, u, read (width - 1)));
-                halving = halves s.turns width s.halving some;
-                few = omega (arith, s.few);
-                behind = omega (arith, middle, some);
-                is_rest = ahead width;
-              }
+        end : n - width ≡ left (2 ^ power) - 2 ^ (power - 1)
+        end = omega (arith, s.fresh off, halved power some, same)
 
-          pub stand_before : id ≤ id_of (get_or rest (width - 1) blank) → Standing begun (width / 2) rest
-          stand_before u =
-              record {
-                turns = s.turns - 1;
-                at = s.at;
-                left = width - 1;
-                known = search_before begun width s.at s.left s.known some even on (omega (arith, u, read (width - 1)));
-                halving = halves s.turns width s.halving some;
-                few = omega (arith, s.few);
-                behind = s.behind;
-                is_rest = s.is_rest;
-              }
+        pub first_behind : id_of x < id → Standing true (2 ^ (power - 1)) (take (length rest - (n - width + 1)) (drop (n - width + 1) rest))
+        first_behind u = stand_behind begun (2 ^ power) (2 ^ (power - 1)) rest s (halved power some) positive rise filled true refl (n - width) end x read u (n - width + 1) refl
 
-        -- the first look
-        module _ (off : T (not begun)) where
-          module _ (enough : width ≤ n) where
-            at_first : s.at + (n - width) ≡ n - width
-            at_first = omega (arith, (s.known.fresh off).0)
-
-            first : n - width < n
-            first = first_in begun width s.at s.left s.known some even off enough
-
-            read_first : id_of (get_or rest (n - width) blank) ≡ ids (n - width)
-            read_first = read (n - width) ∙ ap ids at_first
-
-            pub stand_first_behind : id_of (get_or rest (n - width) blank) < id → Standing true (width / 2) (take (length rest - (n - width + 1)) (drop (n - width + 1) rest))
-            stand_first_behind u =
-                record {
-                  turns = s.turns - 1;
-                  at = n - width + 1;
-                  left = width - 1;
-                  known = first_behind begun width s.at s.left s.known some even off enough (omega (arith, u, read_first));
-                  halving = halves s.turns width s.halving some;
-                  few = omega (arith, s.few);
-                  behind = omega (arith, first);
-                  is_rest = ahead (n - width + 1) ∙ ap (λ (k : ℕ). drop k xs) next;
-                }
-              where
-                next : s.at + (n - width + 1) ≡ n - width + 1
-                next = omega (arith, (s.known.fresh off).0)
-
-            pub stand_first_before : id ≤ id_of (get_or rest (n - width) blank) → Standing true (width / 2) rest
-            stand_first_before u =
-                record {
-                  turns = s.turns - 1;
-                  at = s.at;
-                  left = width - 1;
-                  known = first_before begun width s.at s.left s.known some even off enough (omega (arith, u, read_first));
-                  halving = halves s.turns width s.halving some;
-                  few = omega (arith, s.few);
-                  behind = s.behind;
-                  is_rest = s.is_rest;
-                }
-
-          pub stand_narrower : 0 < n → n < width → Standing begun (width / 2) rest
-          stand_narrower filled u =
-              record {
-                turns = s.turns - 1;
-                at = s.at;
-                left = s.left;
-                known = search_narrower begun width s.at s.left s.known some even off filled u;
-                halving = halves s.turns width s.halving some;
-                few = omega (arith, s.few);
-                behind = s.behind;
-                is_rest = s.is_rest;
-              }
+        pub first_before : id ≤ id_of x → Standing true (2 ^ (power - 1)) rest
+        first_before u = stand_before begun (2 ^ power) (2 ^ (power - 1)) rest s (halved power some) positive rise filled true refl (n - width) end x read u

@@ -15,10 +15,13 @@ use dpt::reading::ReadingNumbers;
 use ft12::burst::BurstNumbers;
 use ft12::record::Link;
 use numbers::burst::burst_numbers;
-use numbers::numbers::{event_numbered, is_event, reply_number};
+use numbers::numbers::{event_named, reply_number};
 use readings::numbers::reply_numbers;
 use readings::reading::reading;
 use server::call::call;
+
+// The answer where the numbers name no event.
+const NO_EVENT: i32 = -100;
 
 // One event, by numbers. Answers how many bytes of the output are to be sent, or a number below 0, with nothing
 // altered.
@@ -43,14 +46,12 @@ pub extern "C" fn tagobrelin_call<'a>(
         (tables_of datapoints.new items.new parameters.new
         (text_lists site.now defaults.now)) link.new out.new }
 {
-    if !is_event(event, outcome) {
-        return -100;
-    }
-    let happened = event_numbered(event, byte, id, outcome);
-    let reply = call(
-        happened, value, datapoints, items, parameters, site, defaults, link, out,
-    );
-    reply_number(reply)
+    let Some(event) = event_named(event, byte, id, outcome) else {
+        return NO_EVENT;
+    };
+    reply_number(call(
+        event, value, datapoints, items, parameters, site, defaults, link, out,
+    ))
 }
 
 // The reading of the datapoint of an ID, by numbers. The table is only read.
@@ -58,8 +59,7 @@ pub extern "C" fn tagobrelin_call<'a>(
 pub extern "C" fn tagobrelin_read(id: u16, datapoints: &[Datapoint]) -> ReadingNumbers
     ensures { result ≡ reading_reply_numbers (reading_for id datapoints.now) }
 {
-    let reply = reading(id, datapoints);
-    reply_numbers(reply)
+    reply_numbers(reading(id, datapoints))
 }
 
 // What a burst holds, by numbers: where each frame and each acknowledgement starts goes into the run.
@@ -67,15 +67,15 @@ pub extern "C" fn tagobrelin_read(id: u16, datapoints: &[Datapoint]) -> ReadingN
 pub extern "C" fn tagobrelin_read_burst(burst: &[u8], starts: &mut [u16]) -> BurstNumbers
     ensures { BurstGives (read_burst burst.now starts.old) result starts.new }
 {
-    let reply = read_burst(burst, starts);
-    burst_numbers(reply)
+    burst_numbers(read_burst(burst, starts))
 }
 
-// The link record that a reset leaves, by value.
-fn fresh_link() -> Link
-    ensures { result ≡ link_of fresh_line }
+// A link record for the first call: the one that a reset leaves.
+#[unsafe(no_mangle)]
+pub extern "C" fn tagobrelin_fresh_link(link: &mut Link)
+    ensures { link.new ≡ link_of fresh_line }
 {
-    Link {
+    *link = Link {
         receiver: [0; 260],
         received: 0,
         dropping: 0,
@@ -84,14 +84,5 @@ fn fresh_link() -> Link
         outstanding: [0; 261],
         held: 0,
         resends: 0,
-    }
-}
-
-// A link record for the first call.
-#[unsafe(no_mangle)]
-pub extern "C" fn tagobrelin_fresh_link(link: &mut Link)
-    ensures { link.new ≡ link_of fresh_line }
-{
-    let fresh = fresh_link();
-    *link = fresh;
+    };
 }

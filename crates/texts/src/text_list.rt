@@ -15,34 +15,27 @@ pub fn id_at(list: &[u8], at: usize) -> u16
     requires { at + 3 ≤ length list.now }
     ensures { result ≡ of_two_bytes (get_or list.now at 0) (get_or list.now (at + 1) 0) }
 {
-    list[at] as u16 * 256 + list[at + 1] as u16
+    u16::from_be_bytes([list[at], list[at + 1]])
 }
 
 // Whether the bytes are a text list, in one pass.
 pub fn text_list_ok(list: &[u8]) -> bool
     ensures { result ≡ text_list_ok list.now }
 {
-    let mut at: usize = 0;
+    let mut rest = list;
     // The lowest ID that may come next.
     let mut least: u32 = 0;
-    while at < list.len() {
-        let left = list.len() - at;
-        if left < ENTRY_HEAD {
+    while !rest.is_empty() {
+        let [high, low, size, behind @ ..] = rest else {
             return false;
-        }
-        let size = list[at + 2] as usize;
-        if LONGEST_TEXT < size {
-            return false;
-        }
-        if left < ENTRY_HEAD + size {
-            return false;
-        }
-        let id = id_at(list, at) as u32;
-        if id < least {
+        };
+        let size = *size as usize;
+        let id = *high as u32 * 256 + *low as u32;
+        if LONGEST_TEXT < size || behind.len() < size || id < least {
             return false;
         }
         least = id + 1;
-        at += ENTRY_HEAD + size;
+        rest = &behind[size..];
     }
     true
 }
@@ -51,10 +44,7 @@ pub fn text_list_ok(list: &[u8]) -> bool
 pub fn text_lists_ok<'a>(site: &'a [u8], defaults: &'a [u8]) -> bool
     ensures { result ≡ text_lists_ok (text_lists site.now defaults.now) }
 {
-    if !text_list_ok(site) {
-        return false;
-    }
-    text_list_ok(defaults)
+    text_list_ok(site) && text_list_ok(defaults)
 }
 
 // Where the first entry begins that has this ID or a higher one, from `at` on; the list's end where there is none.
@@ -63,10 +53,8 @@ pub fn text_place(list: &[u8], at: usize, id: u16) -> usize
     ensures { result ≡ place_of id list.now }
 {
     let mut place = at;
-    while place < list.len() {
-        if id <= id_at(list, place) {
-            return place;
-        }
+    // The entries are of different sizes.
+    while place < list.len() && id_at(list, place) < id {
         place += ENTRY_HEAD + list[place + 2] as usize;
     }
     place

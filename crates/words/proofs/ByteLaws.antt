@@ -1,15 +1,12 @@
 -- Laws of bytes: tested to be 0, made 0, written over a part of a buffer.
-use Prim.Native.Nat.{ℕ, zero, suc, ◌+◌, ◌-◌, ◌<◌, ◌≤◌}
-use mathlib.Core.Path.{◌≡◌, refl, ap, sym, ◌∙◌}
-use mathlib.Core.List.{List, [], ◌∷◌, ◌++◌, append_assoc}
-use mathlib.Core.Bool.{Bool, true, false, ◌&&◌, and-true, and-false, and_assoc}
-use native.Mathlib.Omega.{arith}
+use Rattle.std.proofs.Common.{◌≡◌, ℕ, ◌+◌, ◌-◌, ◌<◌, ◌≤◌, Bool, true, false, ◌&&◌, eqb, List, [], ◌∷◌, ◌++◌, length, get_or, take, drop, bit_or, fold, sym, refl, ap, ◌∙◌, append_assoc, arith, length-append, length-take, length-drop, take-append-drop, length-take-le, take_at, drop_at, drop-drop, take-take, get_or-append-add, get_or-take, get_or-drop, ne_eqb}
+use mathlib.Core.Bool.{and-true, and_assoc}
 use native.Mathlib.Decide.{ℕ_discrete}
-use lib.ListN.{get_or-append, length, take, drop, get_or, set, replicate, length-append, length-take, length-drop, take-append-drop}
-use lib.Seq.{take_all, take-suc, take-take, take-add, take-append-le, take_at, drop_at, drop-drop, drop-append-add, length-take-le, get_or-append-add, get_or-take, get_or-drop, sets, sets-eq}
-use lib.Bits.{bit_or, or_zero_l, or_add_and, and_le_r}
-use lib.Dec.{eqb}
-use borrow.Author.Tests.{ne_eqb}
+use lib.Bits.{or_zero_l, or_add_and, and_le_r}
+use Rattle.std.proofs.lemmas.List.{take-append-le, drop-append-le}
+use Rattle.std.proofs.lemmas.List.Edits.{sets, sets-eq}
+use lib.ListN.{get_or-append}
+use lib.Seq.{drop-append-add}
 use Rattle.words.specs.Words.{are_zero, put}
 
 -- ---- bytes tested to be 0
@@ -20,62 +17,50 @@ or_zero a b = go (ℕ_discrete a 0)
     go (yes e) = rw e (ap (λ (k : ℕ). eqb k 0) (or_zero_l b))
     go (no n) = ne_eqb (bit_or a b) 0 (λ e. n (omega (arith, or_add_and a b, and_le_r a b))) ∙ sym (ap (λ (t : Bool). t && eqb b 0) (ne_eqb a 0 n))
 
-and_first : (a b : Bool) → (a && b) ≡ true → a ≡ true
-and_first true b e = refl
-and_first false b e = e
-
-pub zero_none : are_zero [] ≡ true
+-- by the bits that any byte has
+pub zero_folded : (s : List ℕ) (any : ℕ) → eqb (fold bit_or any s) 0 ≡ (eqb any 0 && are_zero s)
 unfolding are_zero
-zero_none = refl
+zero_folded [] any = sym (and-true (eqb any 0))
+zero_folded (x ∷ s) any = zero_folded s (bit_or any x) ∙ ap (λ (t : Bool). t && are_zero s) (or_zero any x) ∙ and_assoc (eqb any 0) (eqb x 0) (are_zero s)
+
+and_second : (a b : Bool) → (a && b) ≡ true → b ≡ true
+and_second true b e = e
+and_second false true e = refl
+and_second false false e = e
 
 zero_append : (xs ys : List ℕ) → are_zero (xs ++ ys) ≡ (are_zero xs && are_zero ys)
 unfolding are_zero
 zero_append [] ys = refl
 zero_append (x ∷ xs) ys = ap (λ (t : Bool). eqb x 0 && t) (zero_append xs ys) ∙ sym (and_assoc (eqb x 0) (are_zero xs) (are_zero ys))
 
-zero_one : (x : ℕ) → are_zero (x ∷ []) ≡ eqb x 0
-unfolding are_zero
-zero_one x = and-true (eqb x 0)
+-- s from its start up to `rest`, all of it 0
+pub record ZeroUpTo (s rest : List ℕ) : Type 0 where
+  pub passed : List ℕ
+  pub split : s ≡ passed ++ rest
+  pub zero : are_zero passed ≡ true
 
--- one byte more, by the bits that any byte has
-pub zero_next : (s : List ℕ) (j any : ℕ) → j < length s → eqb any 0 ≡ are_zero (take j s) → eqb (bit_or any (get_or s j 0)) 0 ≡ are_zero (take (suc j) s)
-zero_next s j any h e =
-    or_zero any (get_or s j 0)
-    ∙ (λ i. e i && sym (zero_one (get_or s j 0)) i)
-    ∙ sym (ap are_zero (take-suc s j 0 h) ∙ zero_append (take j s) (get_or s j 0 ∷ []))
+pub zero_none : (s : List ℕ) → ZeroUpTo s s
+zero_none s = record { passed = []; split = refl; zero = unfold are_zero in refl }
 
--- where s is cut in two
-zero_cut : (k : ℕ) (s : List ℕ) → are_zero s ≡ (are_zero (take k s) && are_zero (drop k s))
-zero_cut k s = ap are_zero (sym (take-append-drop k s)) ∙ zero_append (take k s) (drop k s)
+pub zero_more : (s run rest : List ℕ) → ZeroUpTo s (run ++ rest) → are_zero run ≡ true → ZeroUpTo s rest
+zero_more s run rest z e =
+    record {
+      passed = z.passed ++ run;
+      split = z.split ∙ sym (append_assoc z.passed run rest);
+      zero = zero_append z.passed run ∙ rw (z.zero, e);
+    }
 
-zero_fewer : (s : List ℕ) (k i : ℕ) → k ≤ i → are_zero (take i s) ≡ true → are_zero (take k s) ≡ true
-zero_fewer s k i h e = ap are_zero (sym (take-take k i s h)) ∙ and_first (are_zero (take k (take i s))) (are_zero (drop k (take i s))) (sym (zero_cut k (take i s)) ∙ e)
+pub zero_fails : (s run rest : List ℕ) → ZeroUpTo s (run ++ rest) → are_zero run ≡ false → are_zero s ≡ false
+zero_fails s run rest z e = ap are_zero z.split ∙ rw (zero_append z.passed (run ++ rest), z.zero, zero_append run rest, e)
 
-pub zero_more : (s : List ℕ) (i n : ℕ) → are_zero (take i s) ≡ true → are_zero (take n (drop i s)) ≡ true → are_zero (take (i + n) s) ≡ true
-zero_more s i n p q = ap are_zero (take-add i n s) ∙ zero_append (take i s) (take n (drop i s)) ∙ (λ k. p k && q k)
-
-pub zero_fails : (s : List ℕ) (i n : ℕ) → are_zero (take n (drop i s)) ≡ false → are_zero s ≡ false
-zero_fails s i n e =
-    zero_cut i s ∙ ap (λ (t : Bool). are_zero (take i s) && t) (zero_cut n (drop i s) ∙ ap (λ (t : Bool). t && are_zero (drop n (drop i s))) e) ∙ and-false (are_zero (take i s))
-
--- the first i bytes are 0, and the last n are tested
-pub zero_last : (s : List ℕ) (k i n : ℕ) → k ≤ i → k + n ≡ length s → are_zero (take i s) ≡ true → are_zero (take n (drop k s)) ≡ are_zero s
-zero_last s k i n h l e =
-    ap are_zero (take_all n (drop k s) (omega (arith, length-drop k s))) ∙ sym (zero_cut k s ∙ ap (λ (t : Bool). t && are_zero (drop k s)) (zero_fewer s k i h e))
-
-pub zero_all : (s : List ℕ) (n : ℕ) → length s ≤ n → are_zero (take n (drop 0 s)) ≡ are_zero s
-zero_all s n h = ap are_zero (take_all n s h)
-
--- ---- bytes made 0
-pub blank_next : (s : List ℕ) (i : ℕ) → i < length s → set (replicate i 0 ++ drop i s) i 0 ≡ replicate (suc i) 0 ++ drop (suc i) s
-blank_next [] i h = absurd (omega arith)
-blank_next (x ∷ s) zero h = refl
-blank_next (x ∷ s) (suc i) h = ap (λ (r : List ℕ). 0 ∷ r) (blank_next s i (omega arith))
-
-pub length_blank : (s : List ℕ) (i : ℕ) → i ≤ length s → length (replicate i 0 ++ drop i s) ≡ length s
-length_blank s zero h = refl
-length_blank [] (suc i) h = absurd (omega arith)
-length_blank (x ∷ s) (suc i) h = ap suc (length_blank s i (omega arith))
+-- the last bytes, more than `rest` has, are tested anew
+pub zero_last : (s rest : List ℕ) (k : ℕ) → ZeroUpTo s rest → k + length rest ≤ length s → are_zero (drop k s) ≡ are_zero s
+zero_last s rest k z h =
+    let n : k ≤ length z.passed = omega (arith, ap length z.split, length-append z.passed rest) in
+    let p : (are_zero (take k z.passed) && are_zero (drop k z.passed)) ≡ true = sym (zero_append (take k z.passed) (drop k z.passed)) ∙ ap are_zero (take-append-drop k z.passed) ∙ z.zero in
+    ap (λ (l : List ℕ). are_zero (drop k l)) z.split
+    ∙ rw (drop-append-le k z.passed rest n, zero_append (drop k z.passed) rest, and_second (are_zero (take k z.passed)) (are_zero (drop k z.passed)) p)
+    (sym (ap are_zero z.split ∙ zero_append z.passed rest ∙ ap (λ (t : Bool). t && are_zero rest) z.zero))
 
 -- ---- bytes written over a part of a buffer
 pub length-put : (l : List ℕ) (at : ℕ) (vs : List ℕ) → at + length vs ≤ length l → length (put l at vs) ≡ length l

@@ -1,14 +1,8 @@
 -- Laws of the words that all definitions share: tests taken apart and put together, lists compared, arrays padded.
-use Prim.Native.Nat.{ℕ, zero, suc, ◌+◌, ◌-◌, ◌≤◌, ◌<◌}
-use mathlib.Core.Path.{◌≡◌, refl, sym, ◌∙◌, ap}
-use mathlib.Core.Logic.{◌↔◌}
-use mathlib.Core.Bool.{Bool, true, false, not, ◌&&◌}
-use mathlib.Core.List.{List, [], ◌∷◌, ◌++◌, map}
-use native.Mathlib.Omega.{arith}
-use lib.ListN.{length, get_or, take, drop, replicate, length-append, length-drop, length-replicate, take-append-drop}
-use lib.Seq.{take_all, take-append_seam, drop-append_seam, get_or-drop, length-take-le}
-use lib.Dec.{T, eqb, leb, ltb, eqb→eq, eqb_refl, leb→le, le→leb, ltb→lt, lt→ltb}
-use borrow.Author.Tests.{eq-eqb}
+use Rattle.std.proofs.Common.{◌≡◌, ℕ, zero, suc, ◌+◌, ◌-◌, ◌≤◌, ◌<◌, Bool, true, false, not, ◌&&◌, T, eqb, leb, ltb, ◌↔◌, List, [], ◌∷◌, ◌++◌, map, length, get_or, take, drop, replicate, refl, sym, ◌∙◌, ap, arith, length-append, length-drop, take-append-drop, length-take-le, get_or-drop, take_all, eqb→eq, leb→le, le→leb, ltb→lt, lt→ltb, eq-eqb}
+use lib.ListN.{length-replicate}
+use lib.Seq.{take-append_seam, drop-append_seam}
+use lib.Dec.{eqb_refl}
 use Rattle.words.specs.Words.{is_yes_or_no, is_yes, yes_or_no, is_empty, every, keep, pad, same, same_by, are_zero, is_padded, Padded, are_bytes}
 
 -- ---- tests

@@ -1,19 +1,12 @@
 // Bytes tested, made 0 and copied, by the words that all definitions share.
-ghost use Rattle.std.specs.Prelude.{◌≡◌, ◌++◌, ◌+◌, ◌≤◌, length, take, drop, replicate};
+ghost use Rattle.std.specs.Prelude.{◌≡◌, ◌++◌, ◌+◌, ◌≤◌, length, drop, replicate};
 ghost use Rattle.words.specs.Words.{are_zero, put};
 
-// Whether the n bytes from `at` on are 0. No early exit, so that it is compiled to wide loads.
-fn run_is_zero(s: &[u8], at: usize, n: usize) -> bool
-    requires { at + n ≤ length s.now }
-    ensures { result ≡ are_zero (take n (drop at s.now)) }
+// Whether a run of bytes is 0. No early exit, so that it is compiled to wide loads.
+fn run_is_zero(run: &[u8]) -> bool
+    ensures { result ≡ are_zero run.now }
 {
-    let mut any: u8 = 0;
-    let mut j = 0;
-    while j < n {
-        any = any | s[at + j];
-        j += 1;
-    }
-    any == 0
+    run.iter().fold(0, |any, byte| any | byte) == 0
 }
 
 // Whether every byte is 0: 32 at a time, the last 32 anew.
@@ -22,40 +15,32 @@ pub fn are_zero(s: &[u8]) -> bool
 {
     let n = s.len();
     if n < 32 {
-        return run_is_zero(s, 0, n);
+        return run_is_zero(s);
     }
-    let last = n - 32;
-    let mut i = 0;
-    while i < last {
-        if run_is_zero(s, i, 32) {
-            i += 32;
-        } else {
+    for run in s.chunks_exact(32) {
+        if !run_is_zero(run) {
             return false;
         }
     }
-    run_is_zero(s, last, 32)
+    run_is_zero(&s[n - 32..])
 }
 
-// Makes the first n bytes 0.
+// Makes the first n bytes 0. By a loop: `fill` stores the last byte by itself.
 pub fn blank(s: &mut [u8], n: usize)
     requires { n ≤ length s.old }
     ensures { s.new ≡ replicate n 0 ++ drop n s.old }
 {
-    let mut i = 0;
-    while i < n {
-        s[i] = 0;
-        i += 1;
+    for byte in &mut s[..n] {
+        *byte = 0;
     }
 }
 
-// Writes the bytes s into the buffer, from `at` on.
+// Writes the bytes s into the buffer, from `at` on. By a loop: `copy_from_slice` tests first whether they overlap.
 pub fn put_bytes(out: &mut [u8], at: usize, s: &[u8])
     requires { at + length s.now ≤ length out.old }
     ensures { out.new ≡ put out.old at s.now }
 {
-    let mut i = 0;
-    while i < s.len() {
-        out[at + i] = s[i];
-        i += 1;
+    for (i, byte) in s.iter().enumerate() {
+        out[at + i] = *byte;
     }
 }

@@ -6,11 +6,9 @@ use Rattle.words.specs.Words.{is_yes, two_bytes}
 use Rattle.baos.specs.declared.datapoint.Datapoint.{Datapoint}
 use Rattle.baos.specs.declared.item.Item.{Item}
 use Rattle.baos.specs.declared.inner.Wanted.{Wanted}
-use Rattle.baos.specs.declared.inner.Gathered.{Gathered}
 use Rattle.baos.specs.Datapoint.{size_of, handed_out}
-use Rattle.baos.specs.declared.inner.Verdict.{Verdict}
 use Rattle.baos.specs.Table.{Tables}
-use Rattle.baos.specs.Message.{start_of, number_of, filter_of, Finding, fine, bad, Served}
+use Rattle.baos.specs.Message.{start_of, number_of, filter_of, Finding, fine, bad, Verdict, Served}
 use Rattle.baos.specs.Get.{AnswerEntry, room_for_entries, item_entry, description_entry, get_datapoint_description}
 use Rattle.baos.specs.Get.{value_entry, passes, get_datapoint_value}
 use Rattle.baos.specs.Indication.{Choice, reported}
@@ -42,6 +40,14 @@ unfoldable pub left_of : Wanted → Datapoint → Datapoint
 left_of w d = if w.values then handed_out d else d
 
 -- ---- the first pass
+-- what it has found: how many entries, and how many bytes they take; the ID of the first that does not fit, 0 where all
+-- do; and whether it has ended, so that nothing after this is looked at
+pub record Gathered : Type 0 where
+  pub count : ℕ
+  pub size : ℕ
+  pub over : ℕ
+  pub ended : Bool
+
 unfoldable pub ended : Gathered → Gathered
 ended g = record { count = g.count; size = g.size; over = g.over; ended = true }
 

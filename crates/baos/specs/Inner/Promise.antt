@@ -1,16 +1,13 @@
 -- What the functions of the services promise: the buffer to its end, where the bytes end in it, and the tables. Inner
 -- contracts alone cite these.
-use Rattle.std.specs.Prelude.{ℕ, ◌+◌, ◌≡◌, Bool, List, ◌++◌, length, drop}
+use Rattle.std.specs.Prelude.{ℕ, ◌+◌, ◌≡◌, List, length}
 use Rattle.words.specs.Words.{put}
 use Rattle.baos.specs.declared.datapoint.Datapoint.{Datapoint}
 use Rattle.baos.specs.declared.item.Item.{Item}
-use Rattle.baos.specs.declared.inner.EntryPlace.{EntryPlace}
 use Rattle.baos.specs.declared.inner.Told.{Told}
 use Rattle.baos.specs.Message.{Served}
 use Rattle.baos.specs.Get.{room_for_entries}
-use Rattle.baos.specs.Set.{fills}
 use Rattle.baos.specs.Indication.{choices, reported, after_report}
-use Rattle.baos.specs.Inner.EntryPlaces.{entry_places}
 use Rattle.baos.specs.Inner.Gather.{entries_told}
 
 -- bytes written into the buffer at `at`, which is as it was elsewhere; and where they end
@@ -38,13 +35,6 @@ pub record Carried (s : Served) (out : List ℕ) (at end : ℕ) (out' : List ℕ
   pub parameters : ps' ≡ s.after.parameters
   pub buffer : out' ≡ put out at s.says
   pub ends : end ≡ at + length s.says
-
--- the first n entries of the message m found: whether they fill it exactly, and the list, which begins with them and
--- is as it was behind
-pub record EntriesFound (ds : List Datapoint) (m : List ℕ) (n : ℕ) (es : List EntryPlace) (filled : Bool)
-    (es' : List EntryPlace) : Type 0 where
-  pub answer : filled ≡ fills 4 n (drop 6 m)
-  pub entries : es' ≡ entry_places ds n 6 (drop 6 m) ++ drop (length (entry_places ds n 6 (drop 6 m))) es
 
 -- the marked datapoints told as far as they fit: the table, their entries, how many there are and where they end
 pub record MarkedTold (ds : List Datapoint) (out : List ℕ) (at : ℕ) (told : Told) (out' : List ℕ)

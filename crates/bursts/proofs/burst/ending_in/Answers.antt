@@ -5,5 +5,5 @@ use Rattle.bursts.proofs.burst.ending_in.Goals as goal
 pub returns-then-is_beginning : goal.returns-then-is_beginning
 returns-then-is_beginning c = sym (ending_of _ (omega arith) (omega arith) ∙ simp (sym c.is_beginning.ensures ∙ c.if-is_beginning.true))
 
-pub returns : goal.returns
-returns c = sym (ending_of _ (omega arith) (omega arith) ∙ simp (sym c.is_beginning.ensures ∙ c.if-is_beginning.false))
+pub returns-else-is_beginning : goal.returns-else-is_beginning
+returns-else-is_beginning c = sym (ending_of _ (omega arith) (omega arith) ∙ simp (sym c.is_beginning.ensures ∙ c.if-is_beginning.false))

@@ -1,9 +1,10 @@
-use Rattle.std.proofs.Common.{◌-◌, length}
+use Rattle.std.proofs.Common.{length}
+use Rattle.cases.specs.View.{bench_of, stand_of}
 use Rattle.cases.proofs.ScriptLaws.{Playing}
 use Rattle.cases.proofs.play.play.Given as goal
 
-abbrev pub invariant-loop-at : goal.invariant-loop-at
-invariant-loop-at l = Playing l.script l.wanted l.stand l.right l.at
+abbrev pub invariant-loop-rest : goal.invariant-loop-rest
+invariant-loop-rest l = Playing l.script (bench_of l.wanted) (stand_of l.stand) l.right l.rest
 
-abbrev pub decreases-loop-at : goal.decreases-loop-at
-decreases-loop-at l = length l.script - l.at
+abbrev pub decreases-loop-rest : goal.decreases-loop-rest
+decreases-loop-rest l = length l.rest

@@ -1,30 +1,23 @@
--- Each test decides its part.
-use Rattle.std.proofs.Common.{◌≡◌, ◌-◌, length, drop, sym, ◌∙◌, arith, length-drop, length-take-le, take_all, rules}
-use Rattle.cases.proofs.SameLaws.{refuted, both, left_to, compared}
+use Rattle.std.proofs.Common.{◌≡◌, get_or, sym, ◌∙◌, arith}
+use Rattle.words.proofs.WordLaws.{rest_whole}
+use Rattle.cases.specs.Same.{Decides}
+use Rattle.cases.proofs.SameLaws.{both, left_to, compared, front_compared}
 use Rattle.cases.proofs.same.is_link.Goals as goal
-
-pub returns-then-asked-lt3 : goal.returns-then-asked-lt3
-returns-then-asked-lt3 c = refuted (λ q. let w = q.told in let t = c.if-asked-lt3.true in omega arith)
-
-pub returns-then-n-gt261 : goal.returns-then-n-gt261
-returns-then-n-gt261 c = refuted (λ q. let w = q.within in let t = c.if-n-gt261.true in omega arith)
-
-pub slice_bounds-same-end : goal.slice_bounds-same-end
-slice_bounds-same-end c =
-    let h : length c.args.link.outstanding ≡ 261 = search rules in
-    sym (length-take-le c.args.link.held c.args.link.outstanding (omega arith))
 
 pub returns : goal.returns
 returns c =
     let a = c.args.asked.now in
-    let e = take_all (length a - 3) (drop 3 a) (omega (arith, length-drop 3 a)) in
-    left_to (both (both (both c.same.ensures (compared _ _)) (compared _ _)) (compared _ _))
+    let e = rest_whole 3 a in
+    let k = c.args.link.now in
+    let t : Decides c.eq.result (((k.expected ≡ get_or a 0 0) × (k.send ≡ get_or a 1 0)) × (k.dropping ≡ get_or a 2 0)) = rw c.eq.ensures (both (both (compared _ _) (compared _ _)) (compared _ _)) in
+    let h = front_compared k.outstanding c.from.result c.get.result _ c.eq-2.result c.get.ensures.lookup.0 c.eq-2.ensures in
+    left_to (both t h)
     (λ v. record {
-      told = c.if-asked-lt3.false;
-      expects = v.0.0.1;
-      sends = v.0.1;
-      drops = v.1;
-      within = let t = c.if-n-gt261.false in omega arith;
-      holds = v.0.0.0 ∙ e;
+      told = omega arith;
+      expects = v.0.0.0;
+      sends = v.0.0.1;
+      drops = v.0.1;
+      within = omega (arith, v.1.0, c.from.ensures);
+      holds = rw c.from.ensures at (v.1.1 ∙ e);
     })
-    (λ q. (((q.holds ∙ sym e, q.expects), q.sends), q.drops))
+    (λ q. (((q.expects, q.sends), q.drops), (omega (arith, q.within, c.from.ensures), rw c.from.ensures (q.holds ∙ sym e))))

@@ -1,4 +1,4 @@
-use mathlib.Core.Path.{◌∙◌}
+use Rattle.std.proofs.Common.{◌∙◌}
 use Rattle.baos.specs.Item.{with_bytes}
 use Rattle.baos.proofs.EntryLaws.{put_zeros}
 use Rattle.commands.proofs.item.with_bytes.Goals as goal

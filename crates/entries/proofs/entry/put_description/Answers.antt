@@ -1,27 +1,10 @@
--- Stores in a row are one write.
-use mathlib.Core.Path.{refl}
-use mathlib.Core.List.{[], ◌∷◌}
-use native.Mathlib.Omega.{arith}
-use native.Mathlib.Numerals.{towards_suc}
-use lib.ListN.{length-set}
-use Rattle.words.proofs.ByteLaws.{put_sets}
+use Rattle.std.proofs.Common.{refl, ◌∙◌, arith}
 use Rattle.baos.specs.Get.{description_entry}
+use Rattle.baos.proofs.TwoByteLaws.{two_big_endian}
 use Rattle.entries.proofs.entry.put_description.Goals as goal
-
-pub bounds-out-at-2 : goal.bounds-out-at-2
-bounds-out-at-2 c = simp length-set (omega arith)
-
-pub bounds-out-at-3 : goal.bounds-out-at-3
-bounds-out-at-3 c = simp length-set (omega arith)
-
-pub bounds-out-at-4 : goal.bounds-out-at-4
-bounds-out-at-4 c = simp length-set (omega arith)
-
-pub bounds-out-at-5 : goal.bounds-out-at-5
-bounds-out-at-5 c = simp length-set (omega arith)
 
 pub returns : goal.returns
 unfolding description_entry
 returns c =
-    let a = c.args in
-    record { buffer = simp towards_suc (put_sets (_ ∷ _ ∷ a.d.typecode ∷ a.d.flags ∷ a.d.dpt ∷ []) a.out.now a.at (omega arith)); ends = refl }
+    let e = c.to_be_bytes.ensures ∙ two_big_endian c.args.d.id (omega arith) in
+    record { buffer = rw e at c.put_bytes.ensures; ends = refl }

@@ -1,11 +1,11 @@
 -- The laws of the second pass, in PassSteps: the turn that ends it, one that passes a record over, one that puts an entry, and its end.
 use Rattle.std.proofs.Common.{ap, set, refl, sym, ◌∙◌, arith}
 use Rattle.baos.specs.Datapoint.{datapoint_id, datapoint_ok, zero_datapoint}
-use Rattle.baos.proofs.MeasureLaws.{not_behind}
+use Rattle.baos.proofs.MeasureLaws.{not_behind, wanted_in_range}
 use Rattle.baos.proofs.PlaceLaws.{at_place}
 use Rattle.baos.proofs.PassLaws.{putting_all}
 use Rattle.gets.proofs.PassSteps.{ends, in_front, code_ok, stops, goes_over, room, goes, goes_wide, stands_as}
-use Rattle.gets.proofs.gather.build_datapoints.Goals.{then-is_wanted+then-end-stop, then-is_wanted+else-end-stop, else-is_wanted}
+use Rattle.gets.proofs.gather.build_datapoints.Goals.{then-passes_filter+then-end-stop, then-passes_filter+else-end-stop, else-passes_filter}
 use Rattle.gets.proofs.gather.build_datapoints.Goals as goal
 
 pub loop-i-init : goal.loop-i-init
@@ -17,9 +17,6 @@ loop-i-init c =
 pub returns-then-is_behind : goal.returns-then-is_behind
 returns-then-is_behind c = stops c.loop-i.invariant _ (omega (arith, c.loop-i.invariant.long)) (sym c.is_behind.ensures ∙ c.if-is_behind.true)
 
-pub is_wanted-requires : goal.is_wanted-requires
-is_wanted-requires c = (in_front c.loop-i.invariant _ (omega (arith, c.loop-i.invariant.long)), not_behind c.args.w _ (sym c.is_behind.ensures ∙ c.if-is_behind.false))
-
 pub put_wide_entry-end-requires : goal.put_wide_entry-end-requires
 put_wide_entry-end-requires c =
     let v = c.loop-i.invariant in
@@ -28,19 +25,20 @@ put_wide_entry-end-requires c =
 pub put_entry-end-requires : goal.put_entry-end-requires
 put_entry-end-requires c =
     let v = c.loop-i.invariant in
-    (code_ok v _ (omega (arith, c.loop-i.invariant.long)), room v _ (omega (arith, c.loop-i.invariant.long)) (sym c.is_behind.ensures ∙ c.if-is_behind.false) (sym c.is_wanted.ensures ∙ c.if-is_wanted.true))
+    (code_ok v _ (omega (arith, c.loop-i.invariant.long)), room v _ (omega (arith, c.loop-i.invariant.long)) (sym c.is_behind.ensures ∙ c.if-is_behind.false) (wanted_in_range c.args.w _ (in_front v _ (omega (arith, v.long))) (not_behind c.args.w _ (sym c.is_behind.ensures ∙ c.if-is_behind.false)) ∙ sym c.passes_filter.ensures ∙ c.if-passes_filter.true))
 
 pub loop-i-preserved : goal.loop-i-preserved
 loop-i-preserved c =
     let l = c.loop-i in
     let v = l.invariant in
     let ahead = sym c.is_behind.ensures ∙ c.if-is_behind.false in
-    elim c.if-is_wanted.branch [
-      | then-is_wanted+then-end-stop w ↦ stands_as (w.table-is ∙ ap (set l.table l.i) w.left_of.ensures) (w.end-is ∙ w.put_wide_entry-end.ensures.ends) (w.out-is ∙ w.put_wide_entry-end.ensures.buffer)
-          (goes_wide v _ (omega (arith, c.loop-i.invariant.long)) ahead (sym c.is_wanted.ensures ∙ w.if-is_wanted.true) (omega (arith, w.if-end-stop.true, c.requires.3)))
-      | then-is_wanted+else-end-stop w ↦ stands_as (w.table-is ∙ ap (set l.table l.i) w.left_of-else-end-stop.ensures) (w.end-is ∙ w.put_entry-end.ensures.ends) (w.out-is ∙ w.put_entry-end.ensures.buffer)
-          (goes v _ (omega (arith, c.loop-i.invariant.long)) ahead (sym c.is_wanted.ensures ∙ w.if-is_wanted.true))
-      | else-is_wanted w ↦ stands_as w.table-is w.end-is w.out-is (goes_over v _ (omega (arith, c.loop-i.invariant.long)) ahead (sym c.is_wanted.ensures ∙ w.if-is_wanted.false))
+    let same = wanted_in_range c.args.w _ (in_front v _ (omega (arith, v.long))) (not_behind c.args.w _ ahead) ∙ sym c.passes_filter.ensures in
+    elim c.if-passes_filter.branch [
+      | then-passes_filter+then-end-stop w ↦ stands_as (w.table-is ∙ ap (set l.table l.i) w.left_of.ensures) (w.end-is ∙ w.put_wide_entry-end.ensures.ends) (w.out-is ∙ w.put_wide_entry-end.ensures.buffer)
+          (goes_wide v _ (omega (arith, c.loop-i.invariant.long)) ahead (same ∙ w.if-passes_filter.true) (omega (arith, w.if-end-stop.true, c.requires.3)))
+      | then-passes_filter+else-end-stop w ↦ stands_as (w.table-is ∙ ap (set l.table l.i) w.left_of-else-end-stop.ensures) (w.end-is ∙ w.put_entry-end.ensures.ends) (w.out-is ∙ w.put_entry-end.ensures.buffer)
+          (goes v _ (omega (arith, c.loop-i.invariant.long)) ahead (same ∙ w.if-passes_filter.true))
+      | else-passes_filter w ↦ stands_as w.table-is w.end-is w.out-is (goes_over v _ (omega (arith, c.loop-i.invariant.long)) ahead (same ∙ w.if-passes_filter.false))
     ]
 
 pub returns : goal.returns

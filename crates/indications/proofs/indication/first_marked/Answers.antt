@@ -1,5 +1,5 @@
 -- Each record that is looked at is marked, and the search ends there, or it is passed.
-use Rattle.std.proofs.Common.{◌+◌, arith}
+use Rattle.std.proofs.Common.{◌≡◌, ◌∙◌, ◌+◌, length, arith}
 use Rattle.baos.proofs.MarkLaws.{SearchedTo, searched_all}
 use Rattle.indications.proofs.SearchLaws.{found, passed}
 use Rattle.indications.proofs.indication.first_marked.Goals as goal
@@ -40,11 +40,13 @@ loop-i-preserved c =
     let p : SearchedTo ys (i + 3) = passed ys _ (i + 2) (omega arith) c.if-table-i-eq1-3.false _ (omega arith) p in
     (omega arith, passed ys _ (i + 3) (omega arith) c.if-table-i-eq1-4.false _ (omega arith) p)
 
-pub returns-then-table-i-eq1-5 : goal.returns-then-table-i-eq1-5
-returns-then-table-i-eq1-5 c = found c.args.table.now _ _ (omega arith) c.if-table-i-eq1-5.true c.loop-i-2.invariant.1
+pub returns-then-table-j-eq1 : goal.returns-then-table-j-eq1
+returns-then-table-j-eq1 c = found c.args.table.now _ _ (omega arith) c.if-table-j-eq1.true c.loop-j.invariant.1
 
-pub loop-i-2-preserved : goal.loop-i-2-preserved
-loop-i-2-preserved c = (omega arith, passed c.args.table.now _ c.loop-i-2.i (omega arith) c.if-table-i-eq1-5.false _ (omega arith) c.loop-i-2.invariant.1)
+pub loop-j-preserved : goal.loop-j-preserved
+loop-j-preserved c = (omega arith, passed c.args.table.now _ c.loop-j.j (omega arith) c.if-table-j-eq1.false _ (omega arith) c.loop-j.invariant.1)
 
 pub returns : goal.returns
-returns c = searched_all c.args.table.now _ (omega arith) c.loop-i-2.invariant.1
+returns c =
+    let e : length c.args.table.now ≡ c.loop-j.j = omega arith in
+    e ∙ searched_all c.args.table.now _ (omega arith) c.loop-j.invariant.1

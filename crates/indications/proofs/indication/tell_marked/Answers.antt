@@ -30,8 +30,8 @@ loop-i-preserved c =
       | else-table-i-eq1 w ↦ rw (w.table-is, w.out-is, w.end-is, w.count-is) (goes_over l.invariant (omega arith) _ w.if-table-i-eq1.false _ (omega arith))
     ]
 
-pub returns : goal.returns
-returns c =
+pub returns-after-loop-i : goal.returns-after-loop-i
+returns-after-loop-i c =
     let a = c.args in
     let l = c.loop-i in
     telling_done a.table.now a.out.now a.at l.i l.end l.count l.table l.out l.invariant (omega arith)

@@ -1,13 +1,14 @@
-use mathlib.Core.Path.{sym, ◌∙◌}
-use native.Mathlib.Omega.{arith}
-use Rattle.ft12.proofs.JudgedLaws.{judged_first_lem, judged_fixed_lem, judged_data_lem}
+use Rattle.std.proofs.Common.{◌∷◌, ◌∙◌, sym, ap, arith}
+use Rattle.words.proofs.WordLaws.{rest_whole}
+use Rattle.ft12.specs.Receiver.{judged_data}
+use Rattle.ft12.proofs.JudgedLaws.{judged_data_lem, data_behind}
 use Rattle.judging.proofs.receiver.judge.Goals as goal
 
-pub returns-then-g-eq0 : goal.returns-then-g-eq0
-returns-then-g-eq0 c = c.judge_first.ensures ∙ sym (judged_first_lem _ _ (omega arith))
-
-pub returns-then-g-eq-FIXED_START : goal.returns-then-g-eq-FIXED_START
-returns-then-g-eq-FIXED_START c = c.judge_fixed.ensures ∙ sym (judged_fixed_lem _ _ (omega arith) (omega arith))
-
-pub returns : goal.returns
-returns c = c.judge_data.ensures ∙ sym (judged_data_lem _ _ (omega arith) (omega arith))
+pub returns-in-len1-up : goal.returns-in-len1-up
+returns-in-len1-up c =
+    let g = c.args.g.now in
+    let b = c.args.b in
+    c.judge_data.ensures
+    ∙ ap (λ rest. judged_data (0x68 ∷ rest) b) (rest_whole 1 g)
+    ∙ data_behind g b (omega arith)
+    ∙ sym (judged_data_lem g b (omega arith) (omega arith))

@@ -1,11 +1,6 @@
 use mathlib.Core.Path.{sym, ◌∙◌}
-use native.Mathlib.Omega.{arith}
-use lib.ListN.{length-take}
 use Rattle.ft12.proofs.JudgedLaws.{more_room_take}
 use Rattle.judging.proofs.receiver.judge_at.Goals as goal
-
-pub slice_bounds-judge-end : goal.slice_bounds-judge-end
-slice_bounds-judge-end c = simp length-take (omega arith)
 
 pub returns : goal.returns
 returns c =

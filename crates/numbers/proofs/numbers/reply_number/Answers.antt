@@ -1,20 +1,17 @@
 -- Both numbers fit 32 bits: a refusal is a byte, and what is required of the count.
-use mathlib.Core.Path.{sym, ap, ◌∙◌}
+use Rattle.std.proofs.Common.{ap, arith}
+use Rattle.calls.specs.Reply.{reply_of}
 use Rattle.calls.specs.Numbers.{reply_number}
-use Rattle.calls.proofs.NumberLaws.{fits_minus, is_minus, fits_plus, is_plus, count_small}
-use native.Mathlib.Omega.{arith}
+use Rattle.calls.proofs.NumberLaws.{is_minus, fits_plus, is_plus, count_small}
 use Rattle.numbers.proofs.numbers.reply_number.Goals as goal
 
-pub overflow_sub-result : goal.overflow_sub-result
-overflow_sub-result c = fits_minus c.in-Refused.number (omega (arith, c.in-Refused.known_told-1-own.given))
+pub overflow_cast-result : goal.overflow_cast-result
+overflow_cast-result c = fits_plus _ (count_small _ _ (ap reply_of c.in-Ok.is) c.requires)
 
-pub overflow_cast-result-in-Accepted : goal.overflow_cast-result-in-Accepted
-overflow_cast-result-in-Accepted c = fits_plus _ (count_small _ _ c.in-Accepted.is c.requires)
-
-pub returns-in-Refused : goal.returns-in-Refused
+pub returns-in-Ok : goal.returns-in-Ok
 unfolding reply_number
-returns-in-Refused c = is_minus c.in-Refused.number (omega (arith, c.in-Refused.known_told-1-own.given)) ∙ sym (ap reply_number c.in-Refused.is)
+returns-in-Ok c = rw c.in-Ok.is (is_plus _ (count_small _ _ (ap reply_of c.in-Ok.is) c.requires))
 
-pub returns-in-Accepted : goal.returns-in-Accepted
+pub returns-in-Err : goal.returns-in-Err
 unfolding reply_number
-returns-in-Accepted c = is_plus _ (count_small _ _ c.in-Accepted.is c.requires) ∙ sym (ap reply_number c.in-Accepted.is)
+returns-in-Err c = rw (c.in-Err.is, ← c.number.ensures) (is_minus c.number.result (omega (arith, c.number.type_inv)))

@@ -1,52 +1,51 @@
-use Prim.Native.Nat.{ℕ, ◌-◌}
-use mathlib.Core.Path.{sym, ◌∙◌, ap}
-use native.Mathlib.Omega.{arith}
-use lib.ListN.{length, drop, length-drop}
+use Rattle.std.proofs.Common.{◌≡◌, ℕ, ◌-◌, List, length, drop, length-drop, sym, ◌∙◌, ap, arith}
 use lib.Seq.{take_all, length-take-le}
 use Rattle.words.specs.Words.{put}
-use Rattle.baos.specs.Message.{coded}
-use Rattle.baos.specs.declared.inner.Verdict.{Verdict}
+use Rattle.baos.specs.Table.{parameters_only}
+use Rattle.baos.specs.Message.{Finding, coded, Served, verdict_of, finding_of, fine}
+use Rattle.baos.specs.Set.{set_parameter_finding}
+use Rattle.baos.proofs.ServiceLaws.{bad_set_parameter, fine_set_parameter}
 use Rattle.baos.proofs.WrittenLaws.{written_as}
-use Rattle.baos.proofs.SetParameterLaws.{passed, set_parameters_refused, set_parameters_accepted}
+use Rattle.baos.proofs.SetParameterLaws.{Passed, passed}
 use Rattle.parameters.proofs.parameter.set_parameters.Goals as goal
 
-pub returns-then-v-ne-NO_ERROR : goal.returns-then-v-ne-NO_ERROR
-returns-then-v-ne-NO_ERROR c =
-    let a = c.args in
-    let m = a.m.now in
-    let ps = a.parameters.now in
-    let v = c.set_parameter_verdict-v.ensures in
-    let r = set_parameters_refused ps m (λ z. omega (arith, ap (λ (x : Verdict). x.code) v, z)) in
-    let w = written_as a.out.now a.at c.put_coded.ensures (r.says ∙ ap (λ (x : Verdict). coded m x.id x.code) (sym v)) in
-    record { table = sym r.after; buffer = w.buffer; ends = w.ends }
+-- what a request has that the checks find nothing wrong with
+let_through : (count : ℕ) (m : List ℕ) → fine ≡ set_parameter_finding count m → Passed count m
+unfolding verdict_of
+let_through count m f = passed count m (ap (λ (x : Finding). (verdict_of x).code) (sym f))
 
 pub overflow_sub-start : goal.overflow_sub-start
+unfolding finding_of
 overflow_sub-start c =
-    let a = c.args in
-    let v = c.set_parameter_verdict-v.ensures in
-    let p = passed (length a.parameters.now) a.m.now (omega (arith, ap (λ (x : Verdict). x.code) v)) in
+    let p = let_through _ _ c.in-Ok.ensures in
     omega (arith, c.start_of-start.ensures, p.from_one)
 
 pub put_bytes-requires : goal.put_bytes-requires
+unfolding finding_of
 put_bytes-requires c =
-    let a = c.args in
-    let m = a.m.now in
-    let v = c.set_parameter_verdict-v.ensures in
-    let p = passed (length a.parameters.now) m (omega (arith, ap (λ (x : Verdict). x.code) v)) in
+    let m = c.args.request.message.now in
+    let p = let_through _ _ c.in-Ok.ensures in
     omega (arith, c.start_of-start.ensures, p.fits, length-take-le (length m - 6) (drop 6 m) (omega (arith, length-drop 6 m)), length-drop 6 m)
 
-pub returns : goal.returns
-returns c =
+pub returns-in-Err : goal.returns-in-Err
+unfolding finding_of
+returns-in-Err c =
     let a = c.args in
-    let m = a.m.now in
+    let s = bad_set_parameter (parameters_only a.parameters.now) a.request.message.now (sym c.in-Err.ensures) in
+    let w = written_as a.out.now a.at c.put_fault.ensures (ap (λ (x : Served). x.says) s) in
+    record { table = sym (ap (λ (x : Served). x.after.parameters) s); buffer = w.buffer; ends = w.ends }
+
+pub returns-in-Ok : goal.returns-in-Ok
+unfolding finding_of
+returns-in-Ok c =
+    let a = c.args in
+    let m = a.request.message.now in
     let ps = a.parameters.now in
-    let v = c.set_parameter_verdict-v.ensures in
-    let s = c.start_of-start.ensures in
-    let g = set_parameters_accepted ps m (omega (arith, ap (λ (x : Verdict). x.code) v)) in
-    let w = written_as a.out.now a.at c.put_coded-2.ensures (g.says ∙ ap (λ (i : ℕ). coded m i 0) (sym s)) in
-    let e = c.put_bytes.ensures in
+    let start = c.start_of-start.ensures in
+    let s = fine_set_parameter (parameters_only ps) m (sym c.in-Ok.ensures) in
+    let w = written_as a.out.now a.at c.put_coded.ensures (ap (λ (x : Served). x.says) s ∙ ap (λ (i : ℕ). coded m i 0) (sym start)) in
     record {
-      table = e ∙ (λ i. put ps (s i - 1) (take_all (length m - 6) (drop 6 m) (omega (arith, length-drop 6 m)) i)) ∙ sym g.after;
+      table = c.put_bytes.ensures ∙ (λ i. put ps (start i - 1) (take_all (length m - 6) (drop 6 m) (omega (arith, length-drop 6 m)) i)) ∙ sym (ap (λ (x : Served). x.after.parameters) s);
       buffer = w.buffer;
       ends = w.ends;
     }

@@ -1,22 +1,35 @@
 -- A law of ReplyLaws for each exit.
-use Rattle.std.proofs.Common.{sym, ◌∙◌, arith}
+use Rattle.std.proofs.Common.{sym, ap, ◌∙◌, ltb-true}
 use Rattle.calls.proofs.BusLaws.{few, in_order}
+use Rattle.dpt.specs.Reply.{Given}
+use Rattle.dpt.proofs.ReadingLaws.{absent, present}
 use Rattle.readings.proofs.ReplyLaws.{not_well, nowhere, there}
 use Rattle.readings.proofs.reading.reading.Goals as goal
 
-pub returns-then-not-well_formed : goal.returns-then-not-well_formed
-returns-then-not-well_formed c = not_well c.args.id c.args.datapoints.now (sym c.well_formed-2.ensures ∙ c.if-not-well_formed.true)
+pub returns-then-not-is_well_formed : goal.returns-then-not-is_well_formed
+returns-then-not-is_well_formed c = not_well c.args.id c.args.datapoints.now (sym c.is_well_formed.ensures ∙ c.if-not-is_well_formed.true)
 
-pub datapoint_place-place-requires : goal.datapoint_place-place-requires
-datapoint_place-place-requires c =
-    let well = sym c.well_formed-2.ensures ∙ c.if-not-well_formed.false in
-    (few c.args.datapoints.now well, in_order c.args.datapoints.now well)
+pub place-requires-clause-few : goal.place-requires-clause-few
+place-requires-clause-few c = few c.args.datapoints.now (sym c.is_well_formed.ensures ∙ c.if-not-is_well_formed.false)
 
-pub returns-then-datapoints-place : goal.returns-then-datapoints-place
-returns-then-datapoints-place c =
-    nowhere c.args.id c.args.datapoints.now (sym c.well_formed-2.ensures ∙ c.if-not-well_formed.false) (omega (arith, c.datapoint_place-place.ensures))
+pub place-requires-clause-rising : goal.place-requires-clause-rising
+place-requires-clause-rising c = in_order c.args.datapoints.now (sym c.is_well_formed.ensures ∙ c.if-not-is_well_formed.false)
 
-pub returns : goal.returns
-returns c =
-    rw (c.reply_at.ensures, c.datapoint_at-d.ensures, c.datapoint_place-place.ensures)
-    (there c.args.id c.args.datapoints.now (sym c.well_formed-2.ensures ∙ c.if-not-well_formed.false) (omega (arith, c.datapoint_place-place.ensures)))
+pub returns-in-Some : goal.returns-in-Some
+returns-in-Some c =
+    let d = c.in-Some.d.now in
+    let found = c.in-Some.ensures.lookup in
+    ap Given c.reading_of.ensures ∙ sym (present d _ c.if-d-id.true)
+    ∙ there c.args.id c.args.datapoints.now (sym c.is_well_formed.ensures ∙ c.if-not-is_well_formed.false) c.place.result c.place.ensures d (ltb-true _ _ (sym found.0)) found.1
+
+pub returns-in_default : goal.returns-in_default
+returns-in_default c =
+    let d = c.in-Some.d.now in
+    let found = c.in-Some.ensures.lookup in
+    sym (absent d _ c.if-d-id.false)
+    ∙ there c.args.id c.args.datapoints.now (sym c.is_well_formed.ensures ∙ c.if-not-is_well_formed.false) c.place.result c.place.ensures d (ltb-true _ _ (sym found.0)) found.1
+
+pub returns-in_default-2 : goal.returns-in_default-2
+returns-in_default-2 c =
+    let past = rw c.in_default.is at c.get.ensures.lookup in
+    nowhere c.args.id c.args.datapoints.now (sym c.is_well_formed.ensures ∙ c.if-not-is_well_formed.false) c.place.result c.place.ensures past.3

@@ -10,6 +10,6 @@ returns-then-bits-ge2139095040 c = let t = c.if-bits-ge2139095040.true in sym (n
 pub float_from_bits-result : goal.float_from_bits-result
 float_from_bits-result c = is_number c.args.bits (omega arith)
 
-pub returns : goal.returns
+pub returns-else-bits-ge2139095040 : goal.returns-else-bits-ge2139095040
 unfolding single
-returns c = sym (finite c.args.bits (omega arith))
+returns-else-bits-ge2139095040 c = sym (finite c.args.bits (omega arith))

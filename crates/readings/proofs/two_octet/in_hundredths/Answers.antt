@@ -10,5 +10,5 @@ overflow_sub-result c = negated_fits c.args.high c.args.low c.magnitude-size.res
 pub returns-then-high-ge128 : goal.returns-then-high-ge128
 returns-then-high-ge128 c = hundredths_negative c.args.high c.args.low c.magnitude-size.result c.ranges.low.fits c.magnitude-size.ensures c.if-high-ge128.true
 
-pub returns : goal.returns
-returns c = hundredths_positive c.args.high c.args.low c.magnitude-size.result c.ranges.low.fits c.magnitude-size.ensures c.if-high-ge128.false
+pub returns-else-high-ge128 : goal.returns-else-high-ge128
+returns-else-high-ge128 c = hundredths_positive c.args.high c.args.low c.magnitude-size.result c.ranges.low.fits c.magnitude-size.ensures c.if-high-ge128.false

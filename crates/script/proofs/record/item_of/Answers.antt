@@ -1,14 +1,13 @@
-use Rattle.std.proofs.Common.{◌≡◌, length, refl, arith, rules}
+use Rattle.std.proofs.Common.{replicate, take, drop, refl, arith}
+use Rattle.script.specs.View.{in_places}
 use Rattle.script.specs.Record.{item_of}
-use borrow.Author.Rules.{rules}
+use Rattle.script.proofs.PlaceLaws.{length_part}
+use Rattle.script.proofs.RecordLaws.{put_whole}
 use Rattle.script.proofs.record.item_of.Goals as goal
-
-pub slice_bounds-put_bytes-end-2 : goal.slice_bounds-put_bytes-end-2
-slice_bounds-put_bytes-end-2 c = let h : length c.args.line.bytes ≡ 264 = search rules in omega arith
-
-pub raised-requires : goal.raised-requires
-raised-requires c = tt
 
 pub returns : goal.returns
 unfolding item_of
-returns c = rw (c.raised.ensures, c.put_bytes.ensures) refl
+returns c =
+    let xs = c.args.line.now.bytes.items in
+    let w = put_whole (replicate 16 0) (take 16 (drop 4 (in_places 264 0 xs))) (length_part xs 16 4 (omega arith)) in
+    rw (c.raised.ensures, c.byte.ensures, c.byte-2.ensures, c.byte-3.ensures, c.byte-4.ensures, c.array.ensures, w) refl

@@ -13,5 +13,5 @@ returns-then-link-ne0 c =
 pub returns : goal.returns
 returns c =
     let k = c.args.link.now in
-    rw (c.take_message-framed.ensures.answer, c.take_message-framed.ensures.buffer, c.take_message-framed.ensures.link, c.indicate-end.ensures.table, c.indicate-end.ensures.ends, c.indicate-end.ensures.buffer)
+    rw (c.take_message.ensures.answer, c.take_message.ensures.buffer, c.take_message.ensures.link, c.indicate-end.ensures.table, c.indicate-end.ensures.ends, c.indicate-end.ensures.buffer)
     (poll_says c.args.datapoints.now k c.args.out.now c.requires.1 c.requires.2 (true_T (ap (λ (b : Bool). not (not b)) (eq-eqb k.held 0 c.if-link-ne0.false))))

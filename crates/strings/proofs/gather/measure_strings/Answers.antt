@@ -1,26 +1,71 @@
--- The laws of the first pass, in PassSteps: its start, what is known of the datapoint at hand, the turn that ends it, one that goes on, and its end.
-use Rattle.std.proofs.Common.{◌∙◌, arith}
+-- The laws of both passes: what is known of the datapoint at hand, a turn that goes on, and each end of the pass.
+use Rattle.std.proofs.Common.{sym, ◌∙◌, arith}
+use Rattle.std.proofs.lemmas.Result.{err_from_is_err_and}
 use Rattle.baos.specs.Text.{text_lists}
-use Rattle.strings.proofs.PassSteps.{blank_datapoint, found_begins, found_in_range, found_fits, found_reached, found_stops, found_goes, found_ends}
+use Rattle.baos.proofs.AnswerJoins.{sought}
+use Rattle.baos.specs.Datapoint.{datapoint_id, datapoint_ok}
+use Rattle.strings.proofs.PassSteps.{blank_datapoint, from_start, found_begins, reached, text_small, string_size, found_over_room, found_goes, found_behind}
+use Rattle.gets.proofs.MeasureSteps.{comes_end, judged}
+use Rattle.strings.proofs.gather.measure_strings.Goals.{else-loop-d-test, then-loop-d-test+then-is_behind}
 use Rattle.strings.proofs.gather.measure_strings.Goals as goal
 
-pub loop-i-init : goal.loop-i-init
-loop-i-init c =
+pub offset_bounds-table-from : goal.offset_bounds-table-from
+offset_bounds-table-from c =
     let a = c.args in
-    found_begins (text_lists a.site.now a.defaults.now) a.w a.from a.table.now c.requires.0 c.requires.1 a.c c.requires.3
+    let ts = text_lists a.texts.site.now a.texts.defaults.now in
+    omega (arith, (from_start ts a.w a.table.now a.from c.requires.0 c.requires.1 a.c c.requires.2).0, (sought 1000 datapoint_id datapoint_ok a.table.now c.requires.0).0)
 
-pub string_measured-s-requires : goal.string_measured-s-requires
-string_measured-s-requires c =
-    let f = c.loop-i.invariant in
-    let t = c.loop-i-test.true in
-    let n = found_fits f blank_datapoint t in
-    (found_in_range f blank_datapoint t, n.0, n.1, c.requires.2, found_reached f blank_datapoint t)
+pub slice_bounds-d-items-count : goal.slice_bounds-d-items-count
+slice_bounds-d-items-count c =
+    let a = c.args in
+    let ts = text_lists a.texts.site.now a.texts.defaults.now in
+    (from_start ts a.w a.table.now a.from c.requires.0 c.requires.1 a.c c.requires.2).0
 
-pub returns-then-s : goal.returns-then-s
-returns-then-s c = c.gathered_of.ensures ∙ found_stops c.loop-i.invariant blank_datapoint c.loop-i-test.true _ c.string_measured-s.ensures c.if-s.true
+pub slice_bounds-d-items-start : goal.slice_bounds-d-items-start
+slice_bounds-d-items-start c =
+    let a = c.args in
+    let ts = text_lists a.texts.site.now a.texts.defaults.now in
+    (from_start ts a.w a.table.now a.from c.requires.0 c.requires.1 a.c c.requires.2).0
 
-pub loop-i-preserved : goal.loop-i-preserved
-loop-i-preserved c = found_goes c.loop-i.invariant blank_datapoint c.loop-i-test.true _ c.string_measured-s.ensures c.if-s.false
+pub loop-d-init : goal.loop-d-init
+loop-d-init c =
+    let a = c.args in
+    let ts = text_lists a.texts.site.now a.texts.defaults.now in
+    found_begins ts a.w a.table.now a.from c.requires.0 c.requires.1 a.c c.requires.2 c.new-found.result c.new-found.ensures.0 c.new-found.ensures.1
+
+pub cursors_at-cursors-requires : goal.cursors_at-cursors-requires
+cursors_at-cursors-requires c =
+    let a = c.args in
+    let ts = text_lists a.texts.site.now a.texts.defaults.now in
+    reached ts a.table.now a.from c.loop-d.d-index c.loop-d.invariant.follows c.loop-d-test.true blank_datapoint
+
+pub with_entry-requires : goal.with_entry-requires
+with_entry-requires c =
+    let a = c.args in
+    let h = text_small a.texts.site a.texts.defaults c.text_of.result _ c.text_of.ensures in
+    (c.loop-d.invariant.measured.few, omega (arith, h))
+
+pub returns-in_err-found : goal.returns-in_err-found
+returns-in_err-found c =
+    let a = c.args in
+    let p = err_from_is_err_and c.from_residual.result c.from_residual.ensures.1 in
+    let f = c.in_err-found.ensures in
+    rw (p.1, p.2)
+    (found_over_room c.loop-d.invariant c.loop-d-test.true blank_datapoint (sym c.is_behind.ensures ∙ c.if-is_behind.false) _ (string_size a.texts.site a.texts.defaults c.text_of.result _ c.text_of.ensures)
+    c.requires.0 c.requires.1 f.0 _ f.1)
+
+pub loop-d-preserved : goal.loop-d-preserved
+loop-d-preserved c =
+    let a = c.args in
+    let f = c.in_ok-found.ensures in
+    found_goes c.loop-d.invariant c.loop-d-test.true blank_datapoint (sym c.is_behind.ensures ∙ c.if-is_behind.false) _ (string_size a.texts.site a.texts.defaults c.text_of.result _ c.text_of.ensures)
+    (omega arith) c.in_ok-found.found f.0 f.1 _ c.cursors_at-cursors.ensures
 
 pub returns : goal.returns
-returns c = c.gathered_of-2.ensures ∙ found_ends c.loop-i.invariant blank_datapoint (omega arith)
+returns c =
+    judged c.args.w.start _ c.loop-d.found
+    (elim c.loop-d-test.branch [
+      | else-loop-d-test w ↦ comes_end c.loop-d.invariant.measured w.loop-d-test.false
+      | then-loop-d-test+then-is_behind w ↦ found_behind c.loop-d.invariant w.loop-d-test.true blank_datapoint (sym w.is_behind.ensures ∙ w.if-is_behind.true)
+    ])
+    c.unless_none.result c.unless_none.ensures

@@ -1,11 +1,12 @@
 -- The two exits: no event, by `no_event_lem`; an event, by what the server's call promises of its reply and of all that is lent.
-use Rattle.std.proofs.Common.{◌≡◌, ℕ, true, List, ℤ, refl, sym, ap, ◌∙◌, w32}
+use Rattle.std.proofs.Common.{if◌then◌else◌, ◌≡◌, ℕ, Bool, true, false, List, ℤ, Option, Some, None, refl, sym, ap, ◌∙◌, w32}
 use mir.Facts.{to_z-of_z}
 use Rattle.ft12.specs.declared.record.Link.{Link}
 use Rattle.baos.specs.Text.{text_lists}
 use Rattle.baos.specs.Table.{Tables, tables_of}
 use Rattle.baos.proofs.TableLaws.{same_tables}
-use Rattle.calls.specs.declared.reply.Reply.{Reply}
+use Rattle.calls.specs.declared.event.Event.{Event}
+use Rattle.calls.specs.Reply.{Reply, reply_of}
 use Rattle.calls.specs.Call.{call}
 use Rattle.calls.specs.Numbers.{is_event, event_numbered, reply_number}
 use Rattle.calls.specs.Exported.{called_by, Gives}
@@ -13,6 +14,15 @@ use Rattle.calls.specs.Promise.{Leaves}
 use Rattle.calls.proofs.CallLaws.{reply_told}
 use Rattle.calls.proofs.ExportedLaws.{no_event_lem, an_event, count_fits}
 use Rattle.tagobrelin.proofs.exported.tagobrelin_call.Goals as goal
+
+-- whether the numbers name an event, and which
+not_named : (b : Bool) (e : Event) (r : Option Event) → ((x : Event) → r ≡ Some x → ⊥) → r ≡ (if b then Some e else None) → b ≡ false
+not_named true e r n q = absurd (n e q)
+not_named false e r n q = refl
+
+named : (b : Bool) (e x : Event) → Some x ≡ (if b then Some e else None) → (b ≡ true) × (x ≡ e)
+named true e x q = (refl, cc)
+named false e x q = cc
 
 -- what the call leaves is what its numbers give
 given : (event byte id outcome : ℕ) (v : List ℕ) (t : Tables) (k : Link) (out : List ℕ) → is_event event outcome ≡ true
@@ -28,22 +38,23 @@ given event byte id outcome v t k out e r n t' k' out' is same l =
       output = l.output ∙ g.output;
     }
 
-pub returns-then-not-is_event : goal.returns-then-not-is_event
-returns-then-not-is_event c =
+pub returns-in_default : goal.returns-in_default
+returns-in_default c =
     let a = c.args in
     no_event_lem a.event a.byte a.id a.outcome a.value.now (tables_of a.datapoints.now a.items.now a.parameters.now (text_lists a.site.now a.defaults.now)) a.link.now a.out.now
-    (sym c.is_event.ensures ∙ c.if-not-is_event.true)
+    (not_named _ _ _ c.in_default.not-Some c.event_named.ensures)
 
 pub reply_number-requires : goal.reply_number-requires
 reply_number-requires c =
     let a = c.args in
     let t = tables_of a.datapoints.now a.items.now a.parameters.now (text_lists a.site.now a.defaults.now) in
-    rw (reply_told c.call-reply.result (call c.event_numbered-happened.result a.value.now t a.link.now a.out.now).reply c.call-reply.ensures.reply, c.event_numbered-happened.ensures)
+    rw (reply_told (reply_of c.call.result) (call c.in-Some.event a.value.now t a.link.now a.out.now).reply c.call.ensures.reply, (named _ _ _ c.in-Some.ensures).1)
     (count_fits a.event a.byte a.id a.outcome a.value.now t a.link.now a.out.now)
 
 pub returns : goal.returns
 returns c =
     let a = c.args in
     let t = tables_of a.datapoints.now a.items.now a.parameters.now (text_lists a.site.now a.defaults.now) in
-    given a.event a.byte a.id a.outcome a.value.now t a.link.now a.out.now (sym c.is_event.ensures ∙ c.if-not-is_event.false) c.call-reply.result _ _ _ _
-    (to_z-of_z {w = w32} (record { sfits = c.reply_number.type_inv }) ∙ c.reply_number.ensures) refl (rw c.event_numbered-happened.ensures at c.call-reply.ensures)
+    let n = named _ _ _ c.in-Some.ensures in
+    given a.event a.byte a.id a.outcome a.value.now t a.link.now a.out.now n.0 (reply_of c.call.result) _ _ _ _
+    (to_z-of_z {w = w32} (record { sfits = c.reply_number.type_inv }) ∙ c.reply_number.ensures) refl (rw n.1 at c.call.ensures)

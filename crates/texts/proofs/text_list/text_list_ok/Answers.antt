@@ -1,70 +1,35 @@
-use Prim.Native.Nat.{◌+◌, ℕ}
-use mathlib.Core.Path.{sym, ◌∙◌, ap}
-use native.Mathlib.Omega.{arith}
-use lib.ListN.{get_or}
-use Rattle.baos.proofs.TextListLaws.{ok_from, ok_start, ok_end, ok_broken, ok_low, ok_next, Begins}
+-- Each turn finds that no entry begins here, that its ID is too low, or one more entry; at the end no byte is left, or too few.
+use Rattle.std.proofs.Common.{sym, ◌<◌, ◌≤◌, length, get_or, arith}
+use Rattle.texts.proofs.ListLaws.{all_left, all_tested, too_short, broken, too_low, next_left, on_from, on_size}
 use Rattle.texts.proofs.text_list.text_list_ok.Goals as goal
+use Rattle.texts.proofs.text_list.text_list_ok.Goals.{then-size-gt-LONGEST_TEXT-via-then-size-gt-LONGEST_TEXT, then-size-gt-LONGEST_TEXT-via-else-size-gt-LONGEST_TEXT+then-behind-size, then-size-gt-LONGEST_TEXT-via-else-size-gt-LONGEST_TEXT+else-behind-size+then-id-least}
 
-pub loop-at-init : goal.loop-at-init
-loop-at-init c = (omega arith, ok_start c.args.list.now)
-
-pub overflow_sub-left : goal.overflow_sub-left
-overflow_sub-left c = c.loop-at.invariant.0
-
-pub returns-then-left-lt-ENTRY_HEAD : goal.returns-then-left-lt-ENTRY_HEAD
-returns-then-left-lt-ENTRY_HEAD c =
-    let l = c.loop-at in
-    let s = c.args.list.now in
-    sym (l.invariant.1 ∙ ok_broken l.least l.at s (omega arith) (λ b. omega (arith, b.whole)))
-
-pub bounds-list-at : goal.bounds-list-at
-bounds-list-at c = omega arith
+pub loop-rest-init : goal.loop-rest-init
+loop-rest-init c = all_left c.args.list.now
 
 pub returns-then-size-gt-LONGEST_TEXT : goal.returns-then-size-gt-LONGEST_TEXT
 returns-then-size-gt-LONGEST_TEXT c =
-    let l = c.loop-at in
-    let s = c.args.list.now in
-    sym (l.invariant.1 ∙ ok_broken l.least l.at s (omega arith) (λ b. omega (arith, b.short)))
+    let h = c.loop-rest.invariant in
+    let r = c.loop-rest.rest.now in
+    let l = c.in-len3-up.len_at_least in
+    elim c.then-size-gt-LONGEST_TEXT.branch [
+      | then-size-gt-LONGEST_TEXT-via-then-size-gt-LONGEST_TEXT w ↦ sym (broken h (omega arith) (λ a b. omega arith))
+      | then-size-gt-LONGEST_TEXT-via-else-size-gt-LONGEST_TEXT+then-behind-size w ↦
+          let k : length (on_from 3 r) < get_or r 2 0 = w.if-behind-size.true in
+          sym (broken h (omega arith) (λ a b. omega (arith, a, k, on_size 3 r)))
+      | then-size-gt-LONGEST_TEXT-via-else-size-gt-LONGEST_TEXT+else-behind-size+then-id-least w ↦
+          let k : get_or r 2 0 ≤ length (on_from 3 r) = w.if-behind-size.false in
+          sym (too_low h (omega (arith, l, k, on_size 3 r)) (omega arith) w.if-id-least.true)
+    ]
 
-pub overflow_add-size-in-loop-at : goal.overflow_add-size-in-loop-at
-overflow_add-size-in-loop-at c = omega (arith, c.shared_slice_known-in-loop-at-1.given (c.loop-at.at + 2))
+pub loop-rest-preserved : goal.loop-rest-preserved
+loop-rest-preserved c =
+    let r = c.loop-rest.rest.now in
+    let k : get_or r 2 0 ≤ length (on_from 3 r) = c.if-behind-size.false in
+    next_left c.loop-rest.invariant (omega (arith, c.in-len3-up.len_at_least, k, on_size 3 r)) (omega arith) c.if-id-least.false
 
-pub returns-then-left-size : goal.returns-then-left-size
-returns-then-left-size c =
-    let l = c.loop-at in
-    let s = c.args.list.now in
-    sym (l.invariant.1 ∙ ok_broken l.least l.at s (omega arith) (λ b. omega (arith, b.whole)))
-
-pub id_at-id-requires : goal.id_at-id-requires
-id_at-id-requires c = omega arith
-
--- an entry begins here
-pub returns-then-id-least : goal.returns-then-id-least
-returns-then-id-least c =
-    let l = c.loop-at in
-    let s = c.args.list.now in
-    let b : Begins l.at s = record { whole = omega arith; short = omega arith } in
-    sym (l.invariant.1 ∙ ok_low l.least l.at s b (omega (arith, c.id_at-id.ensures)))
-
-pub overflow_add-at : goal.overflow_add-at
-overflow_add-at c = omega arith
-
-pub overflow_add-at-in-loop-at : goal.overflow_add-at-in-loop-at
-overflow_add-at-in-loop-at c = omega arith
-
-pub loop-at-smaller : goal.loop-at-smaller
-loop-at-smaller c = omega arith
-
-pub loop-at-preserved : goal.loop-at-preserved
-loop-at-preserved c =
-    let l = c.loop-at in
-    let s = c.args.list.now in
-    let i = c.id_at-id.ensures in
-    let b : Begins l.at s = record { whole = omega arith; short = omega arith } in
-    (omega arith, l.invariant.1 ∙ ok_next l.least l.at s b (omega (arith, i)) ∙ ap (λ (n : ℕ). ok_from (n + 1) (l.at + (3 + get_or s (l.at + 2) 0)) s) (sym i))
+pub returns-in_default : goal.returns-in_default
+returns-in_default c = too_short c.loop-rest.invariant _ c.is_empty.ensures c.loop-rest-test.true c.in_default.len_below
 
 pub returns : goal.returns
-returns c =
-    let l = c.loop-at in
-    let s = c.args.list.now in
-    sym (l.invariant.1 ∙ ok_end l.least l.at s l.invariant.0 (omega arith))
+returns c = all_tested c.loop-rest.invariant _ c.is_empty.ensures c.loop-rest-test.false

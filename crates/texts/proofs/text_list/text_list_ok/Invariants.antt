@@ -1,13 +1,10 @@
--- The loop: the list is one exactly if it is one from byte `at` on, with no ID below `least`.
-use Prim.Native.Nat.{◌-◌, ◌≤◌}
-use mathlib.Core.Path.{◌≡◌}
-use lib.ListN.{length}
-use Rattle.baos.specs.TextList.{text_list_ok}
-use Rattle.baos.proofs.TextListLaws.{ok_from}
+-- The loop: what is left to test.
+use Rattle.std.proofs.Common.{length}
+use Rattle.texts.proofs.ListLaws.{LeftToTest}
 use Rattle.texts.proofs.text_list.text_list_ok.Given as goal
 
-abbrev pub invariant-loop-at : goal.invariant-loop-at
-invariant-loop-at l = (l.at ≤ length l.list) × (text_list_ok l.list ≡ ok_from l.least l.at l.list)
+abbrev pub invariant-loop-rest : goal.invariant-loop-rest
+invariant-loop-rest l = LeftToTest l.list l.rest l.least
 
-abbrev pub decreases-loop-at : goal.decreases-loop-at
-decreases-loop-at l = length l.list - l.at
+abbrev pub decreases-loop-rest : goal.decreases-loop-rest
+decreases-loop-rest l = length l.rest

@@ -1,6 +1,5 @@
 -- The loop: the search stands where an entry begins, and the place that it looks for is ahead.
-use Prim.Native.Nat.{◌-◌}
-use lib.ListN.{length}
+use Rattle.std.proofs.Common.{◌-◌, length}
 use Rattle.baos.proofs.TextListLaws.{Searching}
 use Rattle.texts.proofs.text_list.text_place.Given as goal
 

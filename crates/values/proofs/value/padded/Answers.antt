@@ -1,4 +1,4 @@
-use mathlib.Core.Path.{◌∙◌}
+use Rattle.std.proofs.Common.{◌∙◌}
 use Rattle.baos.proofs.EntryLaws.{put_zeros}
 use Rattle.values.proofs.value.padded.Goals as goal
 

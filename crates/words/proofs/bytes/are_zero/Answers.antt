@@ -1,44 +1,26 @@
-use Prim.Native.Nat.{◌-◌}
-use mathlib.Core.Path.{sym, ◌∙◌}
-use native.Mathlib.Omega.{arith}
-use lib.ListN.{length}
-use Rattle.words.proofs.ByteLaws.{zero_none, zero_more, zero_fails, zero_last, zero_all}
+use Rattle.std.proofs.Common.{◌≡◌, sym, ◌∙◌, rules, arith}
+use Rattle.std.specs.Slice.Iter.{chunks_exact_rest}
+use Rattle.words.proofs.WordLaws.{rest_whole}
+use Rattle.words.proofs.ByteLaws.{zero_none, zero_more, zero_fails, zero_last}
 use Rattle.words.proofs.bytes.are_zero.Goals as goal
 
-pub run_is_zero-requires : goal.run_is_zero-requires
-run_is_zero-requires c = omega arith
+pub loop-run-init : goal.loop-run-init
+loop-run-init c =
+    let e : chunks_exact_rest c.into_iter-run-iterator.result ≡ c.args.s.now = search rules in
+    (search rules, tt, search rules, rw e (zero_none c.args.s.now))
 
-pub returns-then-n-lt32 : goal.returns-then-n-lt32
-returns-then-n-lt32 c =
-    let s = c.args.s.now in
-    c.run_is_zero.ensures ∙ zero_all s (length s) (omega arith)
+pub returns-then-not-run_is_zero : goal.returns-then-not-run_is_zero
+returns-then-not-run_is_zero c =
+    let z = rw c.in-Some.ensures.steps.1.0 at c.loop-run.invariant.3 in
+    sym (zero_fails _ _ _ z (sym c.run_is_zero-in-loop-run.ensures ∙ c.if-not-run_is_zero.true))
 
-pub loop-i-init : goal.loop-i-init
-loop-i-init c = (omega arith, zero_none)
-
-pub run_is_zero-requires-in-loop-i : goal.run_is_zero-requires-in-loop-i
-run_is_zero-requires-in-loop-i c = omega arith
-
-pub loop-i-smaller : goal.loop-i-smaller
-loop-i-smaller c = omega arith
-
-pub loop-i-preserved : goal.loop-i-preserved
-loop-i-preserved c =
-    let l = c.loop-i in
-    let s = c.args.s.now in
-    (omega arith, zero_more s l.i 32 l.invariant.1 (sym c.run_is_zero-in-loop-i.ensures ∙ c.if-run_is_zero.true))
-
-pub returns-else-run_is_zero : goal.returns-else-run_is_zero
-returns-else-run_is_zero c =
-    let l = c.loop-i in
-    let s = c.args.s.now in
-    sym (zero_fails s l.i 32 (sym c.run_is_zero-in-loop-i.ensures ∙ c.if-run_is_zero.false))
-
-pub run_is_zero-requires-2 : goal.run_is_zero-requires-2
-run_is_zero-requires-2 c = omega arith
+pub loop-run-preserved : goal.loop-run-preserved
+loop-run-preserved c =
+    let z = rw c.in-Some.ensures.steps.1.0 at c.loop-run.invariant.3 in
+    (search rules, tt, search rules, zero_more _ _ _ z (sym c.run_is_zero-in-loop-run.ensures ∙ c.if-not-run_is_zero.false))
 
 pub returns : goal.returns
 returns c =
-    let l = c.loop-i in
     let s = c.args.s.now in
-    c.run_is_zero-2.ensures ∙ zero_last s (length s - 32) l.i 32 (omega arith) (omega arith) l.invariant.1
+    let z = c.loop-run.invariant.3 in
+    c.run_is_zero-2.ensures ∙ rw (rest_whole _ s) (zero_last s _ _ z (omega (arith, c.in-None.ensures.steps.1.0)))

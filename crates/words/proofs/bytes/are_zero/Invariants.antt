@@ -1,13 +1,12 @@
--- The loop: the first i bytes are 0, and i is at most 31 past `last`.
-use Prim.Native.Nat.{◌+◌, ◌≤◌, ◌-◌}
-use mathlib.Core.Path.{◌≡◌}
-use mathlib.Core.Bool.{true}
-use lib.ListN.{take}
-use Rattle.words.specs.Words.{are_zero}
+-- The loop: the bytes passed are 0, by runs of 32.
+use Rattle.std.proofs.Common.{◌≡◌}
+use Rattle.std.specs.Slice.Iter.{chunks_exact_rest, chunks_exact_size}
+use Rattle.words.proofs.ByteLaws.{ZeroUpTo}
 use Rattle.words.proofs.bytes.are_zero.Given as goal
 
-abbrev pub invariant-loop-i : goal.invariant-loop-i
-invariant-loop-i l = (l.i ≤ l.last + 31) × (are_zero (take l.i l.s) ≡ true)
-
-abbrev pub decreases-loop-i : goal.decreases-loop-i
-decreases-loop-i l = l.last + 32 - l.i
+abbrev pub invariant-loop-run : goal.invariant-loop-run
+invariant-loop-run l =
+    (goal.iterator-loop-run).can_next l.run-iterator
+    × (goal.iterator-loop-run).is_finite l.run-iterator
+    × (chunks_exact_size l.run-iterator ≡ 32)
+    × ZeroUpTo l.s (chunks_exact_rest l.run-iterator)
