@@ -1,7 +1,7 @@
 //! The archive's C functions against host/plain.rs, call by call: each thing through all its values, random walks of
 //! events on random tables, one broken thing at a time, several at once, and garbage. Compared are the answer, every
-//! byte of the output, and all memory that is lent, field by field; on a refusal byte by byte, padding too. A reading is
-//! a call as well: compared are its three members, the floating one by its bits, and every byte. So is a burst: compared
+//! byte of the output, and all memory that is lent, byte by byte: padding stays as it was, on a refusal or not. A reading
+//! is a call as well: compared are its three members, the floating one by its bits, and every byte. So is a burst: compared
 //! are its three members, the run of places to its end, and every byte around; and some bursts go through the call too,
 //! one byte after the other, for what the receiver finds. Set requests are also cut at every entry boundary, and come
 //! in pairs in both orders: then what the tables hold is compared with what they hold the other way. The first

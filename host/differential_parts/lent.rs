@@ -57,7 +57,6 @@ pub struct BurstNumbers {
 }
 
 const DATAPOINT: usize = 22;
-const DATAPOINT_PADDING: usize = 21;
 const ITEM: usize = 20;
 const LINK: usize = 530;
 const LINK_PADDING: usize = 529;
@@ -236,25 +235,21 @@ impl Lent {
         self.memory[..self.end] == self.wanted[..self.end]
     }
 
+    /// A fresh link record is written whole: its padding may be anything afterwards.
     pub fn fresh_link(&mut self) {
         self.before[..self.end].copy_from_slice(&self.memory[..self.end]);
         unsafe { tagobrelin_fresh_link(self.memory.as_mut_ptr().add(self.link)) }
+        self.before[self.link + LINK_PADDING] = self.memory[self.link + LINK_PADDING];
     }
 
-    /// Whether the memory is what the plain server leaves: `sent` at the start of the output, its tables, lists and
-    /// link record, and every other byte as before. Padding may differ where the call was accepted (`sent` is given),
-    /// and nowhere else.
+    /// Whether the memory is what the plain server leaves: `sent` at the start of the output where the call was
+    /// accepted, its tables, lists and link record, and every other byte as before, padding too.
     pub fn is(&mut self, after: &Server, sent: Option<&[u8]>) -> bool {
         self.wanted[..self.end].copy_from_slice(&self.before[..self.end]);
         let places = self.places();
         put(&mut self.wanted, places, after);
         if let Some(sent) = sent {
             self.wanted[self.out..self.out + sent.len()].copy_from_slice(sent);
-            self.wanted[self.link + LINK_PADDING] = self.memory[self.link + LINK_PADDING];
-            for record in 0..self.datapoint_count {
-                let at = self.datapoints + record * DATAPOINT + DATAPOINT_PADDING;
-                self.wanted[at] = self.memory[at];
-            }
         }
         self.memory[..self.end] == self.wanted[..self.end]
     }

@@ -42,21 +42,18 @@ fn memory_of(value: &[u8]) -> [u8; 14]
     }
 }
 
-// A command of a set request, with the value sent with it.
+// A command of a set request, with the value sent with it. Fields are assigned and no record is built: a literal would
+// write the padding byte too.
 #[tactic(auto, using(baos::proofs::ApplyLaws::value_1, baos::proofs::ApplyLaws::value_3, baos::proofs::ApplyLaws::value_stays), unfolding(baos::specs::Datapoint::with_state, baos::specs::Datapoint::with_value))]
-pub fn command(d: Datapoint, c: u8, value: &[u8]) -> Datapoint
+pub fn command(mut d: Datapoint, c: u8, value: &[u8]) -> Datapoint
     requires { length value.now ≤ 14 }
     ensures { result ≡ commanded c value.now d }
 {
-    let state = state_after(c, d.state);
-    match c {
-        SET_VALUE | SET_AND_SEND => Datapoint {
-            state,
-            value: memory_of(value),
-            ..d
-        },
-        _ => Datapoint { state, ..d },
+    d.state = state_after(c, d.state);
+    if matches!(c, SET_VALUE | SET_AND_SEND) {
+        d.value = memory_of(value);
     }
+    d
 }
 
 // Whether the command is taken, by what looking up the ID found and by the flags: an open datapoint takes those that
