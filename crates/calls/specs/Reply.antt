@@ -25,11 +25,17 @@ refusal_number LinkNotInRange = 2
 refusal_number NoRoom = 3
 refusal_number BadBusEvent = 4
 
--- what the code answers, as a reply; and what a check of what is lent says, as a number: 0 where nothing is refused
+-- what the code answers, as a reply
 abbrev pub reply_of : Result ℕ Refusal → Reply
 reply_of (Ok count) = Accepted count
 reply_of (Err r) = Refused (refusal_number r)
 
+-- the same with the refusal by its number, whatever the number
+abbrev pub reply_by : Result ℕ ℕ → Reply
+reply_by (Ok count) = Accepted count
+reply_by (Err n) = Refused n
+
+-- what a check of what is lent says, as a number: 0 where nothing is refused
 abbrev pub refusal_of : Result ⊤ Refusal → ℕ
 refusal_of (Ok x) = 0
 refusal_of (Err r) = refusal_number r

@@ -5,7 +5,7 @@ ghost use Rattle.ft12.specs.Burst.{three_numbers};
 ghost use Rattle.cases.specs.Burst.{FindsAs};
 
 use bursts::burst::read_burst;
-use ft12::burst::BurstNumbers;
+use ft12::burst::{BurstNumbers, BurstRefusal};
 use numbers::burst::burst_numbers;
 
 // Whether what was found has these numbers: how the burst ended, and the two counts.
@@ -40,7 +40,7 @@ pub fn has_found(a: &[u8]) -> bool
         return false;
     };
     let mut starts = [0; 2048];
-    let reply = read_burst(burst, &mut starts);
+    let reply = read_burst(burst, &mut starts).map_err(BurstRefusal::number);
     are_numbers(burst_numbers(reply), *ending, *frames, *acknowledgements)
         & are_starts(&starts, wanted)
 }

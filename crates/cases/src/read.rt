@@ -6,7 +6,7 @@ ghost use Rattle.cases.specs.Same.{Decides};
 ghost use Rattle.cases.specs.View.{bench_of};
 
 use crate::bench::Bench;
-use dpt::reading::ReadingNumbers;
+use dpt::reading::{ReadingNumbers, ReadingRefusal};
 use readings::numbers::reply_numbers;
 use readings::reading::{of_four_bytes, reading};
 use script::line::Line;
@@ -27,7 +27,9 @@ fn are_numbers(numbers: ReadingNumbers, case: u8, refusal: u8, whole: u8, bits: 
 pub fn has_read(bench: &Bench, line: &Line) -> bool
     ensures { Decides result (ReadsAs (bench_of bench.now) (line_of line.now).bytes) }
 {
-    let reply = reading(raised(line.byte(0), line.byte(1), 0), &bench.datapoints);
+    let reply = reading(raised(line.byte(0), line.byte(1), 0), &bench.datapoints).map_err(
+        ReadingRefusal::number,
+    );
     let bits = of_four_bytes(line.byte(5), line.byte(6), line.byte(7), line.byte(8));
     are_numbers(
         reply_numbers(reply),

@@ -7,12 +7,14 @@ use mathlib.Core.List.{List, [], ◌∷◌}
 use lib.Dec.{T, eqb, ltb}
 use lib.IntN.{ℤ, pos, negsuc}
 use lib.Ieee.{Float, nan, inf, fin, Format, prec, emax, low, binary32, odd, units, round, is_nan}
-use Rattle.std.specs.Prelude.{if◌then◌else◌}
+use Rattle.std.specs.Prelude.{if◌then◌else◌, Result, Ok, Err}
+use Rattle.std.specs.Result.{MatchResult, IsErrAnd}
 use Rattle.words.specs.Words.{is_yes, of_two_bytes}
 use Rattle.words.proofs.WordLaws.{read_written}
 use Rattle.dpt.specs.declared.reading.Reading.{Reading}
 use Rattle.dpt.specs.declared.reading.Reading.TheVariants.{Switch, Count, TwoOctet, Single, Unreadable}
-use Rattle.dpt.specs.Reply.{ReadingReply, Refused, Given}
+use Rattle.dpt.specs.declared.reading.ReadingRefusal.{ReadingRefusal}
+use Rattle.dpt.specs.Reply.{ReadingReply, Refused, Given, reading_refusal_number, reading_reply_of, reading_reply_by}
 use Rattle.dpt.specs.declared.reading.ReadingNumbers.{ReadingNumbers}
 use Rattle.baos.specs.declared.datapoint.Datapoint.{Datapoint}
 use Rattle.baos.specs.Datapoint.{datapoint_id, datapoint_ok, is_valid}
@@ -131,3 +133,9 @@ reply_number_lem id ds = go (table_ok 1000 datapoint_id datapoint_ok ds) (found 
     go true [] = tt
     go true (d ∷ es) = reading_number d
     go false es = tt
+
+-- ---- the refusal by its number says the same
+pub by_number : (r : Result Reading ReadingRefusal) (s : Result Reading ℕ) → MatchResult r (λ x. s ≡ Ok x) (λ e. IsErrAnd s (λ n. n ≡ reading_refusal_number e)) → reading_reply_by s ≡ reading_reply_of r
+by_number (Ok x) s m = ap reading_reply_by m
+by_number (Err e) (Ok x) m = absurd m
+by_number (Err e) (Err n) m = ap Refused m

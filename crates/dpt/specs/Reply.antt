@@ -18,3 +18,8 @@ reading_refusal_number AbsentId = 4
 abbrev pub reading_reply_of : Result Reading ReadingRefusal → ReadingReply
 reading_reply_of (Ok r) = Given r
 reading_reply_of (Err e) = Refused (reading_refusal_number e)
+
+-- the same with the refusal by its number, whatever the number
+abbrev pub reading_reply_by : Result Reading ℕ → ReadingReply
+reading_reply_by (Ok r) = Given r
+reading_reply_by (Err n) = Refused n

@@ -3,15 +3,18 @@ use Rattle.std.proofs.Common.{ℕ, zero, suc, ◌+◌, ◌-◌, ◌≤◌, ◌<�
 use mathlib.Core.Bool.{or-true}
 use lib.ListN.{length-map}
 use lib.Seq.{append_snoc}
-use Rattle.std.specs.Prelude.{if◌then◌else◌}
+use Rattle.std.specs.Prelude.{if◌then◌else◌, Result, Ok, Err}
+use Rattle.std.specs.Result.{MatchResult, IsErrAnd}
 use Rattle.words.specs.Words.{is_empty, put}
 use Rattle.words.proofs.WordLaws.{left, right, T_true, kept_and_not, some_filled}
 use Rattle.ft12.specs.Frame.{fixed_frame, data_frame}
 use Rattle.ft12.specs.Receiver.{judged, is_more, gathers, is_beginning}
-use Rattle.ft12.specs.Burst.{Piece, Contents, before, just_ends, gathered_after, with_byte, contents_from, contents, first_size, is_acknowledgement, figures_of, starts_of, burst_refused, BurstReply, Refused, Read, read_burst, ending_number, burst_numbers}
+use Rattle.ft12.specs.Burst.{Piece, Contents, before, just_ends, gathered_after, with_byte, contents_from, contents, first_size, is_acknowledgement, figures_of, starts_of, burst_refused, BurstReply, Refused, Read, read_burst, number_of_refusal, reply_of, reply_by, ending_number, burst_numbers}
 use Rattle.ft12.specs.declared.receiver.Judgement.TheVariants.{More, Damage}
 use Rattle.ft12.specs.declared.burst.Ending.{Ending}
 use Rattle.ft12.specs.declared.burst.Ending.TheVariants.{Clean, Damaged, Unfinished}
+use Rattle.ft12.specs.declared.burst.Figures.{Figures}
+use Rattle.ft12.specs.declared.burst.BurstRefusal.{BurstRefusal}
 use Rattle.ft12.specs.declared.burst.BurstNumbers.{BurstNumbers}
 use Rattle.ft12.proofs.RulesLaws.{is_more_lem}
 use Rattle.ft12.proofs.BeginningLaws.{damages}
@@ -215,3 +218,9 @@ reply_back_lem (Read f) = read_back f.ending f.frames f.acknowledgements
 
 pub reply_told : (r q : BurstReply) → burst_numbers r ≡ burst_numbers q → r ≡ q
 reply_told r q e = sym (reply_back_lem r) ∙ ap reply_back e ∙ reply_back_lem q
+
+-- ---- the refusal by its number says the same
+pub by_number : (r : Result Figures BurstRefusal) (s : Result Figures ℕ) → MatchResult r (λ x. s ≡ Ok x) (λ e. IsErrAnd s (λ n. n ≡ number_of_refusal e)) → reply_by s ≡ reply_of r
+by_number (Ok x) s m = ap reply_by m
+by_number (Err e) (Ok x) m = absurd m
+by_number (Err e) (Err n) m = ap Refused m

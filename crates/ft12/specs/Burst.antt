@@ -113,6 +113,11 @@ abbrev pub reply_of : Result Figures BurstRefusal → BurstReply
 reply_of (Ok f) = Read f
 reply_of (Err e) = Refused (number_of_refusal e)
 
+-- the same with the refusal by its number, whatever the number
+abbrev pub reply_by : Result Figures ℕ → BurstReply
+reply_by (Ok f) = Read f
+reply_by (Err n) = Refused n
+
 -- ---- replies as numbers
 -- the place in the paper's list, "clean, in damage or in an unfinished frame" (build)
 unfoldable pub ending_number : Ending → ℕ

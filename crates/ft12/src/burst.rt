@@ -1,4 +1,6 @@
 // A burst: everything between two idle marks at once (document 02, item 8).
+ghost use Rattle.std.specs.Prelude.{◌≡◌};
+ghost use Rattle.ft12.specs.Burst.{number_of_refusal};
 
 // "up to 2048 bytes"; "a lent run of 2048 places"; "call number 8 for a longer burst or a shorter run".
 pub const LONGEST_BURST: usize = 2048;
@@ -28,6 +30,17 @@ pub struct Figures {
 pub enum BurstRefusal {
     TooLong,
     TooFewPlaces,
+}
+
+impl BurstRefusal {
+    // The paper's number.
+    pub fn number(self) -> u8
+        ensures { result ≡ number_of_refusal self }
+    {
+        match self {
+            BurstRefusal::TooLong | BurstRefusal::TooFewPlaces => BAD_BURST,
+        }
+    }
 }
 
 // The answer as C has it: minus the refusal's number, or the place of the ending in the paper's list, 1 to 3; and the two

@@ -1,11 +1,10 @@
 // Events and replies as the numbers that firmware gives and gets.
 ghost use Rattle.std.specs.Prelude.{if◌then◌else◌, ◌≡◌, ◌<◌, ◌^◌, Some, None};
-ghost use Rattle.calls.specs.Reply.{sent_count, reply_of};
+ghost use Rattle.calls.specs.Reply.{sent_count, reply_by};
 ghost use Rattle.calls.specs.Numbers.{is_event, outcome_numbered, event_numbered, reply_number};
 
 use baos::bus::Outcome;
 use calls::event::Event;
-use calls::refusal::Refusal;
 
 // Whether the numbers name an event.
 #[tactic(auto, unfolding(calls::specs::Numbers::is_event))]
@@ -57,13 +56,14 @@ pub fn event_named(event: u8, byte: u8, id: u16, outcome: u8) -> Option<Event>
     }
 }
 
-// How many bytes are to be sent, or minus the refusal's number. No `From`, since neither type is this crate's.
-pub fn reply_number(reply: Result<usize, Refusal>) -> i32
-    requires { sent_count (reply_of reply) < 2 ^ 31 }
-    ensures { result ≡ reply_number (reply_of reply) }
+// How many bytes are to be sent, or minus the refusal's number: any number, as the definition has it, since a number is
+// what firmware gets. No `From`, since neither type is this crate's.
+pub fn reply_number(reply: Result<usize, u8>) -> i32
+    requires { sent_count (reply_by reply) < 2 ^ 31 }
+    ensures { result ≡ reply_number (reply_by reply) }
 {
     match reply {
         Ok(count) => count as i32,
-        Err(refusal) => -(refusal.number() as i32),
+        Err(number) => -(number as i32),
     }
 }

@@ -1,9 +1,9 @@
 // Readings and refusals as the numbers that firmware gets.
 ghost use Rattle.std.specs.Prelude.{◌≡◌};
-ghost use Rattle.dpt.specs.Reply.{reading_reply_of};
+ghost use Rattle.dpt.specs.Reply.{reading_reply_by};
 ghost use Rattle.dpt.specs.Numbers.{reading_numbers, reading_reply_numbers};
 
-use dpt::reading::{Reading, ReadingNumbers, ReadingRefusal};
+use dpt::reading::{Reading, ReadingNumbers};
 
 // Functions and no `From`, which would have to stand beside these types, among the definitions.
 #[tactic(auto, unfolding(dpt::specs::Numbers::reading_numbers))]
@@ -39,15 +39,16 @@ fn reading_numbers(reading: Reading) -> ReadingNumbers
     }
 }
 
-// Minus the refusal's number, or the reading's numbers.
+// Minus the refusal's number, or the reading's numbers: for any number, as the definition has it, since a number is what
+// firmware gets.
 #[tactic(auto, unfolding(dpt::specs::Numbers::reading_reply_numbers))]
-pub fn reply_numbers(reply: Result<Reading, ReadingRefusal>) -> ReadingNumbers
-    ensures { result ≡ reading_reply_numbers (reading_reply_of reply) }
+pub fn reply_numbers(reply: Result<Reading, u8>) -> ReadingNumbers
+    ensures { result ≡ reading_reply_numbers (reading_reply_by reply) }
 {
     match reply {
         Ok(reading) => reading_numbers(reading),
-        Err(refusal) => ReadingNumbers {
-            number: -(refusal.number() as i32),
+        Err(number) => ReadingNumbers {
+            number: -(number as i32),
             whole: 0,
             value: 0.0,
         },

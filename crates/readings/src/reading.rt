@@ -71,6 +71,8 @@ pub fn reading(id: u16, datapoints: &[Datapoint]) -> Result<Reading, ReadingRefu
     }
     match datapoints.get(place(datapoints, id)) {
         Some(d) if d.id == id => Ok(reading_of(*d)),
-        _ => Err(ReadingRefusal::AbsentId),
+        // Absent: a higher ID stands at its place, or it lies above the last.
+        Some(_) => Err(ReadingRefusal::AbsentId),
+        None => Err(ReadingRefusal::AbsentId),
     }
 }

@@ -1,6 +1,6 @@
 // DPT 9: hundredths, exact in 32-bit floating point, and one division by 100.
 ghost use Rattle.std.specs.Prelude.{◌≡◌, unsigned_abs};
-ghost use Rattle.dpt.specs.TwoOctet.{hundredths, two_octet};
+ghost use Rattle.dpt.specs.TwoOctet.{hundredths, IsWhole, two_octet};
 
 use std::num::nearest_i32_to_f32;
 
@@ -24,10 +24,17 @@ fn in_hundredths(high: u8, low: u8) -> i32
     if high >= 128 { -size } else { size }
 }
 
-// The reading: rounded once, by the division. 7FFF is told apart before. `as` is undefined above 2 ^ 24 here, and the
-// hundredths reach 2 ^ 26. `nearest_i32_to_f32` rounds, and finds nothing to round.
+// The hundredths, exactly. `as` is undefined above 2 ^ 24 here, and they reach 2 ^ 26. `nearest_i32_to_f32` rounds, and
+// finds nothing to round.
+fn exact(high: u8, low: u8) -> f32
+    ensures { IsWhole result (hundredths high low) }
+{
+    nearest_i32_to_f32(in_hundredths(high, low))
+}
+
+// The reading: rounded once, by the division. 7FFF is told apart before.
 pub fn two_octet(high: u8, low: u8) -> f32
     ensures { result ≡ two_octet high low }
 {
-    nearest_i32_to_f32(in_hundredths(high, low)) / 100.0
+    exact(high, low) / 100.0
 }

@@ -11,8 +11,9 @@ ghost use Rattle.dpt.specs.Numbers.{reading_reply_numbers};
 use baos::datapoint::Datapoint;
 use baos::item::Item;
 use bursts::burst::read_burst;
-use dpt::reading::ReadingNumbers;
-use ft12::burst::BurstNumbers;
+use calls::refusal::Refusal;
+use dpt::reading::{ReadingNumbers, ReadingRefusal};
+use ft12::burst::{BurstNumbers, BurstRefusal};
 use ft12::record::Link;
 use numbers::burst::burst_numbers;
 use numbers::numbers::{event_named, reply_number};
@@ -49,9 +50,10 @@ pub extern "C" fn tagobrelin_call<'a>(
     let Some(event) = event_named(event, byte, id, outcome) else {
         return NO_EVENT;
     };
-    reply_number(call(
+    let reply = call(
         event, value, datapoints, items, parameters, site, defaults, link, out,
-    ))
+    );
+    reply_number(reply.map_err(Refusal::number))
 }
 
 // The reading of the datapoint of an ID, by numbers. The table is only read.
@@ -59,7 +61,7 @@ pub extern "C" fn tagobrelin_call<'a>(
 pub extern "C" fn tagobrelin_read(id: u16, datapoints: &[Datapoint]) -> ReadingNumbers
     ensures { result ≡ reading_reply_numbers (reading_for id datapoints.now) }
 {
-    reply_numbers(reading(id, datapoints))
+    reply_numbers(reading(id, datapoints).map_err(ReadingRefusal::number))
 }
 
 // What a burst holds, by numbers: where each frame and each acknowledgement starts goes into the run.
@@ -67,7 +69,7 @@ pub extern "C" fn tagobrelin_read(id: u16, datapoints: &[Datapoint]) -> ReadingN
 pub extern "C" fn tagobrelin_read_burst(burst: &[u8], starts: &mut [u16]) -> BurstNumbers
     ensures { BurstGives (read_burst burst.now starts.old) result starts.new }
 {
-    burst_numbers(read_burst(burst, starts))
+    burst_numbers(read_burst(burst, starts).map_err(BurstRefusal::number))
 }
 
 // A link record for the first call: the one that a reset leaves.

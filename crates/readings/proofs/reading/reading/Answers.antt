@@ -22,14 +22,14 @@ returns-in-Some c =
     ap Given c.reading_of.ensures ∙ sym (present d _ c.if-d-id.true)
     ∙ there c.args.id c.args.datapoints.now (sym c.is_well_formed.ensures ∙ c.if-not-is_well_formed.false) c.place.result c.place.ensures d (ltb-true _ _ (sym found.0)) found.1
 
-pub returns-in_default : goal.returns-in_default
-returns-in_default c =
+pub returns-in-Some-2 : goal.returns-in-Some-2
+returns-in-Some-2 c =
     let d = c.in-Some.d.now in
     let found = c.in-Some.ensures.lookup in
     sym (absent d _ c.if-d-id.false)
     ∙ there c.args.id c.args.datapoints.now (sym c.is_well_formed.ensures ∙ c.if-not-is_well_formed.false) c.place.result c.place.ensures d (ltb-true _ _ (sym found.0)) found.1
 
-pub returns-in_default-2 : goal.returns-in_default-2
-returns-in_default-2 c =
-    let past = rw c.in_default.is at c.get.ensures.lookup in
+pub returns-in-None : goal.returns-in-None
+returns-in-None c =
+    let past = rw c.in-None.is at c.get.ensures.lookup in
     nowhere c.args.id c.args.datapoints.now (sym c.is_well_formed.ensures ∙ c.if-not-is_well_formed.false) c.place.result c.place.ensures past.3
