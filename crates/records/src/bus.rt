@@ -25,7 +25,7 @@ pub fn takes_event(event: BusEvent, id: u16, value: &[u8], d: Datapoint) -> bool
 }
 
 // The record after it.
-#[tactic(auto, using(baos::proofs::BusLaws::taken_fits, baos::proofs::BusLaws::status_fits), unfolding(baos::specs::Bus::taken))]
+#[tactic(auto, using(baos::proofs::BusLaws::taken_fits, baos::proofs::BusLaws::status_fits), unfolding(baos::specs::Bus::taken, baos::specs::Bus::status_of))]
 pub fn after_event(event: BusEvent, value: &[u8], d: Datapoint) -> Datapoint
     requires { T (takes event value.now d) }
     ensures { result ≡ taken event value.now d }
