@@ -1,6 +1,8 @@
 -- The laws of the first pass, turn by turn, of a table of any records: how far it has come, by the entries found.
 use Rattle.std.proofs.Common.{◌≡◌, ◌≢◌, refl, sym, ◌∙◌, ap, subst, ℕ, ◌+◌, ◌-◌, ◌<◌, ◌≤◌, Bool, true, false, not, ◌&&◌, List, [], ◌∷◌, length, get_or, take, drop, arith, Option, Some, None, Result, Ok, Err, T, leb, drop_of_length-le, lt-ltb, le-ltb, ne_eqb, eq-eqb}
 use Rattle.std.proofs.Common.{MatchResult}
+use Rattle.std.specs.Result.{IsErrAnd}
+use Rattle.std.proofs.lemmas.Result.{err_from_is_err_and}
 use Rattle.std.proofs.Math.Seq.{get_or-drop, take-length}
 use Rattle.std.proofs.lemmas.List.{length-drop}
 use Rattle.words.specs.Words.{every}
@@ -20,6 +22,7 @@ use Rattle.baos.proofs.PassLaws.{here_ok, pass_ends, pass_on}
 use Rattle.baos.proofs.PlaceLaws.{above, at_place, from_id, from_ok}
 use Rattle.gets.specs.Measure.{size_wanted, record_step, Measured}
 use Rattle.gets.specs.declared.found.Entries.{Entries}
+use Rattle.gets.specs.declared.found.Faulty.{Faulty}
 
 -- the part of a table from place n on, and what is read there
 abbrev pub part : {A : Type 0} → ℕ → List A → List A
@@ -67,13 +70,27 @@ pub record Comes (g : Gathered) (e : Entries) : Type 0 where
   pub count : g.count ≡ e.count
   pub size : g.size ≡ e.size
 
+-- a fault, with those that were found until then
+abbrev pub Kept : Entries → Fault → Faulty → Type 0
+Kept e f s = (s.found.count ≡ e.count) × (s.found.size ≡ e.size) × (s.fault ≡ f)
+
+-- entries, or a fault with those that were found until then: what is known of either stays known
+pub with_found : (P : Entries → Type 0) (Q : Fault → Type 0) (R : Fault → Faulty → Type 0) (e : Entries) (r : Result Entries Fault) (o : Result Entries Faulty)
+    → MatchResult r P Q → MatchResult r (λ x. o ≡ Ok x) (λ f. IsErrAnd o (R f)) → ((f : Fault) (s : Faulty) → R f s → Kept e f s)
+    → MatchResult o P (λ s. (f : Fault) × Kept e f s × Q f)
+with_found P Q R e (Ok x) o m k h = rw k m
+with_found P Q R e (Err f) o m k h = let p = err_from_is_err_and o k in rw p.1 (f, h f p.0 p.2, m)
+
 -- rows 2 and 3, of these
-pub judged : (start : ℕ) (g : Gathered) (e : Entries) → Comes g e → (r : Result Entries Fault)
-    → MatchResult r (λ x. (e.count ≢ 0) × (x.count ≡ e.count) × (x.size ≡ e.size)) (λ f. (e.count ≡ 0) × (f ≡ record { id = start; code = NoElementFound })) → Measured start g r
+pub judged : (start : ℕ) (g : Gathered) (e : Entries) → Comes g e → (r : Result Entries Faulty)
+    → MatchResult r (λ x. (e.count ≢ 0) × (x.count ≡ e.count) × (x.size ≡ e.size))
+    (λ s. (f : Fault) × Kept e f s × ((e.count ≡ 0) × (f ≡ record { id = start; code = NoElementFound })))
+    → Measured start g r
 unfolding gathered_verdict verdict_of code_number
 judged start g e c (Ok x) m =
     (simp (eq-eqb g.over 0 c.over, ne_eqb g.count 0 (λ z. m.0 (sym c.count ∙ z))), m.1 ∙ sym c.count, m.2 ∙ sym c.size)
-judged start g e c (Err f) m = rw m.1 (simp (eq-eqb g.over 0 c.over, eq-eqb g.count 0 (c.count ∙ m.0)) refl)
+judged start g e c (Err s) (f, k, m) =
+    (rw (k.2, m.1) (simp (eq-eqb g.over 0 c.over, eq-eqb g.count 0 (c.count ∙ m.0)) refl), k.0 ∙ sym c.count, k.1 ∙ sym c.size)
 
 module _ {A : Type 0} (most : ℕ) (id_of : A → ℕ) (ok : A → Bool) (wanted : Wanted → A → Bool) (entry : Wanted → A → AnswerEntry) (w : Wanted) (xs : List A) (from : ℕ) where
   abbrev fits : A → Bool
@@ -193,10 +210,11 @@ module _ {A : Type 0} {most : ℕ} {id_of : A → ℕ} {ok : A → Bool} {wanted
             (omega (arith, some, c, s, h.few))
 
         -- it does not
-        pub found_over : (start : ℕ) → (entry w r).id ≡ id_of r → table_ok most id_of ok xs ≡ true → from ≡ place id_of w.start xs → 248 < e.size + n → (f : Fault) → f ≡ record { id = id_of r; code = BufferTooSmall } → Measured start sum (Err f)
+        pub found_over : (start : ℕ) → (entry w r).id ≡ id_of r → table_ok most id_of ok xs ≡ true → from ≡ place id_of w.start xs → 248 < e.size + n
+            → (f : Fault) → f ≡ record { id = id_of r; code = BufferTooSmall } → (s : Faulty) → Kept e f s → Measured start sum (Err s)
         unfolding with_entry gathered_verdict verdict_of code_number
-        found_over start named t p over f is_f =
+        found_over start named t p over f is_f s kept =
             let some : 1 ≤ id_of r = id_some most id_of ok wanted entry w xs from t p (from + k) r l is in
             let g : Gathered = record { count = e.count; size = e.size; over = id_of r; ended = true } in
             let q : g ≡ sum = stops g (counted ∙ ap (λ (j : ℕ). with_entry j n (so_far e)) named ∙ simp (lt-ltb 248 (e.size + n) over) refl) refl in
-            rw (sym q, is_f) (simp (ne_eqb (id_of r) 0 (λ z. omega (arith, some, z))) refl)
+            rw (sym q, kept.2, is_f) (simp (ne_eqb (id_of r) 0 (λ z. omega (arith, some, z))) refl, kept.0, kept.1)

@@ -8,6 +8,7 @@ use Rattle.baos.specs.Message.{Finding, verdict_of, fine, bad, code_number}
 use Rattle.baos.specs.Get.{AnswerEntry}
 use Rattle.baos.specs.Inner.Gather.{is_behind, measured, gathered_verdict}
 use Rattle.gets.specs.declared.found.Entries.{Entries}
+use Rattle.gets.specs.declared.found.Faulty.{Faulty}
 
 -- how many bytes the entry takes, where it is wanted
 abbrev pub size_wanted : Bool → AnswerEntry → Option ℕ
@@ -18,12 +19,16 @@ size_wanted false e = None
 abbrev pub record_step : {A : Type 0} → (A → ℕ) → (Wanted → A → Bool) → (Wanted → A → AnswerEntry) → Wanted → A → Gathered → Gathered
 record_step id_of wanted entry w r g = measured (is_behind w (id_of r)) (wanted w r) (entry w r) g
 
--- rows 2 and 3, by all that the pass has found: the entries where both are fine, else the fault
-abbrev pub Measured : ℕ → Gathered → Result Entries Fault → Type 0
+-- rows 2 and 3, by all that the pass has found: the entries where both are fine, else the fault, with the entries found
+-- until then
+abbrev pub Measured : ℕ → Gathered → Result Entries Faulty → Type 0
 Measured start g (Ok e) = (gathered_verdict start g ≡ verdict_of fine) × (e.count ≡ g.count) × (e.size ≡ g.size)
-Measured start g (Err f) = gathered_verdict start g ≡ verdict_of (bad f.id (code_number f.code))
+Measured start g (Err s) =
+    (gathered_verdict start g ≡ verdict_of (bad s.fault.id (code_number s.fault.code)))
+    × (s.found.count ≡ g.count)
+    × (s.found.size ≡ g.size)
 
 -- the same behind rows 10 and 6, which come first
 abbrev pub Checked : Finding → ℕ → Gathered → Result Entries Fault → Type 0
 Checked r start g (Ok e) = (r ≡ fine) × Measured start g (Ok e)
-Checked r start g (Err f) = (r ≡ bad f.id (code_number f.code)) ⊎ ((r ≡ fine) × Measured start g (Err f))
+Checked r start g (Err f) = (r ≡ bad f.id (code_number f.code)) ⊎ ((r ≡ fine) × (gathered_verdict start g ≡ verdict_of (bad f.id (code_number f.code))))

@@ -56,3 +56,18 @@ impl Entries {
         Ok(self)
     }
 }
+
+// A first pass that ends in row 2 or 3: the entries that it has found until then, and what is wrong.
+#[derive(Clone, Copy)]
+pub struct Faulty {
+    pub found: Entries,
+    pub fault: Fault,
+}
+
+impl From<Faulty> for Fault {
+    ghost from_gives = { λ faulty fault. fault ≡ faulty.fault };
+
+    fn from(faulty: Faulty) -> Fault {
+        faulty.fault
+    }
+}

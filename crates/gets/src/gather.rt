@@ -15,9 +15,9 @@ ghost use Rattle.baos.proofs.MeasureLaws.{entry_id};
 ghost use Rattle.gets.specs.EntryLaws.{datapoint_bounds, item_id_lem, item_bounds};
 ghost use Rattle.gets.specs.Measure.{size_wanted, record_step, Measured};
 
-use crate::found::Entries;
+use crate::found::{Entries, Faulty};
 use baos::datapoint::Datapoint;
-use baos::inner::{Fault, Wanted};
+use baos::inner::Wanted;
 use baos::item::Item;
 use entries::entry::{put_description, put_item, put_value, put_wide_value};
 use masks::record::Record;
@@ -131,7 +131,7 @@ fn left_of(w: Wanted, d: Datapoint) -> Datapoint
 }
 
 // The first pass over a table, from the place of the first ID of the range on: rows 2 and 3.
-pub fn measure<R: Listed>(table: &[R], from: usize, w: Wanted) -> Result<Entries, Fault>
+pub fn measure<R: Listed>(table: &[R], from: usize, w: Wanted) -> Result<Entries, Faulty>
     requires { (table_ok R.most R.id_of R.ok table.now ≡ true) × (from ≡ place R.id_of w.start table.now) }
     ensures { Measured w.start
         (walked (record_step R.id_of R.is_wanted R.entry w) nothing_gathered (drop from table.now)) result }
@@ -142,10 +142,14 @@ pub fn measure<R: Listed>(table: &[R], from: usize, w: Wanted) -> Result<Entries
             break;
         }
         if let Some(size) = record.entry_size(w) {
-            found = found.with_entry(record.id(), size)?;
+            found = found
+                .with_entry(record.id(), size)
+                .map_err(|fault| Faulty { found, fault })?;
         }
     }
-    found.unless_none(w.start)
+    found
+        .unless_none(w.start)
+        .map_err(|fault| Faulty { found, fault })
 }
 
 // The second pass over the datapoints, from the place of the first ID of the range on: the entries go into the buffer

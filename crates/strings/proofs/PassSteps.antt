@@ -27,8 +27,9 @@ use Rattle.baos.proofs.PassLaws.{here_ok, built_end, built_behind, built_wanted,
 use Rattle.baos.proofs.PlaceLaws.{ok_from, from_id, at_place}
 use Rattle.baos.proofs.StringLaws.{Following, following_start, following_here, following-next, handed_size, string_length}
 use Rattle.baos.proofs.TextLaws.{text_short}
-use Rattle.gets.proofs.MeasureSteps.{part, part_reads, part_size, MeasuredTo, measured_none, in_front, Comes, comes_behind, goes_on, found_over}
+use Rattle.gets.proofs.MeasureSteps.{part, part_reads, part_size, MeasuredTo, measured_none, in_front, Kept, Comes, comes_behind, goes_on, found_over}
 use Rattle.gets.specs.declared.found.Entries.{Entries}
+use Rattle.gets.specs.declared.found.Faulty.{Faulty}
 
 -- what a look past the end would give
 abbrev pub blank_datapoint : Datapoint
@@ -109,10 +110,10 @@ module _ {ts : TextLists} {w : Wanted} {ys : List Datapoint} {start k : ℕ} {e 
       follows = follows_next ts ys start k f.follows u z c' r;
     }
 
-    pub found_over_room : table_ok 1000 datapoint_id datapoint_ok ys ≡ true → start ≡ place datapoint_id w.start ys → 248 < e.size + n → (x : Fault) → x ≡ record { id = read.id; code = BufferTooSmall }
-        → Measured w.start (sum_of ts w ys start) (Err x)
+    pub found_over_room : table_ok 1000 datapoint_id datapoint_ok ys ≡ true → start ≡ place datapoint_id w.start ys → 248 < e.size + n
+        → (x : Fault) → x ≡ record { id = read.id; code = BufferTooSmall } → (s : Faulty) → Kept e x s → Measured w.start (sum_of ts w ys start) (Err s)
     unfolding string_entry
-    found_over_room t p over x is_x = found_over f.measured u read same ahead found_within n size w.start refl t p over x is_x
+    found_over_room t p over x is_x s kept = found_over f.measured u read same ahead found_within n size w.start refl t p over x is_x s kept
 
 -- ---- the second
 module _ (ts : TextLists) (w : Wanted) (ys : List Datapoint) (start : ℕ) (out : List ℕ) (at : ℕ) where

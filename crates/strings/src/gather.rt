@@ -12,8 +12,8 @@ ghost use Rattle.baos.specs.Inner.Promise.{Written};
 ghost use Rattle.gets.specs.Measure.{Measured};
 
 use baos::datapoint::Datapoint;
-use baos::inner::{Cursors, Fault, Wanted};
-use gets::found::Entries;
+use baos::inner::{Cursors, Wanted};
+use gets::found::{Entries, Faulty};
 use gets::gather::is_behind;
 use texts::text::TextLists;
 use words::bytes::put_bytes;
@@ -41,7 +41,7 @@ pub fn measure_strings(
     w: Wanted,
     texts: TextLists<'_>,
     c: Cursors,
-) -> Result<Entries, Fault>
+) -> Result<Entries, Faulty>
     requires { (table_ok 1000 datapoint_id datapoint_ok table.now ≡ true)
         × (from ≡ place datapoint_id w.start table.now)
         × (c ≡ cursors_of w.start (text_lists texts.site.now texts.defaults.now)) }
@@ -56,9 +56,13 @@ pub fn measure_strings(
         }
         cursors = texts.cursors_at(cursors, d.id);
         let size = STRING_HEAD + texts.text_of(cursors, d.id).len();
-        found = found.with_entry(d.id, size)?;
+        found = found
+            .with_entry(d.id, size)
+            .map_err(|fault| Faulty { found, fault })?;
     }
-    found.unless_none(w.start)
+    found
+        .unless_none(w.start)
+        .map_err(|fault| Faulty { found, fault })
 }
 
 // The second pass over the datapoints, which stay as they are, from the same place and the same cursors on: the strings

@@ -27,7 +27,7 @@ pub returns-in_err-found : goal.returns-in_err-found
 unfolding finding_of
 returns-in_err-found c =
     let p = err_from_is_err_and c.from_residual-in_err-found.result c.from_residual-in_err-found.ensures.1 in
-    rw (p.1, p.2, sym c.wanted-wanted.ensures, sym c.place-from.ensures) (inr (sym c.in_ok-check_request.ensures, c.in_err-found.ensures))
+    rw (p.1, p.2, sym c.wanted-wanted.ensures, sym c.place-from.ensures) (inr (sym c.in_ok-check_request.ensures, c.in_err-found.ensures.0))
 
 pub returns : goal.returns
 unfolding finding_of
