@@ -11,6 +11,7 @@ use Rattle.calls.specs.Reply.{Reply}
 use Rattle.calls.specs.Call.{Called, call}
 use Rattle.calls.specs.Promise.{Leaves}
 use Rattle.calls.proofs.CallLaws.{reply_told}
+use Rattle.script.specs.Line.{listed}
 use Rattle.script.specs.View.{in_places, line_of}
 use Rattle.script.proofs.PlaceLaws.{take_places, drop_places}
 use Rattle.cases.specs.declared.bench.Bench.{Bench as HeldBench}
@@ -30,10 +31,10 @@ refilled xs ws e = let d : drop (length ws) xs ≡ [] = drop_of_length-le xs (om
 
 module _ (b : HeldBench) (e : Event) where
   abbrev ts : TextLists
-  ts = text_lists b.site.bytes.items b.defaults.bytes.items
+  ts = text_lists (listed (line_of b.site)) (listed (line_of b.defaults))
 
   abbrev left : Called
-  left = call e b.value.bytes.items (tables_of b.datapoints.items b.items.items b.parameters.items ts) b.link b.out
+  left = call e (listed (line_of b.value)) (tables_of b.datapoints.items b.items.items b.parameters.items ts) b.link b.out
 
   abbrev right : Called
   right = called (bench_of b) (lists_of (bench_of b)) e
@@ -41,7 +42,7 @@ module _ (b : HeldBench) (e : Event) where
   same : left ≡ right
   unfolding called tables_in lists_of
   same =
-      sym (λ j. call e (take_places 264 0 b.value.bytes.items j) (tables_of (take_places 50 no_datapoint b.datapoints.items j) (take_places 4 no_item b.items.items j) (take_places 264 0 b.parameters.items j) (text_lists (take_places 264 0 b.site.bytes.items j) (take_places 264 0 b.defaults.bytes.items j))) b.link b.out)
+      sym (λ j. call e (listed (line_of b.value)) (tables_of (take_places 50 no_datapoint b.datapoints.items j) (take_places 4 no_item b.items.items j) (take_places 264 0 b.parameters.items j) ts) b.link b.out)
 
   pub steps : (r : Reply) (ds : List Datapoint) (is : List Item) (ps : List ℕ) (k : Link) (o : List ℕ) → Leaves left r (tables_of ds is ps ts) k o
       → length ds ≡ length b.datapoints.items → length is ≡ length b.items.items → length ps ≡ length b.parameters.items

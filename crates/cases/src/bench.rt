@@ -59,18 +59,18 @@ impl Bench {
         }
     }
 
-    // The same bench once more.
+    // The same bench once more. A table is copied as a whole: `clone` goes record by record, and takes longer.
     pub fn copy(&self) -> Bench
         ensures { bench_of result ≡ bench_of self.now }
     {
         Bench {
             link: self.link,
-            datapoints: self.datapoints.clone().unwrap(),
-            items: self.items.clone().unwrap(),
-            parameters: self.parameters.clone().unwrap(),
-            site: self.site.copy(),
-            defaults: self.defaults.copy(),
-            value: self.value.copy(),
+            datapoints: ArrayVec::try_from(self.datapoints.as_slice()).unwrap(),
+            items: ArrayVec::try_from(self.items.as_slice()).unwrap(),
+            parameters: ArrayVec::try_from(self.parameters.as_slice()).unwrap(),
+            site: self.site,
+            defaults: self.defaults,
+            value: self.value,
             out: self.out,
             reply: self.reply,
         }
@@ -82,12 +82,12 @@ impl Bench {
     {
         self.reply = call(
             event,
-            self.value.bytes.as_slice(),
+            self.value.listed(),
             self.datapoints.as_mut_slice(),
             self.items.as_mut_slice(),
             self.parameters.as_mut_slice(),
-            self.site.bytes.as_slice(),
-            self.defaults.bytes.as_slice(),
+            self.site.listed(),
+            self.defaults.listed(),
             &mut self.link,
             &mut self.out,
         );

@@ -6,6 +6,7 @@ ghost use Rattle.cases.specs.View.{bench_of};
 
 use crate::bench::Bench;
 use crate::kind::Kind;
+use arrayvec::ArrayVec;
 use script::line::Line;
 use script::record::{datapoint_of, item_of};
 
@@ -23,9 +24,9 @@ pub fn tell(wanted: &mut Bench, line: &Line)
                 let _ = wanted.datapoints.try_push(datapoint_of(line, k));
             }
         }
-        Kind::Parameters => wanted.parameters = line.bytes.clone().unwrap(),
-        Kind::Site => wanted.site = line.copy(),
-        Kind::Defaults => wanted.defaults = line.copy(),
+        Kind::Parameters => wanted.parameters = ArrayVec::try_from(line.listed()).unwrap(),
+        Kind::Site => wanted.site = *line,
+        Kind::Defaults => wanted.defaults = *line,
         _ => {}
     }
 }

@@ -7,7 +7,7 @@ use script::print::{frames, text};
 // What the last call sends; nothing where it was refused.
 fn sent(bench: &Bench) {
     if let Some(bytes) = bench.sent() {
-        frames("   server : ", bytes);
+        frames(b"   server : ", bytes);
     }
 }
 
@@ -15,7 +15,7 @@ fn sent(bench: &Bench) {
 pub fn shown(line: &Line, s: &[u8], bench: &Bench) {
     match Kind::of(line.letter) {
         Kind::Text => text(s),
-        Kind::Host => frames("   host   : ", &line.bytes),
+        Kind::Host => frames(b"   host   : ", line.listed()),
         Kind::Reply => sent(bench),
         _ => {}
     }

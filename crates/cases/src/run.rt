@@ -90,10 +90,10 @@ impl Stand {
     {
         match Kind::of(line.letter) {
             Kind::Start => self.start(wanted, line),
-            Kind::Host => self.hear(&line.bytes),
+            Kind::Host => self.hear(line.listed()),
             Kind::Mark => self.mark(),
             Kind::Value => {
-                self.bench.value = line.copy();
+                self.bench.value = *line;
                 self.quiet = true;
                 self.place = None;
             }
@@ -128,12 +128,12 @@ impl Stand {
             return false;
         }
         match Kind::of(line.letter) {
-            Kind::Reply => self.has_sent(&line.bytes),
+            Kind::Reply => self.has_sent(line.listed()),
             Kind::Damage => self.is_damaged(line.byte(0)),
-            Kind::Link => is_link(&self.bench.link, &line.bytes),
+            Kind::Link => is_link(&self.bench.link, line.listed()),
             Kind::Tables => same_tables(&self.bench, wanted),
             Kind::Reading => has_read(&self.bench, line),
-            Kind::Burst => has_found(&line.bytes),
+            Kind::Burst => has_found(line.listed()),
             _ => true,
         }
     }

@@ -1,26 +1,31 @@
 -- A line is read byte by byte, and a script line by line.
-use Rattle.std.proofs.Common.{◌≡◌, ℕ, zero, suc, min, ◌+◌, ◌-◌, ◌*◌, ◌/◌, ◌<◌, ◌≤◌, Bool, true, false, eqb, ltb, List, [], ◌∷◌, length, get_or, take, drop, set, refl, ◌∙◌, add-one, arith, ltb-false, ltb-true, eq-eqb, ne_eqb}
-use Rattle.std.proofs.Common.{◌++◌, length-append}
-use Rattle.script.specs.View.{in_places}
-use Rattle.script.proofs.PlaceLaws.{place_next}
+use Rattle.std.proofs.Common.{◌≡◌, ℕ, zero, suc, min, ◌+◌, ◌-◌, ◌*◌, ◌/◌, ◌<◌, ◌≤◌, Bool, true, false, eqb, ltb, List, [], ◌∷◌, length, get_or, take, drop, set, replicate, sym, refl, ap, ◌∙◌, add-one, arith, drop-drop, ltb-false, ltb-true, eq-eqb, ne_eqb}
+use Rattle.std.proofs.lemmas.List.{drop-set-lt}
 use Rattle.script.specs.Line.{line_end, onto, lines, byte_of, byte_count, written, read_line}
 
--- ---- the bytes of a line, one after the other
-pub record Reading (s xs : List ℕ) (k : ℕ) : Type 0 where
-  pub first : in_places 264 0 xs ≡ written s k
-  pub size : length xs ≡ k
+-- ---- the bytes of a line, one after the other: k of them stand, and behind them 0
+pub record Reading (s bytes : List ℕ) (k : ℕ) : Type 0 where
+  pub first : bytes ≡ written s k
+  pub behind : drop k bytes ≡ replicate (264 - k) 0
 
-pub reading_begins : (s : List ℕ) → Reading s [] 0
+pub reading_begins : (s : List ℕ) → Reading s (replicate 264 0) 0
 unfolding written
-reading_begins s = record { first = refl; size = refl }
+reading_begins s = record { first = refl; behind = refl }
 
-pub reading_goes : (s xs : List ℕ) (k b : ℕ) → b ≡ byte_of (get_or s (3 * k + 2) 0) (get_or s (3 * k + 3) 0) → k < 264 → Reading s xs k → Reading s (xs ++ b ∷ []) (k + 1)
+less_behind : (bytes : List ℕ) (k : ℕ) → k < 264 → drop k bytes ≡ replicate (264 - k) 0 → drop (k + 1) bytes ≡ replicate (264 - (k + 1)) 0
+less_behind bytes k l e =
+    let m : 264 - k ≡ suc (264 - (k + 1)) = omega arith in
+    sym (drop-drop 1 k bytes) ∙ ap (drop 1) (e ∙ ap (λ (n : ℕ). replicate n 0) m)
+
+pub reading_goes : (s bytes : List ℕ) (k b : ℕ) → b ≡ byte_of (get_or s (3 * k + 2) 0) (get_or s (3 * k + 3) 0) → k < 264 → Reading s bytes k → Reading s (set bytes k b) (k + 1)
 unfolding written
-reading_goes s xs k b e l r =
+reading_goes s bytes k b e l r =
     let low : 3 * k + 3 ≡ 3 * k + 2 + 1 = omega arith in
     let f : b ≡ byte_of (get_or s (3 * k + 2) 0) (get_or s (3 * k + 2 + 1) 0) = e ∙ (λ i. byte_of (get_or s (3 * k + 2) 0) (get_or s (low i) 0)) in
-    let z : set (in_places 264 0 xs) (length xs) b ≡ set (written s k) k b = λ i. set (r.first i) (r.size i) b in
-    record { first = place_next 264 0 xs b (omega (arith, r.size, l)) ∙ z ∙ rw (add-one, f) refl; size = simp length-append (omega (arith, r.size)) }
+    record {
+      first = rw (add-one, f, r.first) refl;
+      behind = drop-set-lt (k + 1) bytes k b (omega arith) ∙ less_behind bytes k l r.behind;
+    }
 
 count_is : (s : List ℕ) → min ((length s - 1) / 3) 264 ≡ byte_count s
 unfolding byte_count
@@ -30,11 +35,12 @@ count_is s = go (ltb ((length s - 1) / 3) 264) refl
     go true e = rw e (omega (arith, ltb-true ((length s - 1) / 3) 264 e))
     go false e = rw e (omega (arith, ltb-false ((length s - 1) / 3) 264 e))
 
-pub reading_ends : (s xs : List ℕ) (k n : ℕ) → n ≡ min ((length s - 1) / 3) 264 → n ≤ k → k ≤ n → Reading s xs k → record { letter = get_or s 0 0; bytes = in_places 264 0 xs; size = length xs } ≡ read_line s
+pub reading_ends : (s bytes : List ℕ) (k n : ℕ) → n ≡ min ((length s - 1) / 3) 264 → n ≤ k → k ≤ n → Reading s bytes k → record { letter = get_or s 0 0; bytes = bytes; size = n } ≡ read_line s
 unfolding read_line
-reading_ends s xs k n e l m r =
-    let g : k ≡ byte_count s = omega (arith, e, count_is s) in
-    rw (r.first, r.size, g) refl
+reading_ends s bytes k n e l m r =
+    let g : n ≡ byte_count s = e ∙ count_is s in
+    let h : k ≡ byte_count s = omega (arith, g) in
+    rw (r.first, h, g) refl
 
 pub count_fits : (s : List ℕ) → (read_line s).size ≤ 264
 unfolding read_line byte_count

@@ -8,4 +8,4 @@ abbrev pub in_places : {A : Type 0} → ℕ → A → List A → List A
 in_places n blank xs = xs ++ replicate (n - length xs) blank
 
 abbrev pub line_of : Held → Line
-line_of l = record { letter = l.letter; bytes = in_places 264 0 l.bytes.items; size = length l.bytes.items }
+line_of l = record { letter = l.letter; bytes = l.bytes; size = l.size }

@@ -1,15 +1,17 @@
 // A script is text, in lines. Each has its end, \n, in it. A line is text for the trace; or a small letter and the bytes
 // behind it, each a blank and two hexadecimal digits, as the papers have them.
-ghost use Rattle.std.specs.Prelude.{◌≡◌, ◌<◌, length};
+ghost use Rattle.std.specs.Prelude.{◌≡◌, ◌-◌, ◌<◌, ◌≤◌, length, drop, replicate};
 ghost use Rattle.script.specs.Line.{digit_of, line_end};
 
-use arrayvec::ArrayVec;
-
-// The bytes are up to 264.
-#[derive(Debug, Drop)]
+// The bytes stand in the first places, as many as the size says; behind them stands 0. They are an array with a size and
+// no ArrayVec, which is never Copy: a line is a plain value.
+#[derive(Clone, Copy, Debug)]
 pub struct Line {
     pub letter: u8,
-    pub bytes: ArrayVec<u8, 264>,
+    pub bytes: [u8; 264],
+    pub size: usize,
+    pub ghost fits: { size ≤ 264 },
+    pub ghost zero_behind: { drop size bytes ≡ replicate (264 - size) 0 },
 }
 
 // The value of a digit, 0 to 9 or A to F.
@@ -20,8 +22,8 @@ fn digit(d: u8) -> u8
 }
 
 impl Line {
-    ghost use Rattle.std.specs.Prelude.{◌+◌, ◌≤◌, slice_index, take, drop, replicate};
-    ghost use Rattle.script.specs.Line.{read_line};
+    ghost use Rattle.std.specs.Prelude.{◌+◌, slice_index, take};
+    ghost use Rattle.script.specs.Line.{listed, read_line};
     ghost use Rattle.script.specs.View.{line_of};
 
     // No letter, and no bytes.
@@ -30,7 +32,8 @@ impl Line {
     {
         Line {
             letter: 0,
-            bytes: ArrayVec::new(),
+            bytes: [0; 264],
+            size: 0,
         }
     }
 
@@ -39,15 +42,24 @@ impl Line {
         requires { 0 < length text.now }
         ensures { line_of result ≡ read_line text.now }
     {
-        let mut bytes = ArrayVec::new();
+        let size = ((text.len() - 1) / 3).min(264);
+        let mut bytes = [0; 264];
         // By place, as the definition `written` goes; `chunks_exact` is no plainer.
-        for k in 0..((text.len() - 1) / 3).min(264) {
-            bytes.push(digit(text[3 * k + 2]) * 16 + digit(text[3 * k + 3]));
+        for k in 0..size {
+            bytes[k] = digit(text[3 * k + 2]) * 16 + digit(text[3 * k + 3]);
         }
         Line {
             letter: text[0],
             bytes,
+            size,
         }
+    }
+
+    // The bytes.
+    pub fn listed(&self) -> &[u8]
+        ensures { result.now ≡ listed (line_of self.now) }
+    {
+        &self.bytes[..self.size]
     }
 
     // The byte at a place; 0 behind the last.
@@ -67,16 +79,6 @@ impl Line {
             *byte = self.byte(from + k);
         }
         bytes
-    }
-
-    // The same line once more.
-    pub fn copy(&self) -> Line
-        ensures { line_of result ≡ line_of self.now }
-    {
-        Line {
-            letter: self.letter,
-            bytes: self.bytes.clone().unwrap(),
-        }
     }
 }
 

@@ -42,18 +42,25 @@ impl fmt::Display for Hex<'_> {
     }
 }
 
+// Bytes, and the end of their last line.
+fn bytes(s: &[u8]) {
+    let _ = write!(Output, "{}\n", Hex(s));
+}
+
 // What is sent at once: nothing, a frame, or an acknowledgement and perhaps a frame behind it.
-pub fn frames(label: &str, sent: &[u8]) {
-    let _ = match sent {
-        [] => write!(Output, "{label}nothing\n"),
-        [0xE5] => write!(Output, "{label}E5\n            acknowledgement\n"),
-        [0xE5, frame @ ..] => write!(
-            Output,
-            "{label}E5\n            acknowledgement\n{label}{}\n",
-            Hex(frame)
-        ),
-        _ => write!(Output, "{label}{}\n", Hex(sent)),
-    };
+pub fn frames(label: &[u8], sent: &[u8]) {
+    text(label);
+    match sent {
+        [] => text(b"nothing\n"),
+        [0xE5, frame @ ..] => {
+            text(b"E5\n            acknowledgement\n");
+            if !frame.is_empty() {
+                text(label);
+                bytes(frame);
+            }
+        }
+        _ => bytes(sent),
+    }
 }
 
 // How many cases there are, and how many of them went as the papers say.

@@ -1,6 +1,8 @@
-use Rattle.std.proofs.Common.{◌≡◌, ℕ, length, get_or, sym, ap, ◌∙◌, arith}
+use Rattle.std.proofs.Common.{◌≡◌, ℕ, length, get_or, sym, ap, ◌∙◌, arith, rules}
 use Rattle.std.proofs.lemmas.Grind.{elements}
+use Rattle.script.specs.Line.{listed}
 use Rattle.script.specs.View.{in_places, line_of}
+use Rattle.script.proofs.PlaceLaws.{listed_length, listed_places}
 use Rattle.cases.specs.Bench.{with_parameters, with_site, with_defaults}
 use Rattle.cases.specs.Lent.{with_datapoint, filled}
 use Rattle.cases.specs.View.{bench_of}
@@ -34,16 +36,19 @@ returns-after-loop-k c =
 pub returns-in-Parameters : goal.returns-in-Parameters
 unfolding with_parameters
 returns-in-Parameters c =
-    let e : c.unwrap-wanted.result.items ≡ c.args.line.now.bytes.items = grind (arith, elements) in
-    (λ j. with_parameters (in_places 264 0 (e j)) (length (e j)) (bench_of c.args.wanted.now)) ∙ sym (told_parameters _ _ (says _ _ c.in-Parameters.ensures))
+    let l = c.args.line.now in
+    let w : length l.bytes ≡ 264 = search rules in
+    let e : c.unwrap-wanted.result.items ≡ listed (line_of l) = grind (arith, elements) in
+    (λ j. with_parameters (in_places 264 0 (e j)) (length (e j)) (bench_of c.args.wanted.now))
+    ∙ (λ j. with_parameters (listed_places l w j) (listed_length l w j) (bench_of c.args.wanted.now)) ∙ sym (told_parameters _ _ (says _ _ c.in-Parameters.ensures))
 
 pub returns-in-Site : goal.returns-in-Site
 unfolding with_site
-returns-in-Site c = (λ j. with_site (c.copy-wanted.ensures j) (bench_of c.args.wanted.now)) ∙ sym (told_site _ _ (says _ _ c.in-Site.ensures))
+returns-in-Site c = sym (told_site _ _ (says _ _ c.in-Site.ensures))
 
 pub returns-in-Defaults : goal.returns-in-Defaults
 unfolding with_defaults
-returns-in-Defaults c = (λ j. with_defaults (c.copy-wanted-in-Defaults.ensures j) (bench_of c.args.wanted.now)) ∙ sym (told_defaults _ _ (says _ _ c.in-Defaults.ensures))
+returns-in-Defaults c = sym (told_defaults _ _ (says _ _ c.in-Defaults.ensures))
 
 pub returns-in_default : goal.returns-in_default
 returns-in_default c = sym (told_nothing _ _ (λ e. c.in_default.not-Empty (c.of.ensures ∙ ap kind_of e)) (λ e. c.in_default.not-Item (c.of.ensures ∙ ap kind_of e)) (λ e. c.in_default.not-Datapoints (c.of.ensures ∙ ap kind_of e)) (λ e. c.in_default.not-Parameters (c.of.ensures ∙ ap kind_of e)) (λ e. c.in_default.not-Site (c.of.ensures ∙ ap kind_of e)) (λ e. c.in_default.not-Defaults (c.of.ensures ∙ ap kind_of e)))

@@ -1,10 +1,5 @@
-use Rattle.std.proofs.Common.{◌≡◌, true, sym, ap, ◌∙◌}
-use Rattle.script.specs.Line.{listed}
-use Rattle.script.specs.View.{line_of}
-use Rattle.script.proofs.PlaceLaws.{take_places}
+use Rattle.std.proofs.Common.{sym, ap, ◌∙◌}
 use Rattle.cases.specs.Bench.{with_value}
-use Rattle.cases.specs.Script.{standing}
-use Rattle.cases.specs.View.{bench_of}
 use Rattle.cases.specs.Kind.{kind_of}
 use Rattle.cases.proofs.KindLaws.{says}
 use Rattle.cases.proofs.ScriptLaws.{starts, host_sends, silence, value_lent, event_comes, nothing_happens}
@@ -14,16 +9,14 @@ pub returns-in-Start : goal.returns-in-Start
 returns-in-Start c = c.start.ensures ∙ sym (starts _ _ _ (says _ _ c.in-Start.ensures))
 
 pub returns-in-Host : goal.returns-in-Host
-returns-in-Host c =
-    let x : c.deref.result.now ≡ listed (line_of c.args.line.now) = c.deref.ensures.0 ∙ sym (take_places 264 0 _) in
-    (rw x at c.hear.ensures) ∙ sym (host_sends _ _ _ (says _ _ c.in-Host.ensures))
+returns-in-Host c = (rw c.listed.ensures at c.hear.ensures) ∙ sym (host_sends _ _ _ (says _ _ c.in-Host.ensures))
 
 pub returns-in-Mark : goal.returns-in-Mark
 returns-in-Mark c = c.mark.ensures ∙ sym (silence _ _ _ (says _ _ c.in-Mark.ensures))
 
 pub returns-in-Value : goal.returns-in-Value
 unfolding with_value
-returns-in-Value c = (λ j. standing (with_value (c.copy-self.ensures j) (bench_of c.args.self.now.bench)) true 1000) ∙ sym (value_lent _ _ _ (says _ _ c.in-Value.ensures))
+returns-in-Value c = sym (value_lent _ _ _ (says _ _ c.in-Value.ensures))
 
 pub returns-in-Event : goal.returns-in-Event
 returns-in-Event c = c.number.ensures ∙ sym (event_comes _ _ _ (says _ _ c.in-Event.ensures))

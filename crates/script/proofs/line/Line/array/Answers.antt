@@ -1,4 +1,4 @@
-use Rattle.std.proofs.Common.{◌<◌, ◌≢◌, length, arith, length-set, get_or-set_other, get_or-set_same, below_more}
+use Rattle.std.proofs.Common.{◌≡◌, ◌<◌, ◌≢◌, length, arith, rules, length-set, get_or-set_other, get_or-set_same, below_more}
 use Rattle.script.proofs.PlaceLaws.{part_is}
 use Rattle.script.proofs.line.Line.array.Goals as goal
 
@@ -11,4 +11,6 @@ loop-k-preserved g c = (
 )
 
 pub returns : goal.returns
-returns g c = part_is c.args.self.now.bytes.items _ _ c.requires _ c.loop-k.invariant.0 (λ k h. c.loop-k.invariant.1 k (omega arith))
+returns g c =
+    let e : length c.args.self.now.bytes ≡ 264 = search rules in
+    part_is c.args.self.now.bytes _ _ (omega (arith, e, c.requires)) _ c.loop-k.invariant.0 (λ k h. c.loop-k.invariant.1 k (omega arith))
